@@ -1,0 +1,36 @@
+-- A test's two ways, each in the direction of a need: the result is the choice.
+use Prim.Native.Nat.{ℕ, _≤_, _<_}
+use mathlib.Core.Path.{_≡_, refl, sym, ap, subst, _∙_}
+use mathlib.Core.Bool.{Bool, true, false}
+use lib.Dec.{T}
+use borrow.Author.Tests.{le-ltb, lt-ltb, le-leb, lt-leb, eq-eqb, ne-eqb}
+use Rattle.wire.specs.Tests.{pick, ifEq, ifLt, ifLe}
+
+pub eq-yea : {A : Type 0} (m n : ℕ) (a b r : A) → m ≡ n → r ≡ a → r ≡ ifEq m n a b
+unfolding ifEq
+eq-yea m n a b r h g = rw (eq-eqb m n h) g
+
+pub eq-nay : {A : Type 0} (m n : ℕ) (a b r : A) → (m ≡ n → ⊥) → r ≡ b → r ≡ ifEq m n a b
+unfolding ifEq
+eq-nay m n a b r h g = rw (ne-eqb m n h) g
+
+pub lt-yea : {A : Type 0} (m n : ℕ) (a b r : A) → m < n → r ≡ a → r ≡ ifLt m n a b
+unfolding ifLt
+lt-yea m n a b r h g = rw (lt-ltb m n h) g
+
+pub lt-nay : {A : Type 0} (m n : ℕ) (a b r : A) → n ≤ m → r ≡ b → r ≡ ifLt m n a b
+unfolding ifLt
+lt-nay m n a b r h g = rw (le-ltb m n h) g
+
+pub le-yea : {A : Type 0} (m n : ℕ) (a b r : A) → m ≤ n → r ≡ a → r ≡ ifLe m n a b
+unfolding ifLe
+le-yea m n a b r h g = rw (le-leb m n h) g
+
+pub le-nay : {A : Type 0} (m n : ℕ) (a b r : A) → n < m → r ≡ b → r ≡ ifLe m n a b
+unfolding ifLe
+le-nay m n a b r h g = rw (lt-leb m n h) g
+
+-- two tests that both hold
+pub both : (s t : Bool) → pick s t false ≡ true → (s ≡ true) × (t ≡ true)
+both true t e = (refl, e)
+both false t e = absurd (subst T (sym e) tt)

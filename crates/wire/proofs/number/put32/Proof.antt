@@ -1,0 +1,13 @@
+use borrow.Author.Needs.{needs}
+use Rattle.wire.proofs.Writing.{put32-is}
+use native.Mathlib.Omega.{arith}
+use Rattle.wire.proofs.number.put32.Statement.{statement}
+use Rattle.wire.proofs.number.put32.Tie as tie
+
+pub put32-spec : {M : Type 1} → statement M
+put32-spec = tie.close (tie.spec
+    (λ c κs. search needs)
+    (λ c. search needs)
+    (λ c κs. search needs)
+    (λ c. search needs)
+    (λ c. put32-is _ _ _ (c .before .before .before .before .before .before .put16 .ensures) (c .before .before .put162 .ensures) (omega arith)))

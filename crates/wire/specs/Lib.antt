@@ -1,0 +1,7 @@
+pub mod Tests
+pub mod Numbers
+pub mod Sums
+pub mod Writing
+pub mod Text
+pub mod Codes
+pub mod Same

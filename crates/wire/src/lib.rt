@@ -1,0 +1,5 @@
+// Bytes and big-endian numbers in lent parts: nothing here knows of files.
+pub mod codes;
+pub mod compare;
+pub mod number;
+pub mod pen;
