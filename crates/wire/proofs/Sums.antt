@@ -1,13 +1,13 @@
--- Laws of sums. Assumes nothing.
+-- Laws of sums and of claims. Assumes nothing.
 use Prim.Native.Nat.{ℕ, zero, suc, _+_, _*_, _≤_, _<_}
 use native.Mathlib.Omega.{arith}
-use native.Mathlib.Nat.{add-mul, mul-le-mul-left}
+use native.Mathlib.Nat.{add-mul, mul-le-mul-left, eq-or-lt-of-le, le-of-suc-le-suc}
 use native.Mathlib.Numerals.{add-one}
 use mathlib.Core.Path.{_≡_, refl, sym, ap, _∙_}
 use mathlib.Core.Bool.{Bool, true, false}
-use lib.Dec.{leb}
-use borrow.Author.Tests.{leb-true, leb-false}
-use Rattle.wire.specs.Sums.{sumTo}
+use mathlib.Core.Logic.{⊎-elim}
+use Rattle.wire.specs.Sums.{sumTo, allTo}
+use Rattle.wire.proofs.Tests.{both}
 
 pub sum-none : (f : ℕ → ℕ) → sumTo f 0 ≡ 0
 unfolding sumTo
@@ -27,11 +27,7 @@ sum-same f g (suc n) h = rw (sum-same f g n (λ i k. h i (omega arith)), h n (om
 pub sum-mono : (f : ℕ → ℕ) (m n : ℕ) → m ≤ n → sumTo f m ≤ sumTo f n
 unfolding sumTo
 sum-mono f m zero h = let e : m ≡ 0 = omega arith in rw e (omega arith)
-sum-mono f m (suc n) h = go (leb m n) refl (sum-mono f m n)
-  where
-    go : (t : Bool) → leb m n ≡ t → (m ≤ n → sumTo f m ≤ sumTo f n) → sumTo f m ≤ sumTo f (suc n)
-    go true e ih = omega (arith, ih (leb-true m n e))
-    go false e ih = let q : m ≡ suc n = omega (arith, leb-false m n e) in rw q (omega arith)
+sum-mono f m (suc n) h = ⊎-elim (λ e. rw e (omega arith)) (λ l. omega (arith, sum-mono f m n (le-of-suc-le-suc l))) (eq-or-lt-of-le h)
 
 -- terms that are each at most k times those of g
 pub sum-scaled : (f g : ℕ → ℕ) (k n : ℕ) → ((i : ℕ) → g i ≤ k) → sumTo (λ i. f i * g i) n ≤ sumTo f n * k
@@ -40,3 +36,35 @@ sum-scaled f g k zero h = omega arith
 sum-scaled f g k (suc n) h =
     let m : f n * g n ≤ f n * k = mul-le-mul-left (f n) (h n) in
     rw (add-mul (sumTo f n) (f n) k) (omega (arith, sum-scaled f g k n h))
+
+-- ---- claims
+
+pub all-none : (p : ℕ → Bool) → allTo p 0 ≡ true
+unfolding allTo
+all-none p = refl
+
+pub all-more : (p : ℕ → Bool) (n : ℕ) → allTo p n ≡ true → p n ≡ true → allTo p (n + 1) ≡ true
+unfolding allTo
+all-more p n h e = rw (add-one, h, e)
+
+-- all, from each
+pub all-of : (p : ℕ → Bool) (n : ℕ) → ((i : ℕ) → i < n → p i ≡ true) → allTo p n ≡ true
+unfolding allTo
+all-of p zero h = refl
+all-of p (suc n) h = rw (all-of p n (λ i k. h i (omega arith)), h n (omega arith))
+
+-- each, from all
+pub all-at : (p : ℕ → Bool) (n : ℕ) → allTo p n ≡ true → (i : ℕ) → i < n → p i ≡ true
+unfolding allTo
+all-at p zero h i k = absurd (omega arith)
+all-at p (suc n) h i k =
+    let b = both (allTo p n) (p n) h in
+    ⊎-elim (λ e. rw e (b .1)) (λ l. all-at p n (b .0) i l) (eq-or-lt-of-le (le-of-suc-le-suc k))
+
+-- one that fails makes the whole fail
+pub all-fails : (p : ℕ → Bool) (n i : ℕ) → i < n → p i ≡ false → allTo p n ≡ false
+all-fails p n i k e = go (allTo p n) refl
+  where
+    go : (t : Bool) → allTo p n ≡ t → t ≡ false
+    go true h = sym (all-at p n h i k) ∙ e
+    go false h = refl
