@@ -1,0 +1,5 @@
+pub mod Whole
+pub mod Reading
+pub mod Walking
+pub mod Seeking
+pub mod Wording

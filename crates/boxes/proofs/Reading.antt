@@ -1,0 +1,135 @@
+-- The boxes of a part, with no fuel in sight: a part is its boxes, written, and then what is past them. Assumes nothing.
+use Prim.Native.Nat.{ℕ, zero, suc, _+_, _-_, _<_, _≤_}
+use native.Mathlib.Omega.{arith}
+use mathlib.Core.Path.{_≡_, refl, sym, ap, subst, _∙_}
+use mathlib.Core.Bool.{Bool, true, false}
+use mathlib.Core.List.{List, [], _∷_, _++_, append-assoc}
+use lib.ListN.{length, take, drop, length-append, length-drop}
+use lib.Seq.{drop-drop}
+use Rattle.wire.specs.Tests.{pick}
+use Rattle.wire.specs.Numbers.{Bytes}
+use Rattle.wire.proofs.Numbers.{bytes-drop, bytes-take, word-fits}
+use Rattle.boxes.specs.Box.{Box, size, header, write}
+use Rattle.boxes.specs.Boxes.{HEAD, sizeOf, whole, front, boxesBy, boxes, total, after}
+use Rattle.boxes.proofs.Whole.{whole-true, short-not, length-header, size-front, rebox, Good, size-box, front-box, rest-box, whole-box}
+
+-- ---- the bytes of boxes
+
+pub write-cons : (x : Box) (l : List Box) (r : List ℕ) → write (x ∷ l) ++ r ≡ header x ++ (x .body ++ (write l ++ r))
+unfolding write
+write-cons x l r = rw (append-assoc, append-assoc)
+
+pub length-cons : (x : Box) (l : List Box) → length (write (x ∷ l)) ≡ 8 + (length (x .body) + length (write l))
+unfolding write
+length-cons x l = rw (length-append, length-header, length-append)
+
+pub write-append : (l m : List Box) → write (l ++ m) ≡ write l ++ write m
+unfolding write
+write-append [] m = refl
+write-append (x ∷ l) m = rw (write-append l m) (sym (append-assoc (header x) (x .body ++ write l) (write m) ∙ ap (λ (t : List ℕ). header x ++ t) (append-assoc (x .body) (write l) (write m))))
+
+-- ---- one box more, and none
+
+by-stop : (n : ℕ) (xs : List ℕ) → whole xs ≡ false → boxesBy n xs ≡ []
+by-stop zero xs e = refl
+by-stop (suc n) xs e = rw e
+
+enough : (n m : ℕ) (xs : List ℕ) → length xs ≤ n → length xs ≤ m → boxesBy n xs ≡ boxesBy m xs
+enough zero m xs h k = sym (by-stop m xs (short-not xs (omega arith)))
+enough (suc n) zero xs h k = by-stop (suc n) xs (short-not xs (omega arith))
+enough (suc n) (suc m) xs h k = go (whole xs) refl (enough n m (drop (sizeOf xs) xs))
+  where
+    go : (t : Bool) → whole xs ≡ t → (length (drop (sizeOf xs) xs) ≤ n → length (drop (sizeOf xs) xs) ≤ m → boxesBy n (drop (sizeOf xs) xs) ≡ boxesBy m (drop (sizeOf xs) xs))
+        → pick t (front xs ∷ boxesBy n (drop (sizeOf xs) xs)) [] ≡ pick t (front xs ∷ boxesBy m (drop (sizeOf xs) xs)) []
+    go true e ih = let w = whole-true xs e in ap (λ (l : List Box). front xs ∷ l) (ih (rw length-drop (omega arith)) (rw length-drop (omega arith)))
+    go false e ih = refl
+
+pub boxes-stop : (xs : List ℕ) → whole xs ≡ false → boxes xs ≡ []
+unfolding boxes
+boxes-stop xs e = by-stop (length xs) xs e
+
+pub boxes-next : (xs : List ℕ) → whole xs ≡ true → boxes xs ≡ front xs ∷ boxes (drop (sizeOf xs) xs)
+unfolding boxes
+boxes-next [] e = absurd (omega (arith, whole-true [] e))
+boxes-next (x ∷ xs) e =
+    let w = whole-true (x ∷ xs) e in
+    rw (e, enough (length xs) (length (drop (sizeOf (x ∷ xs)) (x ∷ xs))) (drop (sizeOf (x ∷ xs)) (x ∷ xs)) (rw length-drop (omega arith)) (omega arith))
+
+pub after-stop : (xs : List ℕ) → whole xs ≡ false → after xs ≡ xs
+unfolding after total
+after-stop xs e = rw (boxes-stop xs e)
+
+pub after-next : (xs : List ℕ) → whole xs ≡ true → after xs ≡ after (drop (sizeOf xs) xs)
+unfolding after total
+after-next xs e = rw (boxes-next xs e, size-front xs e) (sym (drop-drop (total (boxes (drop (sizeOf xs) xs))) (sizeOf xs) xs))
+
+-- ---- a property of every box
+
+pub data All (P : Box → Type 0) : List Box → Type 0 where
+  none : All P []
+  some : {x : Box} {l : List Box} → P x → All P l → All P (x ∷ l)
+
+-- ---- of a part of bytes
+
+front-good : (xs : List ℕ) → Bytes xs → Good (front xs)
+front-good xs h = record { head = refl; code = word-fits 4 xs 4 h; bytes = bytes-take (sizeOf xs - HEAD) (drop HEAD xs) (bytes-drop HEAD xs h) }
+
+pub record Parts (xs : List ℕ) : Type 0 where
+  pub good : All Good (boxes xs)
+  pub again : write (boxes xs) ++ after xs ≡ xs
+  pub rest : whole (after xs) ≡ false
+
+parts-none : (xs : List ℕ) → whole xs ≡ false → Parts xs
+unfolding write
+parts-none xs e = record { good = rw (boxes-stop xs e) none; again = rw (boxes-stop xs e) (after-stop xs e); rest = rw (after-stop xs e) e }
+
+parts-more : (xs : List ℕ) → Bytes xs → whole xs ≡ true → Parts (drop (sizeOf xs) xs) → Parts xs
+parts-more xs h e p =
+    record {
+      good = rw (boxes-next xs e) (some (front-good xs h) (p .good));
+      again = rw (boxes-next xs e, after-next xs e) (write-cons (front xs) (boxes (drop (sizeOf xs) xs)) (after (drop (sizeOf xs) xs)) ∙ rw (p .again) (rebox xs h e));
+      rest = rw (after-next xs e) (p .rest);
+    }
+
+parts-by : (n : ℕ) (xs : List ℕ) → Bytes xs → length xs ≤ n → Parts xs
+parts-by zero xs h l = parts-none xs (short-not xs (omega arith))
+parts-by (suc n) xs h l = go (whole xs) refl (parts-by n (drop (sizeOf xs) xs) (bytes-drop (sizeOf xs) xs h))
+  where
+    go : (t : Bool) → whole xs ≡ t → (length (drop (sizeOf xs) xs) ≤ n → Parts (drop (sizeOf xs) xs)) → Parts xs
+    go true e ih = let w = whole-true xs e in parts-more xs h e (ih (rw length-drop (omega arith)))
+    go false e ih = parts-none xs e
+
+pub parts : (xs : List ℕ) → Bytes xs → Parts xs
+parts xs h = parts-by (length xs) xs h (omega arith)
+
+-- a part is its boxes, written, and what is past them
+pub write-boxes : (xs : List ℕ) → Bytes xs → write (boxes xs) ++ after xs ≡ xs
+write-boxes xs h = parts xs h .again
+
+pub bytes-after : (xs : List ℕ) → Bytes xs → Bytes (after xs)
+unfolding after
+bytes-after xs h = bytes-drop (total (boxes xs)) xs h
+
+-- ---- of boxes that were written
+
+module _ (x : Box) (r : List ℕ) (g : Good x) (s : size x < 4294967296) where
+  pub boxes-box : boxes (header x ++ (x .body ++ r)) ≡ x ∷ boxes r
+  boxes-box = boxes-next _ (whole-box x r g s) ∙ rw (front-box x r g s, size-box x r g s, rest-box x r g s)
+
+  pub after-box : after (header x ++ (x .body ++ r)) ≡ after r
+  after-box = after-next _ (whole-box x r g s) ∙ rw (size-box x r g s, rest-box x r g s)
+
+module _ (r : List ℕ) (e : whole r ≡ false) where
+  pub boxes-write : {l : List Box} → All Good l → length (write l) < 4294967296 → boxes (write l ++ r) ≡ l
+  unfolding write
+  boxes-write none s = boxes-stop r e
+  boxes-write (some {x} {l} g a) s =
+      let n = length-cons x l in
+      rw (write-cons x l r) (boxes-box x (write l ++ r) g (omega (arith, g .head)) ∙ ap (λ (m : List Box). x ∷ m) (boxes-write a (omega arith)))
+
+  pub after-write : {l : List Box} → All Good l → length (write l) < 4294967296 → after (write l ++ r) ≡ r
+  unfolding write
+  after-write none s = after-stop r e
+  after-write (some {x} {l} g a) s =
+      let n = length-cons x l in
+      rw (write-cons x l r) (after-box x (write l ++ r) g (omega (arith, g .head)) ∙ after-write a (omega arith))

@@ -1,0 +1,9 @@
+pub mod Box
+pub mod Boxes
+pub mod Walk
+pub mod Seek
+pub mod Containers
+pub mod Rewrite
+pub mod Way
+pub mod Words
+pub mod Kin

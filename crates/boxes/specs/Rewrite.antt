@@ -1,0 +1,30 @@
+-- Rewriting the bodies of boxes. Sizes follow, and what stands past the last whole box stays.
+use Prim.Native.Nat.{ℕ, zero, suc}
+use mathlib.Core.List.{List, [], _∷_, _++_, map}
+use Rattle.wire.specs.Tests.{ifEq}
+use Rattle.boxes.specs.Box.{Box, write, remade}
+use Rattle.boxes.specs.Boxes.{boxes, after}
+use Rattle.boxes.specs.Containers.{kindIn}
+
+-- what a box's code and body make its body
+abbrev pub Bodies : Type 0
+Bodies = ℕ → List ℕ → List ℕ
+
+-- and what an opaque box's container, code and body make its body
+abbrev pub Leaves : Type 0
+Leaves = ℕ → ℕ → List ℕ → List ℕ
+
+abbrev pub over : Bodies → Box → Box
+over f x = remade x (f (x .code) (x .body))
+
+unfoldable pub overBoxes : Bodies → List ℕ → List ℕ
+overBoxes f xs = write (map (over f) (boxes xs)) ++ after xs
+
+-- a box in a container of kind k: an opaque one by g, a container by go
+unfoldable pub editBox : Leaves → Bodies → ℕ → Bodies
+editBox g go k c b = ifEq (kindIn k c) 0 (g k c b) (go (kindIn k c) b)
+
+-- every opaque box by g, as deep as d containers
+unfoldable pub editIn : Leaves → ℕ → Bodies
+editIn g zero k xs = xs
+editIn g (suc d) k xs = overBoxes (editBox g (λ j ys. editIn g d j ys) k) xs

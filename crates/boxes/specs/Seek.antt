@@ -1,0 +1,69 @@
+-- Counting and finding boxes by their code.
+use Prim.Native.Nat.{ℕ, zero, suc, _+_, _-_, _≤_}
+use mathlib.Core.Path.{_≡_}
+use mathlib.Core.List.{List, [], _∷_, _++_}
+use lib.ListN.{length, take, drop}
+use Rattle.wire.specs.Tests.{ifEq}
+use Rattle.boxes.specs.declared.walk.BoxAt.{BoxAt}
+use Rattle.boxes.specs.declared.seek.Tiling.{Tiling}
+use Rattle.boxes.specs.declared.seek.Tiling.the-variants.{Whole, Torn}
+use Rattle.boxes.specs.declared.seek.Seen.{Seen}
+use Rattle.boxes.specs.declared.seek.Seen.the-variants.{At, Missing}
+use Rattle.boxes.specs.Box.{Box, write}
+use Rattle.boxes.specs.Boxes.{boxes, after}
+use Rattle.boxes.specs.Walk.{boxAt}
+
+-- boxes tile the part, or the tiling is torn where the bytes past the last box start
+unfoldable pub tilingOf : List ℕ → Tiling
+tilingOf xs = ifEq (length (after xs)) 0 Whole (Torn (length xs - length (after xs)))
+
+-- any box is meant by the number 0, which is no code of the format
+abbrev pub ANY : ℕ
+ANY = 0
+
+-- 1 where c means a box of code d, else 0
+unfoldable pub meant : ℕ → ℕ → ℕ
+meant c d = ifEq c ANY 1 (ifEq d c 1 0)
+
+unfoldable pub count : ℕ → List Box → ℕ
+count c [] = 0
+count c (x ∷ l) = meant c (x .code) + count c l
+
+abbrev pub byNumber : {A : Type 0} → ℕ → A → (ℕ → A) → A
+byNumber zero a f = a
+byNumber (suc n) a f = f n
+
+-- the payload of the n-th box that c means, from 0, and nothing where there is none
+unfoldable pub nth : ℕ → ℕ → List Box → List ℕ
+nth c n [] = []
+nth c n (x ∷ l) = ifEq (meant c (x .code)) 0 (nth c n l) (byNumber n (x .body) (λ m. nth c m l))
+
+-- the payload of the first
+abbrev pub find : ℕ → List Box → List ℕ
+find c l = nth c 0 l
+
+-- b is the n-th box that c means: the boxes before it, and those after it
+pub record Cut (xs : List ℕ) (c n : ℕ) (b : BoxAt) : Type 0 where
+  pub p : List Box
+  pub q : List Box
+  pub list : boxes xs ≡ p ++ boxAt xs b ∷ q
+  pub nth : count c p ≡ n
+  pub hit : meant c (b .code) ≡ 1
+  pub before : take (b .at) xs ≡ write p
+  pub past : drop (b .at + b .size) xs ≡ write q ++ after xs
+  pub least : b .head ≤ b .size
+  pub inside : b .at + b .size ≤ length xs
+
+abbrev pub SeenAs : List ℕ → ℕ → ℕ → Seen → Type 0
+SeenAs xs c n (At b) = Cut xs c n b
+SeenAs xs c n Missing = count c (boxes xs) ≤ n
+
+-- the boxes before place at are p, and c means `seen` of them
+pub record Passed (xs : List ℕ) (c seen at : ℕ) : Type 0 where
+  pub p : List Box
+  pub list : boxes xs ≡ p ++ boxes (drop at xs)
+  pub hits : count c p ≡ seen
+  pub bytes : take at xs ≡ write p
+  pub rest : after xs ≡ after (drop at xs)
+  pub few : seen ≤ at
+  pub inside : at ≤ length xs

@@ -1,0 +1,50 @@
+-- The walk over the boxes of a part, by places.
+use Prim.Native.Nat.{ℕ, _+_, _-_, _≤_, _<_}
+use mathlib.Core.Path.{_≡_}
+use mathlib.Core.List.{List, [], _∷_}
+use lib.ListN.{length, take, drop}
+use Rattle.wire.specs.Tests.{ifLt, ifLe}
+use Rattle.wire.specs.Numbers.{word}
+use Rattle.boxes.specs.declared.walk.Walk.{Walk}
+use Rattle.boxes.specs.declared.walk.BoxAt.{BoxAt}
+use Rattle.boxes.specs.declared.walk.Step.{Step}
+use Rattle.boxes.specs.declared.walk.Step.the-variants.{Found, End, Broken}
+use Rattle.boxes.specs.Box.{Box}
+use Rattle.boxes.specs.Boxes.{HEAD, boxes, after}
+
+-- rule 2 at one place: nothing left; a rest too short for a header; a size that is too small, or ends past the part; a box
+unfoldable pub stepAt : List ℕ → ℕ → Step
+stepAt xs at =
+    ifLe (length xs) at End
+    (ifLt (length xs - at) HEAD (Broken at)
+    (ifLt (word 4 xs at) HEAD (Broken at)
+    (ifLt (length xs - at) (word 4 xs at) (Broken at)
+    (Found (record { at = at; head = HEAD; size = word 4 xs at; code = word 4 xs (at + 4) }) (record { at = at + word 4 xs at })))))
+
+-- the payload of a box that was found, and the box
+abbrev pub payload : List ℕ → BoxAt → List ℕ
+payload xs b = take (b .at + b .size - (b .at + b .head)) (drop (b .at + b .head) xs)
+
+abbrev pub boxAt : List ℕ → BoxAt → Box
+boxAt xs b = record { head = b .head; code = b .code; body = payload xs b }
+
+-- a box was found at place at: it lies inside, and it is the first of the boxes from there on
+pub record Ran (xs : List ℕ) (at : ℕ) (b : BoxAt) (w : Walk) : Type 0 where
+  pub start : b .at ≡ at
+  pub eight : b .head ≡ HEAD
+  pub least : b .head ≤ b .size
+  pub inside : at + b .size ≤ length xs
+  pub next : w .at ≡ at + b .size
+  pub list : boxes (drop at xs) ≡ boxAt xs b ∷ boxes (drop (w .at) xs)
+  pub rest : after (drop at xs) ≡ after (drop (w .at) xs)
+
+-- no box was found there: all that is left stands past the last one
+pub record Over (xs : List ℕ) (at : ℕ) : Type 0 where
+  pub list : boxes (drop at xs) ≡ []
+  pub rest : after (drop at xs) ≡ drop at xs
+
+-- what a step's answer says of the boxes
+abbrev pub Stepped : List ℕ → ℕ → Step → Type 0
+Stepped xs at (Found b w) = Ran xs at b w
+Stepped xs at End = Over xs at × (length xs ≤ at)
+Stepped xs at (Broken p) = Over xs at × (p ≡ at) × (at < length xs)
