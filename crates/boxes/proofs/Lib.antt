@@ -3,3 +3,7 @@ pub mod Reading
 pub mod Walking
 pub mod Seeking
 pub mod Wording
+pub mod Rewriting
+pub mod Editing
+pub mod Kin
+pub mod InPlace

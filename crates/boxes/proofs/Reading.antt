@@ -63,6 +63,27 @@ pub after-next : (xs : List ℕ) → whole xs ≡ true → after xs ≡ after (d
 unfolding after total
 after-next xs e = rw (boxes-next xs e, size-front xs e) (sym (drop-drop (total (boxes (drop (sizeOf xs) xs))) (sizeOf xs) xs))
 
+-- ---- lengths, whatever the part holds
+
+lengths-none : (xs : List ℕ) → whole xs ≡ false → length (write (boxes xs)) + length (after xs) ≡ length xs
+unfolding write
+lengths-none xs e = rw (boxes-stop xs e, after-stop xs e) (omega arith)
+
+lengths-by : (n : ℕ) (xs : List ℕ) → length xs ≤ n → length (write (boxes xs)) + length (after xs) ≡ length xs
+lengths-by zero xs l = lengths-none xs (short-not xs (omega arith))
+lengths-by (suc n) xs l = go (whole xs) refl (lengths-by n (drop (sizeOf xs) xs))
+  where
+    go : (t : Bool) → whole xs ≡ t → (length (drop (sizeOf xs) xs) ≤ n → length (write (boxes (drop (sizeOf xs) xs))) + length (after (drop (sizeOf xs) xs)) ≡ length (drop (sizeOf xs) xs))
+        → length (write (boxes xs)) + length (after xs) ≡ length xs
+    go true e ih =
+        let w = whole-true xs e in
+        let d = length-drop (sizeOf xs) xs in
+        rw (boxes-next xs e, after-next xs e) (omega (arith, length-cons (front xs) (boxes (drop (sizeOf xs) xs)), size-front xs e, ih (omega arith)))
+    go false e ih = lengths-none xs e
+
+pub lengths : (xs : List ℕ) → length (write (boxes xs)) + length (after xs) ≡ length xs
+lengths xs = lengths-by (length xs) xs (omega arith)
+
 -- ---- a property of every box
 
 pub data All (P : Box → Type 0) : List Box → Type 0 where
@@ -71,22 +92,25 @@ pub data All (P : Box → Type 0) : List Box → Type 0 where
 
 -- ---- of a part of bytes
 
-front-good : (xs : List ℕ) → Bytes xs → Good (front xs)
-front-good xs h = record { head = refl; code = word-fits 4 xs 4 h; bytes = bytes-take (sizeOf xs - HEAD) (drop HEAD xs) (bytes-drop HEAD xs h) }
+-- a box's body holds bytes
+abbrev pub Filled : Box → Type 0
+Filled x = Bytes (x .body)
 
 pub record Parts (xs : List ℕ) : Type 0 where
   pub good : All Good (boxes xs)
+  pub filled : All Filled (boxes xs)
   pub again : write (boxes xs) ++ after xs ≡ xs
   pub rest : whole (after xs) ≡ false
 
 parts-none : (xs : List ℕ) → whole xs ≡ false → Parts xs
 unfolding write
-parts-none xs e = record { good = rw (boxes-stop xs e) none; again = rw (boxes-stop xs e) (after-stop xs e); rest = rw (after-stop xs e) e }
+parts-none xs e = record { good = rw (boxes-stop xs e) none; filled = rw (boxes-stop xs e) none; again = rw (boxes-stop xs e) (after-stop xs e); rest = rw (after-stop xs e) e }
 
 parts-more : (xs : List ℕ) → Bytes xs → whole xs ≡ true → Parts (drop (sizeOf xs) xs) → Parts xs
 parts-more xs h e p =
     record {
-      good = rw (boxes-next xs e) (some (front-good xs h) (p .good));
+      good = rw (boxes-next xs e) (some (record { head = refl; code = word-fits 4 xs 4 h }) (p .good));
+      filled = rw (boxes-next xs e) (some (bytes-take (sizeOf xs - HEAD) (drop HEAD xs) (bytes-drop HEAD xs h)) (p .filled));
       again = rw (boxes-next xs e, after-next xs e) (write-cons (front xs) (boxes (drop (sizeOf xs) xs)) (after (drop (sizeOf xs) xs)) ∙ rw (p .again) (rebox xs h e));
       rest = rw (after-next xs e) (p .rest);
     }

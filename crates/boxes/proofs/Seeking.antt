@@ -54,6 +54,13 @@ pub meant-no : (c d : ℕ) → (c ≡ ANY → ⊥) → (d ≡ c → ⊥) → 0 �
 unfolding meant
 meant-no c d h e = eq-nay _ _ _ _ _ h (eq-nay _ _ _ _ _ e refl)
 
+pub meant-is : (c d : ℕ) → (c ≡ ANY → ⊥) → meant c d ≡ 1 → d ≡ c
+meant-is c d h e = go (eqb d c) refl
+  where
+    go : (t : Bool) → eqb d c ≡ t → d ≡ c
+    go true q = eqb-true d c q
+    go false q = absurd (omega (arith, meant-no c d h (eqb-false d c q)))
+
 pub meant-most : (c d : ℕ) → meant c d ≤ 1
 unfolding meant ifEq
 meant-most c d = go (eqb c ANY) (eqb d c)

@@ -65,11 +65,10 @@ rebox xs h e =
 
 -- ---- of a box that was written
 
--- a box as a part of bytes can hold it
+-- a box whose header can be written
 pub record Good (x : Box) : Type 0 where
   pub head : x .head ≡ HEAD
   pub code : x .code < 4294967296
-  pub bytes : Bytes (x .body)
 
 module _ (x : Box) (r : List ℕ) (g : Good x) (s : size x < 4294967296) where
   pub size-box : sizeOf (header x ++ (x .body ++ r)) ≡ size x

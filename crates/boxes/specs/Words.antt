@@ -17,13 +17,13 @@ eachWord f (a ∷ b ∷ []) = a ∷ b ∷ []
 eachWord f (a ∷ b ∷ c ∷ []) = a ∷ b ∷ c ∷ []
 eachWord f (a ∷ b ∷ c ∷ d ∷ xs) = bytes 4 (f (word 4 (a ∷ b ∷ c ∷ d ∷ []) 0)) ++ eachWord f xs
 
--- those from place `from` up to place `to`
+-- those in the `span` bytes from place `from` on
 unfoldable pub reword : (ℕ → ℕ) → ℕ → ℕ → List ℕ → List ℕ
-reword f from to b = take from b ++ (eachWord f (take (to - from) (drop from b)) ++ drop to b)
+reword f from span b = take from b ++ (eachWord f (take span (drop from b)) ++ drop (from + span) b)
 
 -- in the boxes of one code in one kind of container
 unfoldable pub rewordLeaf : Target → (ℕ → ℕ) → Leaves
-rewordLeaf t f k c b = ifEq k (t .kind) (ifEq c (t .code) (reword f (t .from) (t .to) b) b) b
+rewordLeaf t f k c b = ifEq k (t .kind) (ifEq c (t .code) (reword f (t .from) (t .span) b) b) b
 
 -- how a number moves: below the limit up by `low`, from it on up by `high` and down by `less`
 unfoldable pub moved : By → ℕ → ℕ
@@ -33,3 +33,9 @@ moved by o = ifLt o (by .limit) (o + by .low) (o + by .high - by .less)
 pub record Small (by : By) : Type 0 where
   pub low : by .low < 2 ^ 32
   pub high : by .high < 2 ^ 32
+
+-- the numbers of a table that was xs₀ are rewritten before place at
+pub record Worded (f : ℕ → ℕ) (xs₀ xs : List ℕ) (at : ℕ) : Type 0 where
+  pub inside : at ≤ length xs
+  pub same : length xs ≡ length xs₀
+  pub left : eachWord f xs₀ ≡ take at xs ++ eachWord f (drop at xs)

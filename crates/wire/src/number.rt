@@ -1,7 +1,7 @@
 // Big-endian numbers, read from a part and put into one.
 ghost use mathlib.Core.Path.{_≡_};
 ghost use mathlib.Core.List.{[], _∷_};
-ghost use Prim.Native.Nat.{_+_, _^_, _≤_, _<_};
+ghost use Prim.Native.Nat.{_+_, _^_, _≤_, _<_, min};
 ghost use lib.ListN.{length, getD};
 ghost use Rattle.wire.specs.Numbers.{bytes, word};
 ghost use Rattle.wire.specs.Writing.{put};
@@ -10,6 +10,13 @@ fn wide(x: u8) -> usize
     ensures { λ r. ⌜ (r ≡ x) × (r < 256) ⌝ }
 {
     x as usize
+}
+
+// The smaller of two numbers.
+pub fn least(m: usize, n: usize) -> usize
+    ensures { λ r. ⌜ r ≡ min m n ⌝ }
+{
+    if m < n { m } else { n }
 }
 
 // The byte at a place, and 0 past the end.
