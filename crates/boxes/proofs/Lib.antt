@@ -7,3 +7,5 @@ pub mod Rewriting
 pub mod Editing
 pub mod Kin
 pub mod InPlace
+pub mod Turning
+pub mod Putting

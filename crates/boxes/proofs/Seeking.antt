@@ -126,6 +126,7 @@ module _ {xs : List ℕ} {c seen at : ℕ} (i : Passed xs c seen at) where
           hit = omega (arith, e, meant-most c (b .code));
           before = rw (s .start) (i .bytes);
           past = rw (s .start, ← s .next, i .rest, s .rest) (sym (write-boxes (drop (w .at) xs) (bytes-drop (w .at) xs v)));
+          eight = s .eight;
           least = s .least;
           inside = rw (s .start) (s .inside);
         }

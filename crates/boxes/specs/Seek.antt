@@ -10,7 +10,7 @@ use Rattle.boxes.specs.declared.seek.Tiling.the-variants.{Whole, Torn}
 use Rattle.boxes.specs.declared.seek.Seen.{Seen}
 use Rattle.boxes.specs.declared.seek.Seen.the-variants.{At, Missing}
 use Rattle.boxes.specs.Box.{Box, write}
-use Rattle.boxes.specs.Boxes.{boxes, after}
+use Rattle.boxes.specs.Boxes.{HEAD, boxes, after}
 use Rattle.boxes.specs.Walk.{boxAt}
 
 -- boxes tile the part, or the tiling is torn where the bytes past the last box start
@@ -51,6 +51,7 @@ pub record Cut (xs : List ℕ) (c n : ℕ) (b : BoxAt) : Type 0 where
   pub hit : meant c (b .code) ≡ 1
   pub before : take (b .at) xs ≡ write p
   pub past : drop (b .at + b .size) xs ≡ write q ++ after xs
+  pub eight : b .head ≡ HEAD
   pub least : b .head ≤ b .size
   pub inside : b .at + b .size ≤ length xs
 

@@ -6,7 +6,7 @@ use native.Mathlib.Numerals.{add-one}
 use mathlib.Core.Path.{_≡_, refl, sym, ap, _∙_}
 use mathlib.Core.List.{List, [], _∷_, _++_, append-assoc, append-nil}
 use lib.ListN.{length, getD, take, drop, set, length-append, length-take, length-drop, length-set, take-append-drop}
-use lib.Seq.{take-at, drop-at, drop-drop, length-take-le, take-all, take-suc, set-split, sets-eq, append-snoc}
+use lib.Seq.{take-append-le, take-take, take-at, drop-at, drop-drop, length-take-le, take-all, take-suc, set-split, sets-eq, append-snoc}
 use Rattle.wire.specs.Numbers.{bytes}
 use Rattle.wire.specs.Writing.{put, Wrote, Put}
 use Rattle.wire.proofs.Numbers.{length-bytes, bytes16-is, bytes32-is}
@@ -43,6 +43,15 @@ put-put out at xs ys h =
     let d : drop (at + length xs + length ys) (put out at xs) ≡ drop (at + length xs + length ys) out =
     sym (drop-drop (length ys) (at + length xs) (put out at xs)) ∙ rw (drop-put out at xs (omega arith)) (drop-drop (length ys) (at + length xs) out) in
     open-put (put out at xs) (at + length xs) ys ∙ rw (take-put out at xs (omega arith), d, append-assoc, ← append-assoc xs) (sym (open-put out at (xs ++ ys) ∙ rw (length-append, add-assoc)))
+
+-- one part right before another
+pub put-before : (out : List ℕ) (at : ℕ) (xs ys : List ℕ) → at + length xs + length ys ≤ length out → put (put out (at + length xs) ys) at xs ≡ put out at (xs ++ ys)
+unfolding put
+put-before out at xs ys h =
+    let l : length (take (at + length xs) out) ≡ at + length xs = length-take-le (at + length xs) out (omega arith) in
+    let t : take at (take (at + length xs) out ++ (ys ++ drop (at + length xs + length ys) out)) ≡ take at out = take-append-le at (take (at + length xs) out) (ys ++ drop (at + length xs + length ys) out) (omega arith) ∙ take-take at (at + length xs) out (omega arith) in
+    let d : drop (at + length xs) (take (at + length xs) out ++ (ys ++ drop (at + length xs + length ys) out)) ≡ ys ++ drop (at + length xs + length ys) out = drop-at (take (at + length xs) out) _ (at + length xs) l in
+    rw (t, d, length-append, ← add-assoc) (simp append-assoc)
 
 -- a buffer's place filled byte by byte
 pub put-pair : (out : List ℕ) (at a b : ℕ) → at + 2 ≤ length out → set (set out at a) (at + 1) b ≡ put out at (a ∷ b ∷ [])

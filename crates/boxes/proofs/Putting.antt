@@ -1,0 +1,76 @@
+-- What the writers of a way cite: each text is made of those that its callees put. Assumes nothing.
+use Prim.Native.Nat.{ℕ, _+_, _-_, _≤_, _<_, min}
+use native.Mathlib.Omega.{arith}
+use mathlib.Core.Path.{_≡_, refl, sym, ap, _∙_}
+use mathlib.Core.List.{List, _++_}
+use lib.ListN.{length, getD, take, drop, length-append, length-take, length-drop}
+use lib.Seq.{length-take-le}
+use borrow.Rule.Slice.PartMut.{midOf}
+use Rattle.wire.specs.Numbers.{bytes}
+use Rattle.wire.specs.Writing.{put, Put}
+use Rattle.wire.proofs.Lists.{tail-is, take-min, drop-min}
+use Rattle.wire.proofs.Numbers.{length-bytes}
+use Rattle.wire.proofs.Writing.{length-put, put-put, pen-then, pen-is}
+use Rattle.boxes.specs.declared.walk.BoxAt.{BoxAt}
+use Rattle.boxes.specs.declared.way.Turn.{Turn}
+use Rattle.boxes.specs.Boxes.{HEAD}
+use Rattle.boxes.specs.Walk.{payload}
+use Rattle.boxes.specs.Way.{overNth, editWay, tailBy, boxBy, around, Under}
+use Rattle.boxes.proofs.Turning.{length-boxBy, way-more}
+
+-- the first n elements of a part that has them are n
+pub take-size : {A : Type 0} (n : ℕ) (xs : List A) → n ≤ length xs → n ≡ length (take n xs)
+take-size n xs h = sym (length-take-le n xs h)
+
+-- a part of a part goes no further than all of it
+pub next-take : (n : ℕ) (xs : List ℕ) {out after : List ℕ} {at r : ℕ} → Put (take n xs) out at r after → r ≤ at + length xs
+next-take n xs p = omega (arith, p .next, length-take n xs)
+
+-- ---- a header
+
+pub under-put : (n c : ℕ) (out : List ℕ) (at : ℕ) {r : ℕ} {mid after : List ℕ} → mid ≡ put out at (bytes 4 n) → after ≡ put mid (at + 4) (bytes 4 c) → at + 8 ≤ r → r ≤ length out → Under n c out at r after
+under-put n c out at {mid = mid} {after = after} p q h l =
+    let a = length-bytes 4 n in
+    let b = length-bytes 4 c in
+    let e : after ≡ put out at (bytes 4 n ++ bytes 4 c) = q ∙ rw p (rw a at (put-put out at (bytes 4 n) (bytes 4 c) (omega arith))) in
+    record { same = ap length e ∙ length-put out at (bytes 4 n ++ bytes 4 c) (rw (length-append, a, b) (omega arith)); is = λ k. e }
+
+pub under-past : (n c : ℕ) (out : List ℕ) (at : ℕ) {r : ℕ} → length out < r → Under n c out at r out
+under-past n c out at h = record { same = refl; is = λ k. absurd (omega arith) }
+
+-- ---- the end of a way
+
+pub tail-put : (n : ℕ) (new xs : List ℕ) {m at j r : ℕ} {out mid after : List ℕ} → m ≡ min n (length xs) → Put (take m xs) out at j mid → Put new mid j r after → Put (tailBy n new xs) out at r after
+tail-put n new xs e p q = pen-then (pen-is (ap (λ (k : ℕ). take k xs) e ∙ take-min n xs) p) q
+
+-- ---- one box and what is around it
+
+module _ (xs : List ℕ) (b : BoxAt) (e : b .head ≡ HEAD) (l : b .head ≤ b .size) (h : b .at + b .size ≤ length xs) {at j : ℕ} {out o₁ : List ℕ} (p : Put (take (b .at) xs) out at j o₁) where
+  start : j ≡ at + b .at
+  start = p .next ∙ ap (λ (n : ℕ). at + n) (length-take-le (b .at) xs (omega arith))
+
+  module _ (ys : List ℕ) (q : ys ≡ payload xs b) where
+    long : length ys ≡ b .size - b .head
+    long = ap length q ∙ rw (length-take, length-drop) (omega arith)
+
+    pub around-room : j + 8 + length ys ≤ at + length xs
+    around-room = omega (arith, long, start)
+
+    pub around-end : (zs : List ℕ) (m c : ℕ) {k : ℕ} {o₂ : List ℕ} → length zs ≤ length ys + m → Put (boxBy c zs) o₁ j k o₂ → k + length (midOf (b .at + b .size) (length xs - (b .at + b .size)) xs) ≤ at + length xs + m
+    around-end zs m c w s = rw (tail-is xs (b .at + b .size) h, length-drop) (omega (arith, long, start, s .next, length-boxBy c zs))
+
+pub around-put : (xs : List ℕ) (b : BoxAt) (ys : List ℕ) {at j k r : ℕ} {out o₁ o₂ after : List ℕ}
+    → Put (take (b .at) xs) out at j o₁ → Put (boxBy (b .code) ys) o₁ j k o₂ → Put (midOf (b .at + b .size) (length xs - (b .at + b .size)) xs) o₂ k r after → b .at + b .size ≤ length xs → Put (around xs b ys) out at r after
+unfolding around
+around-put xs b ys p q s h = pen-then p (pen-then q (pen-is (tail-is xs (b .at + b .size) h) s))
+
+-- ---- one turn
+
+pub turn-room : (m : ℕ) (xs : List ℕ) {out mid : List ℕ} {at j : ℕ} → m ≤ length xs → Put (take m xs) out at j mid → j + length (midOf m (length xs - m) xs) ≡ at + length xs
+turn-room m xs h p = rw (tail-is xs m h, length-drop) (omega (arith, p .next, length-take m xs))
+
+pub way-put : (way : List Turn) (i : ℕ) (h : List ℕ → List ℕ) (xs : List ℕ) (t : Turn) {m at j r : ℕ} {out mid after : List ℕ}
+    → i < length way → t ≡ getD way i (record { skip = 0; code = 0; nth = 0 }) → m ≡ min (t .skip) (length xs) → Put (take m xs) out at j mid → Put (overNth (t .code) (t .nth) (editWay (drop (i + 1) way) h) (midOf m (length xs - m) xs)) mid j r after → Put (editWay (drop i way) h xs) out at r after
+way-put way i h xs t {m} l e q p s =
+    pen-is (way-more way i h xs t l e)
+    (pen-then (pen-is (ap (λ (k : ℕ). take k xs) q ∙ take-min (t .skip) xs) p) (pen-is (ap (overNth (t .code) (t .nth) (editWay (drop (i + 1) way) h)) (tail-is xs m (omega arith) ∙ ap (λ (k : ℕ). drop k xs) q ∙ drop-min (t .skip) xs)) s))
