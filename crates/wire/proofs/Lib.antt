@@ -4,3 +4,4 @@ pub mod Numbers
 pub mod Sums
 pub mod Writing
 pub mod Same
+pub mod Clauses

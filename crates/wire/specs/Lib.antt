@@ -5,3 +5,4 @@ pub mod Writing
 pub mod Text
 pub mod Codes
 pub mod Same
+pub mod Clauses

@@ -1,0 +1,70 @@
+-- Laws of the walk by chunk. Assumes nothing.
+use Prim.Native.Nat.{ℕ, zero, suc, _+_, _*_, _≤_, _<_}
+use native.Mathlib.Omega.{arith}
+use native.Mathlib.Numerals.{add-one}
+use native.Mathlib.Nat.{add-mul}
+use mathlib.Core.Path.{_≡_, sym, ap, _∙_}
+use mathlib.Core.List.{List}
+use Rattle.wire.specs.Numbers.{Bytes}
+use Rattle.wire.specs.Sums.{sumTo}
+use Rattle.wire.proofs.Sums.{sum-none, sum-more, sum-mono}
+use Rattle.tables.specs.Tables.{count}
+use Rattle.tables.specs.Runs.{runOf, Rising}
+use Rattle.tables.specs.Chunks.{samplesIn, firstSample, walkStart, walkAt, Walkable}
+use Rattle.tables.specs.declared.chunk.ChunkWalk.{ChunkWalk}
+use Rattle.tables.proofs.Tables.{word-most}
+use Rattle.tables.proofs.LastRun.{run-first, run-inside}
+
+-- ---- the first sample of a chunk
+
+-- terms that are each at most k
+sum-at-most : (f : ℕ → ℕ) (k n : ℕ) → ((i : ℕ) → f i ≤ k) → sumTo f n ≤ n * k
+sum-at-most f k zero h = omega (arith, sum-none f)
+sum-at-most f k (suc n) h = rw (← add-one n, sum-more f n, add-mul n 1 k) (omega (arith, h n, sum-at-most f k n h))
+
+module _ (stsc : List ℕ) where
+  pub first-none : 0 ≡ firstSample stsc 0
+  unfolding firstSample
+  first-none = sym (sum-none (samplesIn stsc))
+
+  pub first-more : (k : ℕ) → firstSample stsc (k + 1) ≡ firstSample stsc k + samplesIn stsc k
+  unfolding firstSample
+  first-more k = sum-more (samplesIn stsc) k
+
+  pub first-mono : (k n : ℕ) → k ≤ n → firstSample stsc k ≤ firstSample stsc n
+  unfolding firstSample
+  first-mono k n h = sum-mono (samplesIn stsc) k n h
+
+  pub first-fits : Bytes stsc → (k : ℕ) → firstSample stsc k ≤ k * 4294967295
+  unfolding firstSample samplesIn
+  first-fits b k = sum-at-most (samplesIn stsc) 4294967295 k (λ i. word-most _ _ b)
+
+  -- ---- the walk
+
+  pub walk-start : Rising stsc → walkStart ≡ walkAt stsc 0
+  unfolding walkAt
+  walk-start rs = rw (← first-none, ← run-first stsc rs)
+
+  -- a walk knows its chunk
+  module _ (w : ChunkWalk) (k : ℕ) (e : w ≡ walkAt stsc k) where
+    pub walk-chunk : w .chunk ≡ k
+    unfolding walkAt
+    walk-chunk = ap (λ (v : ChunkWalk). v .chunk) e
+
+    pub walk-run : w .run ≡ runOf stsc k
+    unfolding walkAt
+    walk-run = ap (λ (v : ChunkWalk). v .run) e
+
+    pub walk-sample : w .sample ≡ firstSample stsc k
+    unfolding walkAt
+    walk-sample = ap (λ (v : ChunkWalk). v .sample) e
+
+    pub walk-is : w ≡ walkAt stsc (w .chunk)
+    walk-is = e ∙ ap (walkAt stsc) (sym walk-chunk)
+
+    pub walk-room : Bytes stsc → w .sample ≤ k * 4294967295
+    walk-room b = omega (arith, walk-sample, first-fits b k)
+
+    -- before a chunk it stands on a run
+    pub walk-inside : (stco : List ℕ) → Walkable stsc stco → k < count stco → w .run < count stsc
+    walk-inside stco a h = run-inside stsc (a .rising) (a .some (omega arith)) k (w .run) walk-run

@@ -1,0 +1,26 @@
+-- `stts`: each item is a count of samples and the ticks that each of them lasts.
+use Prim.Native.Nat.{ℕ, _*_}
+use mathlib.Core.List.{List}
+use Rattle.wire.specs.Sums.{sumTo}
+use Rattle.tables.specs.Tables.{count, field}
+
+abbrev pub counted : List ℕ → ℕ → ℕ
+counted stts i = field 8 0 stts i
+
+abbrev pub delta : List ℕ → ℕ → ℕ
+delta stts i = field 8 4 stts i
+
+-- the samples and the ticks of the first n items
+unfoldable pub timedTo : List ℕ → ℕ → ℕ
+timedTo stts n = sumTo (counted stts) n
+
+unfoldable pub ticksTo : List ℕ → ℕ → ℕ
+ticksTo stts n = sumTo (λ i. counted stts i * delta stts i) n
+
+-- the samples that it counts
+abbrev pub timed : List ℕ → ℕ
+timed stts = timedTo stts (count stts)
+
+-- a track's length: "sum of stts count times delta"
+abbrev pub mediaTicks : List ℕ → ℕ
+mediaTicks stts = ticksTo stts (count stts)
