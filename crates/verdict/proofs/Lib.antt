@@ -1,0 +1,4 @@
+pub mod Places
+pub mod Acceptance
+pub mod Keeping
+pub mod Traverse

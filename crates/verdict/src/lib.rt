@@ -1,0 +1,22 @@
+// The verdict of a rule.
+ghost use mathlib.Core.Path.{_≡_};
+ghost use Rattle.verdict.specs.Verdict.{sooner as soonerOf};
+
+// A rule holds, or it is broken at a place.
+pub enum Verdict {
+    Fine,
+    Bad(usize),
+}
+
+// Of two verdicts the one with the lower place.
+pub fn sooner(u: Verdict, v: Verdict) -> Verdict
+    ensures { λ r. ⌜ r ≡ soonerOf u v ⌝ }
+{
+    match u {
+        Verdict::Fine => v,
+        Verdict::Bad(p) => match v {
+            Verdict::Fine => u,
+            Verdict::Bad(q) => Verdict::Bad(wire::number::least(p, q)),
+        },
+    }
+}
