@@ -9,3 +9,4 @@ pub mod Kin
 pub mod InPlace
 pub mod Turning
 pub mod Putting
+pub mod Placing

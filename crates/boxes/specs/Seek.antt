@@ -9,7 +9,7 @@ use Rattle.boxes.specs.declared.seek.Tiling.{Tiling}
 use Rattle.boxes.specs.declared.seek.Tiling.the-variants.{Whole, Torn}
 use Rattle.boxes.specs.declared.seek.Seen.{Seen}
 use Rattle.boxes.specs.declared.seek.Seen.the-variants.{At, Missing}
-use Rattle.boxes.specs.Box.{Box, write}
+use Rattle.boxes.specs.Box.{Box, size, write}
 use Rattle.boxes.specs.Boxes.{HEAD, boxes, after}
 use Rattle.boxes.specs.Walk.{boxAt}
 
@@ -41,6 +41,18 @@ nth c n (x ∷ l) = ifEq (meant c (x .code)) 0 (nth c n l) (byNumber n (x .body)
 -- the payload of the first
 abbrev pub find : ℕ → List Box → List ℕ
 find c l = nth c 0 l
+
+-- how far into the part the n-th box that c means starts, and f of it further; past all boxes where there is none
+unfoldable pub placeBy : (Box → ℕ) → ℕ → ℕ → List Box → ℕ
+placeBy f c n [] = 0
+placeBy f c n (x ∷ l) = ifEq (meant c (x .code)) 0 (size x + placeBy f c n l) (byNumber n (f x) (λ m. size x + placeBy f c m l))
+
+-- where it starts, and where its payload does
+unfoldable pub placeIn : ℕ → ℕ → List Box → ℕ
+placeIn c n l = placeBy (λ x. 0) c n l
+
+unfoldable pub startIn : ℕ → ℕ → List Box → ℕ
+startIn c n l = placeBy (λ x. x .head) c n l
 
 -- b is the n-th box that c means: the boxes before it, and those after it
 pub record Cut (xs : List ℕ) (c n : ℕ) (b : BoxAt) : Type 0 where

@@ -7,8 +7,8 @@ ghost use mathlib.Core.Path.{_≡_};
 ghost use mathlib.Core.List.{[]};
 ghost use Prim.Native.Nat.{_+_, _^_, _≤_, _<_};
 ghost use lib.ListN.{length};
-ghost use Rattle.boxes.specs.Boxes.{boxes};
-ghost use Rattle.boxes.specs.Seek.{tilingOf, meant as meantBy, count as countOf, nth as nthIn, SeenAs};
+ghost use Rattle.boxes.specs.Boxes.{boxes, total};
+ghost use Rattle.boxes.specs.Seek.{tilingOf, meant as meantBy, count as countOf, nth as nthIn, placeIn, startIn, SeenAs};
 
 // Any box is meant by this number.
 pub const ANY: usize = 0;
@@ -100,6 +100,36 @@ pub fn nth(part: &[u8], c: usize, n: usize) -> Seen
                 return Seen::Missing;
             }
         }
+    }
+}
+
+// Where the whole boxes of a part end.
+fn past(part: &[u8]) -> usize
+    ensures { λ r. ⌜ r ≡ total (boxes (now (part .entry))) ⌝ }
+{
+    match ends(part) {
+        Tiling::Whole => part.len(),
+        Tiling::Torn(p) => p,
+    }
+}
+
+// How far into the part the n-th box that has a code starts, and past all boxes where there is none.
+pub fn place(part: &[u8], c: usize, n: usize) -> usize
+    ensures { λ r. ⌜ (r ≡ placeIn c n (boxes (now (part .entry)))) × (r ≤ length (now (part .entry))) ⌝ }
+{
+    match nth(part, c, n) {
+        Seen::At(b) => b.at,
+        Seen::Missing => past(part),
+    }
+}
+
+// How far into the part its payload starts.
+pub fn start(part: &[u8], c: usize, n: usize) -> usize
+    ensures { λ r. ⌜ (r ≡ startIn c n (boxes (now (part .entry)))) × (r ≤ length (now (part .entry))) ⌝ }
+{
+    match nth(part, c, n) {
+        Seen::At(b) => b.at + b.head,
+        Seen::Missing => past(part),
     }
 }
 
