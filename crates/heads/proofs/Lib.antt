@@ -1,0 +1,3 @@
+pub mod Boxed
+pub mod Fresh
+pub mod Rule4
