@@ -1,12 +1,10 @@
 -- Rule 4: acceptance without places, and what keeps it. Assumes nothing.
 use Prim.Native.Nat.{ℕ, zero, suc}
 use native.Mathlib.Omega.{arith}
-use mathlib.Core.Path.{_≡_, refl, ap, subst, _∙_}
+use mathlib.Core.Path.{_≡_, refl, ap, _∙_}
 use mathlib.Core.Bool.{Bool, true, false}
 use mathlib.Core.List.{List}
-use lib.Dec.{eqb}
-use borrow.Author.Tests.{eqb-true}
-use Rattle.wire.specs.Tests.{pick, ifEq}
+use Rattle.wire.specs.Tests.{ifEq}
 use Rattle.wire.specs.Numbers.{word}
 use Rattle.wire.specs.Codes.{MOOV, TRAK, TKHD}
 use Rattle.wire.proofs.Sums.{all-of, all-at}
@@ -19,7 +17,7 @@ use Rattle.verdict.specs.declared.Verdict.{Verdict}
 use Rattle.verdict.specs.declared.Verdict.the-variants.{Fine, Bad}
 use Rattle.verdict.specs.Verdict.{isFine}
 use Rattle.verdict.specs.Rule.{allIn, Says}
-use Rattle.verdict.proofs.Keeping.{keep}
+use Rattle.verdict.proofs.Keeping.{keep, kept-at}
 use Rattle.verdict.proofs.Places.{unless-fine, through}
 use Rattle.heads.specs.Forms.{form}
 use Rattle.heads.specs.Identities.{identity, fresh, freshTo, different}
@@ -55,12 +53,8 @@ module _ (G : Leaf) (forms : (k c : ℕ) (b b′ : List ℕ) → kindIn k c ≡ 
       (all-of _ _ (λ i h. all-of _ _ (λ j g. rw (← identity-kept d xs ys a j, ← identity-kept d xs ys a i) (all-at _ _ (all-at _ _ q i h) j g))))
 
   tracks-kept : (d k : ℕ) (xs ys : List ℕ) → Kin G (suc d) k xs ys → tracksFine k xs ≡ true → tracksFine k ys ≡ true
-  unfolding tracksFine ifEq
-  tracks-kept d k xs ys a q = go (eqb k MOOV) refl q
-    where
-      go : (t : Bool) → eqb k MOOV ≡ t → pick t (different (boxes xs)) true ≡ true → pick t (different (boxes ys)) true ≡ true
-      go true e q = different-kept d xs ys (subst (λ (j : ℕ). Kin G (suc d) j xs ys) (eqb-true k MOOV e) a) q
-      go false e q = refl
+  unfolding tracksFine
+  tracks-kept d k xs ys = kept-at G MOOV (λ zs. different (boxes zs)) (λ zs. different (boxes zs)) d k xs ys (different-kept d xs ys)
 
   pub kin-4 : (d k : ℕ) (xs ys : List ℕ) → Kin G d k xs ys → allIn fourRule d k xs ≡ true → allIn fourRule d k ys ≡ true
   kin-4 = keep fourRule fourRule G forms tracks-kept (λ xs q. q)

@@ -1,6 +1,6 @@
 -- What an edit keeps: where leaves, containers and ends keep a rule, the whole keeps it. Assumes nothing.
 use Prim.Native.Nat.{ℕ, zero, suc}
-use mathlib.Core.Path.{_≡_, refl, sym, ap, _∙_}
+use mathlib.Core.Path.{_≡_, refl, sym, ap, subst, _∙_}
 use mathlib.Core.Bool.{Bool, true, false}
 use mathlib.Core.List.{List, [], _∷_}
 use lib.Dec.{eqb}
@@ -42,3 +42,13 @@ module _ (r s : Rule) (G : Leaf)
   keep (suc d) k xs ys (a, e) q =
       let t = both (r .node k xs) _ q in
       rw (node d k xs ys (a, e) (t .0)) (all2-all _ _ _ _ (box-keep d k (λ j us vs. keep d j us vs)) (λ h. ap (s .end) (sym e) ∙ end (after xs) h) a (t .1))
+
+-- a rule of one kind of container
+pub kept-at : (G : Leaf) (K : ℕ) (f g : List ℕ → Bool) (d k : ℕ) (xs ys : List ℕ) → (Kin G (suc d) K xs ys → f xs ≡ true → g ys ≡ true)
+    → Kin G (suc d) k xs ys → ifEq k K (f xs) true ≡ true → ifEq k K (g ys) true ≡ true
+unfolding ifEq
+kept-at G K f g d k xs ys h a = go (eqb k K) refl
+  where
+    go : (t : Bool) → eqb k K ≡ t → pick t (f xs) true ≡ true → pick t (g ys) true ≡ true
+    go true e q = h (subst (λ (j : ℕ). Kin G (suc d) j xs ys) (eqb-true k K e) a) q
+    go false e q = refl
