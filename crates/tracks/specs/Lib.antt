@@ -1,2 +1,3 @@
 pub mod Six
 pub mod Seven
+pub mod Eight

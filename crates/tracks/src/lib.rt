@@ -1,15 +1,20 @@
-// Rules 6 and 7: the sample tables of a track. Each answer is 1 or 0.
+// Rules 6 to 8: the sample tables of a track. Each answer is 1 or 0.
 use boxes::seek;
+use media::rule as media_rule;
 use tables::rule;
 use tables::size;
 use tables::table;
+use verdict::Verdict;
 use wire::codes;
 use wire::number;
 ghost use mathlib.Core.Path.{_≡_};
+ghost use Prim.Native.Nat.{_+_, _^_, _<_};
+ghost use lib.ListN.{length};
 ghost use Rattle.wire.specs.Clauses.{oneIf};
 ghost use Rattle.boxes.specs.Boxes.{boxes};
 ghost use Rattle.tracks.specs.Six.{tableOf, tableIn, sixHolds};
 ghost use Rattle.tracks.specs.Seven.{sevenHolds, sevenIn};
+ghost use Rattle.tracks.specs.Eight.{eightHolds, eightAt};
 
 // Whether a table has its length.
 fn table_of(c: usize, body: &[u8]) -> usize
@@ -83,4 +88,36 @@ pub fn seven_in(k: usize, part: &[u8]) -> usize
         return seven_holds(part);
     }
     1
+}
+
+// Whether the chunks of an `stbl` lie in the file's payloads, where its tables agree.
+fn eight_holds(file: &[u8], stbl: &[u8]) -> usize
+    ensures { λ r. ⌜ r ≡ oneIf (eightHolds (boxes (now (file .entry))) (boxes (now (stbl .entry)))) ⌝ }
+{
+    if six_holds(stbl) == 0 {
+        return 1;
+    }
+    if seven_holds(stbl) == 0 {
+        return 1;
+    }
+    media_rule::eight(
+        file,
+        seek::payload(stbl, codes::STSC, 0),
+        seek::payload(stbl, codes::STSZ, 0),
+        seek::payload(stbl, codes::STCO, 0),
+    )
+}
+
+// Rule 8 of a container of kind k whose payload starts at base.
+pub fn eight_at(file: &[u8], k: usize, part: &[u8], base: usize) -> Verdict
+    requires { ⌜ base + length (now part) < 2 ^ 62 ⌝ }
+    ensures { λ r. ⌜ r ≡ eightAt (boxes (now (file .entry))) k (now (part .entry)) base ⌝ }
+{
+    if k == codes::STBL {
+        if eight_holds(file, part) == 0 {
+            return Verdict::Bad(base + seek::place(part, codes::STCO, 0));
+        }
+        return Verdict::Fine;
+    }
+    Verdict::Fine
 }

@@ -1,0 +1,4 @@
+pub mod Payloads
+pub mod Relocate
+pub mod Rules
+pub mod Samples
