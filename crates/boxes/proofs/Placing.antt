@@ -16,7 +16,7 @@ use Rattle.boxes.specs.declared.seek.Tiling.the-variants.{Whole, Torn}
 use Rattle.boxes.specs.Box.{Box, size, write}
 use Rattle.boxes.specs.Boxes.{HEAD, boxes, total, after}
 use Rattle.boxes.specs.Walk.{boxAt}
-use Rattle.boxes.specs.Seek.{tilingOf, meant, count, byNumber, placeBy, placeIn, startIn, Cut}
+use Rattle.boxes.specs.Seek.{tilingOf, meant, count, byNumber, nth, placeBy, placeIn, startIn, Cut}
 use Rattle.boxes.proofs.Whole.{Good}
 use Rattle.boxes.proofs.Reading.{All, parts, lengths, length-cons}
 use Rattle.boxes.proofs.Reading.All.{none, some}
@@ -38,6 +38,20 @@ good-front [] q a = none
 good-front (x ∷ p) q (some g a) = some g (good-front p q a)
 
 -- ---- the n-th box
+
+-- what is found in a part is no longer than it
+nth-short : (c n : ℕ) (l : List Box) → length (nth c n l) ≤ length (write l)
+unfolding nth ifEq
+nth-short c n [] = omega arith
+nth-short c n (x ∷ l) = go (eqb (meant c (x .code)) 0) n (λ m. nth-short c m l)
+  where
+    go : (t : Bool) (n : ℕ) → ((m : ℕ) → length (nth c m l) ≤ length (write l)) → length (pick t (nth c n l) (byNumber n (x .body) (λ m. nth c m l))) ≤ length (write (x ∷ l))
+    go true n ih = omega (arith, ih n, length-cons x l)
+    go false zero ih = omega (arith, length-cons x l)
+    go false (suc n) ih = omega (arith, ih n, length-cons x l)
+
+pub found-short : (c n : ℕ) (xs : List ℕ) {ys : List ℕ} → ys ≡ nth c n (boxes xs) → length ys ≤ length xs
+found-short c n xs e = rw e (omega (arith, nth-short c n (boxes xs), lengths xs))
 
 module _ (f : Box → ℕ) (c : ℕ) where
   by-at : (n : ℕ) (p : List Box) (x : Box) (q : List Box) → count c p ≡ n → meant c (x .code) ≡ 1 → placeBy f c n (p ++ x ∷ q) ≡ total p + f x

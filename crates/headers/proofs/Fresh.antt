@@ -4,39 +4,22 @@ use native.Mathlib.Omega.{arith}
 use native.Mathlib.Numerals.{add-one}
 use mathlib.Core.Path.{_≡_, refl, sym, ap, _∙_}
 use mathlib.Core.Bool.{Bool, true, false, not}
-use mathlib.Core.List.{List, [], _∷_}
-use lib.Dec.{eqb}
-use lib.ListN.{length}
-use Rattle.wire.specs.Tests.{pick, ifEq}
+use mathlib.Core.List.{List}
+use Rattle.wire.specs.Tests.{pick}
 use Rattle.wire.specs.Numbers.{word}
 use Rattle.wire.specs.Clauses.{isEq, oneIf}
 use Rattle.wire.specs.Sums.{allTo}
 use Rattle.wire.specs.Codes.{TRAK, TKHD}
 use Rattle.wire.proofs.Clauses.{is-eq, not-eq, was-nay, was-yea}
 use Rattle.wire.proofs.Sums.{all-none, all-more, all-fails}
-use Rattle.boxes.specs.Box.{Box, write}
+use Rattle.boxes.specs.Box.{Box}
 use Rattle.boxes.specs.Boxes.{boxes}
-use Rattle.boxes.specs.Seek.{meant, count, byNumber, nth, find, placeIn, startIn}
-use Rattle.boxes.proofs.Reading.{length-cons, lengths}
+use Rattle.boxes.specs.Seek.{count, nth, find, placeIn, startIn}
 use Rattle.verdict.specs.declared.Verdict.{Verdict}
 use Rattle.verdict.specs.declared.Verdict.the-variants.{Fine, Bad}
 use Rattle.verdict.specs.Verdict.{sooner, unless, isFine}
 use Rattle.verdict.proofs.Places.{sooner-fine, unless-fine, unless-yea, unless-nay}
 use Rattle.headers.specs.Identities.{identity, fresh, tkhdPlace, freshTo, different}
-
--- what is found in a part is no longer than it
-nth-short : (c n : ℕ) (l : List Box) → length (nth c n l) ≤ length (write l)
-unfolding nth ifEq
-nth-short c n [] = omega arith
-nth-short c n (x ∷ l) = go (eqb (meant c (x .code)) 0) n (λ m. nth-short c m l)
-  where
-    go : (t : Bool) (n : ℕ) → ((m : ℕ) → length (nth c m l) ≤ length (write l)) → length (pick t (nth c n l) (byNumber n (x .body) (λ m. nth c m l))) ≤ length (write (x ∷ l))
-    go true n ih = omega (arith, ih n, length-cons x l)
-    go false zero ih = omega (arith, length-cons x l)
-    go false (suc n) ih = omega (arith, ih n, length-cons x l)
-
-pub found-short : (c n : ℕ) (xs : List ℕ) {ys : List ℕ} → ys ≡ nth c n (boxes xs) → length ys ≤ length xs
-found-short c n xs e = rw e (omega (arith, nth-short c n (boxes xs), lengths xs))
 
 module _ (l : List Box) where
   pub identity-is : (i : ℕ) {trak tkhd : List ℕ} {r : ℕ} → trak ≡ nth TRAK i l → tkhd ≡ find TKHD (boxes trak) → r ≡ word 4 tkhd 12 → r ≡ identity l i

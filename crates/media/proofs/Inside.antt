@@ -2,12 +2,10 @@
 use Prim.Native.Nat.{ℕ, _+_, _-_, _≤_, _<_}
 use native.Mathlib.Omega.{arith}
 use mathlib.Core.Path.{_≡_, refl, sym, _∙_}
-use mathlib.Core.Bool.{Bool, true, false}
+use mathlib.Core.Bool.{false}
 use mathlib.Core.List.{List, [], _∷_}
-use lib.Dec.{eqb, ltb, leb}
-use lib.ListN.{drop}
-use borrow.Author.Tests.{ltb-true, ltb-false, leb-true, leb-false, eqb-true, eqb-false}
-use Rattle.wire.specs.Clauses.{isEq, isLe, every}
+use lib.ListN.{length, drop}
+use Rattle.wire.specs.Clauses.{isLe}
 use Rattle.wire.specs.Codes.{MDAT}
 use Rattle.wire.proofs.Clauses.{is-eq, not-eq, is-le, not-le, fails, done, holds as and}
 use Rattle.boxes.specs.Box.{Box, size}
@@ -16,8 +14,9 @@ use Rattle.boxes.specs.Walk.{boxAt, Ran, Over}
 use Rattle.boxes.specs.declared.walk.Walk.{Walk}
 use Rattle.boxes.specs.declared.walk.BoxAt.{BoxAt}
 use Rattle.boxes.proofs.Seeking.{length-payload}
-use Rattle.media.specs.Payloads.{mdats, Spot, nowhere, spot, within, past, resolve, fits, inAt, holds}
-use Rattle.media.proofs.Payloads.{Behind, resolve-here, resolve-past, mdats-hit, within-hit, within-low, past-hit, behind-hit, within-miss, past-miss, behind-miss}
+use Rattle.media.specs.Payloads.{mdats, Spot, nowhere, spot, past, resolve, fits, inAt, holds}
+use Rattle.media.proofs.Payloads.{either, mdat-or, resolve-here, resolve-past, mdats-hit, within-hit, within-low, within-miss, past-nowhere}
+use Rattle.media.proofs.Behind.{behind-some}
 
 -- ---- over a list of boxes
 
@@ -26,39 +25,29 @@ unfolding inAt resolve
 in-none o n = refl
 
 module _ (x : Box) (l : List Box) (o n : ℕ) where
+  hit : x .code ≡ MDAT → x .head ≤ o → isLe (o - x .head + n) (length (x .body)) ≡ holds (x .code) (x .head) (size x) o n
+  unfolding holds
+  hit c k =
+      either (size x) (o + n)
+      (λ e. not-le _ _ (omega arith) ∙ fails 2 _ (not-le _ _ e))
+      (λ e. is-le _ _ (omega arith) ∙ and _ _ (is-eq _ _ c) (and _ _ (is-le _ _ k) (and _ _ (is-le _ _ e) done)))
+
   -- in the first box, by its own numbers
   in-here : o ≤ size x → inAt (x ∷ l) o n ≡ holds (x .code) (x .head) (size x) o n
   unfolding inAt holds
-  in-here h = rw (resolve-here x l o h) (go (eqb (x .code) MDAT) refl (ltb o (x .head)) refl (leb (o + n) (size x)) refl)
-    where
-      go : (t : Bool) → eqb (x .code) MDAT ≡ t → (u : Bool) → ltb o (x .head) ≡ u → (v : Bool) → leb (o + n) (size x) ≡ v
-          → fits (mdats (x ∷ l)) n (within x o) ≡ every (isEq (x .code) MDAT ∷ isLe (x .head) o ∷ isLe (o + n) (size x) ∷ [])
-      go true p true q v r = rw (within-low x l (eqb-true _ _ p) o (ltb-true _ _ q)) (fails 1 _ (not-le _ _ (ltb-true _ _ q)))
-      go true p false q true r =
-          let c : x .code ≡ MDAT = eqb-true _ _ p in
-          let k : x .head ≤ o = ltb-false _ _ q in
-          let e : o + n ≤ size x = leb-true _ _ r in
-          rw (within-hit x l c o k, mdats-hit x l c) (is-le _ _ (omega arith) ∙ and _ _ (is-eq _ _ c) (and _ _ (is-le _ _ k) (and _ _ (is-le _ _ e) done)))
-      go true p false q false r =
-          let c : x .code ≡ MDAT = eqb-true _ _ p in
-          let k : x .head ≤ o = ltb-false _ _ q in
-          let e : size x < o + n = leb-false _ _ r in
-          rw (within-hit x l c o k, mdats-hit x l c) (not-le _ _ (omega arith) ∙ fails 2 _ (not-le _ _ e))
-      go false p u q v r = let c : x .code ≡ MDAT → ⊥ = eqb-false _ _ p in rw (within-miss x l c o) (fails 0 _ (not-eq _ _ c))
+  in-here h =
+      rw (resolve-here x l o h) (mdat-or x
+      (λ c. either o (x .head) (λ k. rw (within-low x c o k) (fails 1 _ (not-le _ _ k))) (λ k. rw (within-hit x c o k, mdats-hit x c l) (hit c k)))
+      (λ c. rw (within-miss x c o) (fails 0 _ (not-eq _ _ c))))
 
   -- past it
   in-past : size x < o → inAt (x ∷ l) o n ≡ inAt l (o - size x) n
   unfolding inAt
-  in-past h = rw (resolve-past x l o h) (go (eqb (x .code) MDAT) refl (resolve l (o - size x)))
+  in-past h = rw (resolve-past x l o h) (go (resolve l (o - size x)))
     where
-      behind : (j k i : ℕ) → Behind x l j k → fits (mdats (x ∷ l)) n (past x (spot j i)) ≡ fits (mdats l) n (spot j i)
-      behind j k i b = rw (b .spots i, b .body)
-
-      go : (t : Bool) → eqb (x .code) MDAT ≡ t → (s : Spot) → fits (mdats (x ∷ l)) n (past x s) ≡ fits (mdats l) n s
-      go true p nowhere = rw (past-hit x l (eqb-true _ _ p) nowhere)
-      go true p (spot j i) = behind j _ i (behind-hit x l (eqb-true _ _ p) j)
-      go false p nowhere = rw (past-miss x l (eqb-false _ _ p) nowhere)
-      go false p (spot j i) = behind j _ i (behind-miss x l (eqb-false _ _ p) j)
+      go : (s : Spot) → fits (mdats (x ∷ l)) n (past x s) ≡ fits (mdats l) n s
+      go nowhere = rw (past-nowhere x)
+      go (spot j i) = behind-some x j (λ k b. rw (b .spots i, b .body l))
 
 -- ---- over the walk
 

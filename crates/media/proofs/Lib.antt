@@ -1,8 +1,16 @@
 pub mod Payloads
+pub mod Behind
 pub mod Inside
 pub mod Places
 pub mod Resolving
 pub mod Relocating
+pub mod Staying
 pub mod Rewording
+pub mod Mdats
+pub mod Joining
+pub mod Moving
+pub mod Swapping
+pub mod Amounts
 pub mod Eight
 pub mod Keeping
+pub mod Vectors

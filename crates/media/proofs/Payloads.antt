@@ -1,13 +1,30 @@
 -- Laws of payloads, one box at a time. Assumes nothing.
-use Prim.Native.Nat.{ℕ, suc, _+_, _-_, _≤_, _<_}
-use native.Mathlib.Omega.{arith}
+use Prim.Native.Nat.{ℕ, _+_, _-_, _≤_, _<_}
 use mathlib.Core.Path.{_≡_, refl, sym}
-use mathlib.Core.List.{List, [], _∷_}
-use lib.ListN.{length, getD}
+use mathlib.Core.Bool.{Bool, true, false}
+use mathlib.Core.List.{List, _∷_}
+use lib.Dec.{eqb, ltb}
+use borrow.Author.Tests.{ltb-true, ltb-false, eqb-true, eqb-false}
 use Rattle.wire.specs.Codes.{MDAT}
 use Rattle.wire.proofs.Tests.{eq-yea, eq-nay, lt-yea, lt-nay}
 use Rattle.boxes.specs.Box.{Box, size}
-use Rattle.media.specs.Payloads.{mdats, Spot, nowhere, spot, within, next, past, resolve, placeOf}
+use Rattle.media.specs.Payloads.{mdats, nowhere, spot, within, past, resolve, placeOf}
+
+-- ---- two cases
+
+pub either : {A : Type 0} (m n : ℕ) → (m < n → A) → (n ≤ m → A) → A
+either {A} m n f g = go (ltb m n) refl
+  where
+    go : (t : Bool) → ltb m n ≡ t → A
+    go true e = f (ltb-true _ _ e)
+    go false e = g (ltb-false _ _ e)
+
+pub mdat-or : {A : Type 0} (x : Box) → (x .code ≡ MDAT → A) → ((x .code ≡ MDAT → ⊥) → A) → A
+mdat-or {A} x f g = go (eqb (x .code) MDAT) refl
+  where
+    go : (t : Bool) → eqb (x .code) MDAT ≡ t → A
+    go true e = f (eqb-true _ _ e)
+    go false e = g (eqb-false _ _ e)
 
 -- ---- a place in the first box, or past it
 
@@ -22,21 +39,14 @@ module _ (x : Box) (l : List Box) (o : ℕ) where
 
 -- ---- the first box is an `mdat`
 
--- payload j of l is payload k of x ∷ l
-pub record Behind (x : Box) (l : List Box) (j k : ℕ) : Type 0 where
-  pub spots : (i : ℕ) → past x (spot j i) ≡ spot k i
-  pub place : (i : ℕ) → placeOf (x ∷ l) k i ≡ size x + placeOf l j i
-  pub body : getD (mdats (x ∷ l)) k [] ≡ getD (mdats l) j []
-  pub which : j < length (mdats l) → k < length (mdats (x ∷ l))
-
-module _ (x : Box) (l : List Box) (e : x .code ≡ MDAT) where
-  pub mdats-hit : mdats (x ∷ l) ≡ x .body ∷ mdats l
+module _ (x : Box) (e : x .code ≡ MDAT) where
+  pub mdats-hit : (l : List Box) → mdats (x ∷ l) ≡ x .body ∷ mdats l
   unfolding mdats
-  mdats-hit = sym (eq-yea _ _ _ _ _ e refl)
+  mdats-hit l = sym (eq-yea _ _ _ _ _ e refl)
 
-  pub place-hit : (i : ℕ) → placeOf (x ∷ l) 0 i ≡ x .head + i
+  pub place-hit : (l : List Box) (i : ℕ) → placeOf (x ∷ l) 0 i ≡ x .head + i
   unfolding placeOf
-  place-hit i = sym (eq-yea _ _ _ _ _ e refl)
+  place-hit l i = sym (eq-yea _ _ _ _ _ e refl)
 
   pub within-hit : (o : ℕ) → x .head ≤ o → within x o ≡ spot 0 (o - x .head)
   unfolding within
@@ -46,41 +56,17 @@ module _ (x : Box) (l : List Box) (e : x .code ≡ MDAT) where
   unfolding within
   within-low o h = sym (eq-yea _ _ _ _ _ e (lt-yea _ _ _ _ _ h refl))
 
-  pub past-hit : (s : Spot) → past x s ≡ next s
-  unfolding past
-  past-hit s = sym (eq-yea _ _ _ _ _ e refl)
-
-  pub behind-hit : (j : ℕ) → Behind x l j (suc j)
-  unfolding placeOf
-  behind-hit j =
-      record {
-        spots = λ i. past-hit (spot j i);
-        place = λ i. sym (eq-yea _ _ _ _ _ e refl);
-        body = rw mdats-hit;
-        which = λ h. rw mdats-hit (omega arith);
-      }
-
 -- ---- it is none
 
-module _ (x : Box) (l : List Box) (e : x .code ≡ MDAT → ⊥) where
-  pub mdats-miss : mdats (x ∷ l) ≡ mdats l
+module _ (x : Box) (e : x .code ≡ MDAT → ⊥) where
+  pub mdats-miss : (l : List Box) → mdats (x ∷ l) ≡ mdats l
   unfolding mdats
-  mdats-miss = sym (eq-nay _ _ _ _ _ e refl)
+  mdats-miss l = sym (eq-nay _ _ _ _ _ e refl)
 
   pub within-miss : (o : ℕ) → within x o ≡ nowhere
   unfolding within
   within-miss o = sym (eq-nay _ _ _ _ _ e refl)
 
-  pub past-miss : (s : Spot) → past x s ≡ s
-  unfolding past
-  past-miss s = sym (eq-nay _ _ _ _ _ e refl)
-
-  pub behind-miss : (j : ℕ) → Behind x l j j
-  unfolding placeOf
-  behind-miss j =
-      record {
-        spots = λ i. past-miss (spot j i);
-        place = λ i. sym (eq-nay _ _ _ _ _ e refl);
-        body = rw mdats-miss;
-        which = λ h. rw mdats-miss h;
-      }
+pub past-nowhere : (x : Box) → past x nowhere ≡ nowhere
+unfolding past
+past-nowhere x = mdat-or x (λ e. sym (eq-yea _ _ _ _ _ e refl)) (λ e. sym (eq-nay _ _ _ _ _ e refl))

@@ -1,13 +1,10 @@
 -- A payload's place in the file: it resolves to where it is, and its bytes stand there. Assumes nothing.
-use Prim.Native.Nat.{ℕ, zero, suc, _+_, _-_, _≤_, _<_}
+use Prim.Native.Nat.{ℕ, _+_, _-_, _≤_, _<_}
 use native.Mathlib.Omega.{arith}
-use mathlib.Core.Path.{_≡_, refl, sym, ap, _∙_}
-use mathlib.Core.Bool.{Bool, true, false}
+use mathlib.Core.Path.{_≡_, sym, ap, _∙_}
 use mathlib.Core.List.{List, [], _∷_, _++_, append-assoc}
-use lib.Dec.{eqb}
 use lib.ListN.{length, getD, take, drop, length-append, length-drop}
 use lib.Seq.{take-append-le, drop-append-le}
-use borrow.Author.Tests.{eqb-true, eqb-false}
 use Rattle.wire.specs.Codes.{MDAT}
 use Rattle.wire.proofs.Lists.{drop-past}
 use Rattle.boxes.specs.Box.{Box, size, header, write}
@@ -15,7 +12,8 @@ use Rattle.boxes.proofs.Whole.{Good, length-header}
 use Rattle.boxes.proofs.Reading.{All}
 use Rattle.boxes.proofs.Reading.All.{none, some}
 use Rattle.media.specs.Payloads.{mdats, spot, resolve, placeOf}
-use Rattle.media.proofs.Payloads.{Behind, resolve-here, resolve-past, mdats-hit, place-hit, within-hit, behind-hit, mdats-miss, behind-miss}
+use Rattle.media.proofs.Payloads.{resolve-here, resolve-past, mdats-hit, place-hit, within-hit}
+use Rattle.media.proofs.Behind.{Behind, front-or}
 
 -- ---- a box that was written
 
@@ -23,9 +21,9 @@ headed : (x : Box) → Good x → length (header x) ≡ x .head
 headed x g = length-header x ∙ sym (g .head)
 
 module _ (x : Box) (l : List Box) (g : Good x) where
-  long : length (write (x ∷ l)) ≡ size x + length (write l)
+  pub write-long : length (write (x ∷ l)) ≡ size x + length (write l)
   unfolding write
-  long = rw (length-append, length-append, headed x g) (omega arith)
+  write-long = rw (length-append, length-append, headed x g) (omega arith)
 
   drop-box : (p : ℕ) → drop (size x + p) (write (x ∷ l)) ≡ drop p (write l)
   unfolding write
@@ -51,40 +49,30 @@ pub record There (l : List Box) (j i n : ℕ) : Type 0 where
 
 there-here : (x : Box) (l : List Box) (i n : ℕ) → Good x → x .code ≡ MDAT → i + n ≤ length (x .body) → There (x ∷ l) 0 i n
 there-here x l i n g e k =
-    let p = place-hit x l e i in
+    let p = place-hit x e l i in
     let q : x .head + i - x .head ≡ i = omega arith in
     record {
       low = rw p (omega (arith, g .head));
-      high = rw p (omega (arith, long x l g));
-      back = rw p (resolve-here x l (x .head + i) (omega arith) ∙ within-hit x l e (x .head + i) (omega arith) ∙ ap (spot 0) q);
-      bytes = rw (p, mdats-hit x l e, drop-head x l g i) (take-inside (x .body) (write l) i n k);
+      high = rw p (omega (arith, write-long x l g));
+      back = rw p (resolve-here x l (x .head + i) (omega arith) ∙ within-hit x e (x .head + i) (omega arith) ∙ ap (spot 0) q);
+      bytes = rw (p, mdats-hit x e l, drop-head x l g i) (take-inside (x .body) (write l) i n k);
     }
 
-there-behind : (x : Box) (l : List Box) (j k i n : ℕ) → Good x → Behind x l j k → There l j i n → There (x ∷ l) k i n
+there-behind : (x : Box) (l : List Box) (j k i n : ℕ) → Good x → Behind x j k → There l j i n → There (x ∷ l) k i n
 there-behind x l j k i n g b t =
-    let p = b .place i in
+    let p = b .place l i in
     let q : size x + placeOf l j i - size x ≡ placeOf l j i = omega arith in
     record {
       low = rw p (omega (arith, t .low));
-      high = rw p (omega (arith, long x l g, t .high));
+      high = rw p (omega (arith, write-long x l g, t .high));
       back = rw p (resolve-past x l (size x + placeOf l j i) (omega (arith, t .low)) ∙ rw (q, t .back) (b .spots i));
-      bytes = rw (p, b .body, drop-box x l g (placeOf l j i)) (t .bytes);
+      bytes = rw (p, b .body l, drop-box x l g (placeOf l j i)) (t .bytes);
     }
 
 pub there : {l : List Box} → All Good l → (j i n : ℕ) → j < length (mdats l) → i + n ≤ length (getD (mdats l) j []) → There l j i n
 unfolding mdats
 there none j i n h k = absurd (omega arith)
-there (some {x} {l} g a) j i n h k = go (eqb (x .code) MDAT) refl j h k (λ j′. there a j′ i n)
-  where
-    go : (t : Bool) → eqb (x .code) MDAT ≡ t → (j : ℕ) → j < length (mdats (x ∷ l)) → i + n ≤ length (getD (mdats (x ∷ l)) j [])
-        → ((j′ : ℕ) → j′ < length (mdats l) → i + n ≤ length (getD (mdats l) j′ []) → There l j′ i n) → There (x ∷ l) j i n
-    go true e zero h k ih = let c : x .code ≡ MDAT = eqb-true _ _ e in there-here x l i n g c (rw (mdats-hit x l c) at k)
-    go true e (suc j) h k ih =
-        let c : x .code ≡ MDAT = eqb-true _ _ e in
-        let b = behind-hit x l c j in
-        let z : suc j < suc (length (mdats l)) = rw (mdats-hit x l c) at h in
-        there-behind x l j (suc j) i n g b (ih j (omega arith) (rw (b .body) at k))
-    go false e j h k ih =
-        let c : x .code ≡ MDAT → ⊥ = eqb-false _ _ e in
-        let b = behind-miss x l c j in
-        there-behind x l j j i n g b (ih j (rw (mdats-miss x l c) at h) (rw (b .body) at k))
+there (some {x} {l} g a) j i n h k =
+    front-or x l j h
+    (λ c e. rw (← e) (there-here x l i n g c (rw (← e, mdats-hit x c l) at k)))
+    (λ m b z. there-behind x l m j i n g b (there a m i n z (rw (b .body l) at k)))

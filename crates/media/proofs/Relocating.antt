@@ -1,5 +1,5 @@
 -- Laws of relocation, between files with the same payloads. Assumes nothing.
-use Prim.Native.Nat.{ℕ, zero, suc, _+_, _≤_, _<_}
+use Prim.Native.Nat.{ℕ, _+_, _≤_, _<_}
 use native.Mathlib.Omega.{arith}
 use mathlib.Core.Path.{_≡_, refl, sym, ap, _∙_}
 use mathlib.Core.Bool.{true}
@@ -7,12 +7,10 @@ use mathlib.Core.List.{List, []}
 use lib.ListN.{length, getD, take, drop}
 use Rattle.wire.proofs.Clauses.{is-le, le-is}
 use Rattle.boxes.specs.Box.{Box, write}
-use Rattle.boxes.specs.Kin.{All2}
-use Rattle.boxes.specs.Kin.All2.{nil, cons}
 use Rattle.boxes.proofs.Whole.{Good}
 use Rattle.boxes.proofs.Reading.{All}
 use Rattle.media.specs.Payloads.{mdats, Spot, nowhere, spot, resolve, placeOf, fits, inAt}
-use Rattle.media.specs.Relocate.{relocate, Alike}
+use Rattle.media.specs.Relocate.{relocate}
 use Rattle.media.proofs.Places.{There, there}
 use Rattle.media.proofs.Resolving.{resolved}
 
@@ -87,18 +85,3 @@ module _ (l m : List Box) (same : mdats l ≡ mdats m) (g : All Good m) where
   relocate-then k o n h =
       let s = in-lies l o n h in
       relocate-to m k (relocate l m o) (s .j) (s .i) (relocate-found o n s) ∙ sym (relocate-to l k o (s .j) (s .i) (s .found))
-
--- ---- to a file with the same layout
-
-place-alike : {l m : List Box} → All2 Alike l m → (j i : ℕ) → placeOf l j i ≡ placeOf m j i
-unfolding placeOf
-place-alike nil j i = refl
-place-alike (cons r a) zero i = rw (r .head, r .code, r .long, place-alike a zero i)
-place-alike (cons r a) (suc j) i = rw (r .head, r .code, r .long, place-alike a j i, place-alike a (suc j) i)
-
-pub relocate-alike : {l m : List Box} → All2 Alike l m → (o : ℕ) → relocate l m o ≡ o
-relocate-alike {l} {m} a o = go (resolve l o) refl
-  where
-    go : (s : Spot) → resolve l o ≡ s → relocate l m o ≡ o
-    go nowhere e = relocate-out l m o e
-    go (spot j i) e = relocate-to l m o j i e ∙ sym (resolved l o j i e .is ∙ place-alike a j i)

@@ -1,25 +1,19 @@
--- Tables of relocated chunk offsets: the same table where nothing moved, and a table with its numbers rewritten. Assumes nothing.
+-- A table of chunk offsets with its numbers rewritten. Assumes nothing.
 use Prim.Native.Nat.{ℕ, zero, suc, _+_, _*_, _≤_, _<_}
 use native.Mathlib.Omega.{arith}
 use native.Mathlib.Nat.{mul-le-mul-left}
-use mathlib.Core.Path.{_≡_, refl, sym, ap, _∙_}
+use mathlib.Core.Path.{_≡_, sym, ap, _∙_}
 use mathlib.Core.List.{List, [], _++_, append-nil}
-use lib.ListN.{length, take, drop, length-append, length-drop, length-take, take-append-drop, drop-of-length-le}
+use lib.ListN.{length, take, drop, length-drop, take-append-drop, drop-of-length-le}
 use lib.Seq.{take-all, length-take-le}
 use Rattle.wire.specs.Numbers.{bytes, word}
 use Rattle.wire.proofs.Numbers.{length-bytes, word-bytes, word-drop, word-left, word-right}
 use Rattle.boxes.specs.Box.{Box}
-use Rattle.boxes.specs.Kin.{All2}
 use Rattle.boxes.specs.Words.{eachWord, reword}
 use Rattle.boxes.proofs.Wording.{word-next}
 use Rattle.tables.specs.Tables.{count, Table}
 use Rattle.tables.specs.Chunks.{offsetAt}
-use Rattle.media.specs.Relocate.{relocate, Relocated, Alike}
-use Rattle.media.proofs.Relocating.{relocate-alike}
-
--- between files of the same layout
-pub relocated-alike : {l m : List Box} → All2 Alike l m → (stco : List ℕ) → Relocated l m stco stco
-relocated-alike a stco = record { same = refl; offsets = λ k h. sym (relocate-alike a (offsetAt stco k)) }
+use Rattle.media.specs.Relocate.{relocate, Relocated}
 
 -- number k of a list, rewritten
 each-at : (f : ℕ → ℕ) (k : ℕ) (xs : List ℕ) → 4 * k + 4 ≤ length xs → f (word 4 xs (4 * k)) < 4294967296 → word 4 (eachWord f xs) (4 * k) ≡ f (word 4 xs (4 * k))

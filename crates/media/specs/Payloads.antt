@@ -31,7 +31,7 @@ next (spot j i) = spot (suc j) i
 unfoldable pub past : Box → Spot → Spot
 past x s = ifEq (x .code) MDAT (next s) s
 
--- the payload that place o is in, or at the end of
+-- the payload that place o is in, or at the end of: a place up to a box's end is judged by that box
 unfoldable pub resolve : List Box → ℕ → Spot
 resolve [] o = nowhere
 resolve (x ∷ l) o = ifLt (size x) o (past x (resolve l (o - size x))) (within x o)
@@ -49,7 +49,7 @@ abbrev pub fits : List (List ℕ) → ℕ → Spot → Bool
 fits ms n nowhere = false
 fits ms n (spot j i) = isLe (i + n) (length (getD ms j []))
 
--- the n bytes from place o on lie inside one payload; no bytes may stand at its end
+-- rule 8 of n bytes from place o on: they lie inside one payload, and 0 bytes may stand at its end
 unfoldable pub inAt : List Box → ℕ → ℕ → Bool
 inAt l o n = fits (mdats l) n (resolve l o)
 

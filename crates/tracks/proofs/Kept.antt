@@ -49,14 +49,23 @@ module _ (G : Leaf) (t : Tables G) where
     six-kept : sixHolds (boxes xs) ≡ sixHolds (boxes ys)
     unfolding sixHolds kindIn parent ifEq
     six-kept =
-        rw (same-table STTS (λ z. omega arith) refl (t .stts), same-table STSC (λ z. omega arith) refl (t .stsc), same-table STSZ (λ z. omega arith) refl (t .stsz),
-          kin-find G d STBL xs ys a STCO (λ z. omega arith) (λ u v. tableForm 4 u ≡ tableForm 4 v) refl refl (λ b b′ g. t .stco b b′ g .1) 0)
+        rw (
+          same-table STTS (λ z. omega arith) refl (t .stts),
+          same-table STSC (λ z. omega arith) refl (t .stsc),
+          same-table STSZ (λ z. omega arith) refl (t .stsz),
+          kin-find G d STBL xs ys a STCO (λ z. omega arith) (λ u v. tableForm 4 u ≡ tableForm 4 v) refl refl (λ b b′ g. t .stco b b′ g .1) 0,
+        )
 
     seven-kept : sevenHolds (boxes xs) ≡ sevenHolds (boxes ys)
     unfolding sevenHolds kindIn parent ifEq
     seven-kept =
-        rw (six-kept, same-table STTS (λ z. omega arith) refl (t .stts), same-table STSC (λ z. omega arith) refl (t .stsc), same-table STSZ (λ z. omega arith) refl (t .stsz),
-          kin-find G d STBL xs ys a STSD (λ z. omega arith) (λ u v. word 4 u 4 ≡ word 4 v 4) refl refl (t .stsd) 0)
+        rw (
+          six-kept,
+          same-table STTS (λ z. omega arith) refl (t .stts),
+          same-table STSC (λ z. omega arith) refl (t .stsc),
+          same-table STSZ (λ z. omega arith) refl (t .stsz),
+          kin-find G d STBL xs ys a STSD (λ z. omega arith) (λ u v. word 4 u 4 ≡ word 4 v 4) refl refl (t .stsd) 0,
+        )
         (ap (λ (s : Bool). pick (sixHolds (boxes ys)) s true) (seven-same _ _ _ _ (find STCO (boxes xs)) (find STCO (boxes ys)) (kin-find G d STBL xs ys a STCO (λ z. omega arith) (λ u v. word 4 u 4 ≡ word 4 v 4) refl refl (λ b b′ g. t .stco b b′ g .0) 0)))
 
   in-kept : (d k : ℕ) (xs ys : List ℕ) → Kin G (suc d) k xs ys → sevenIn k xs ≡ true → sevenIn k ys ≡ true

@@ -1,6 +1,7 @@
 use borrow.Author.Needs.{needs}
-use Rattle.headers.proofs.Fresh.{place-is, found-short}
+use Rattle.headers.proofs.Fresh.{place-is}
 use native.Mathlib.Omega.{arith}
+use Rattle.boxes.proofs.Placing.{found-short}
 use Rattle.headers.proofs.identities.tkhd_place.Statement.{statement}
 use Rattle.headers.proofs.identities.tkhd_place.Tie as tie
 

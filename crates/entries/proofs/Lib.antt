@@ -1,0 +1,7 @@
+pub mod Judging
+pub mod Speech
+pub mod Picture
+pub mod Replacing
+pub mod Keeping
+pub mod Kept
+pub mod Marked

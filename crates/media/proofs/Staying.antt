@@ -1,0 +1,40 @@
+-- Relocation sees of the second file only its layout. Assumes nothing.
+use Prim.Native.Nat.{ℕ, zero, suc}
+use mathlib.Core.Path.{_≡_, refl, sym, _∙_}
+use mathlib.Core.List.{List}
+use Rattle.boxes.specs.Box.{Box}
+use Rattle.boxes.specs.Kin.{All2}
+use Rattle.boxes.specs.Kin.All2.{nil, cons}
+use Rattle.tables.specs.Chunks.{offsetAt}
+use Rattle.media.specs.Payloads.{Spot, nowhere, spot, resolve, placeOf}
+use Rattle.media.specs.Relocate.{putAt, relocate, Relocated, Alike}
+use Rattle.media.proofs.Resolving.{resolved}
+
+place-alike : {l m : List Box} → All2 Alike l m → (j i : ℕ) → placeOf l j i ≡ placeOf m j i
+unfolding placeOf
+place-alike nil j i = refl
+place-alike (cons r a) zero i = rw (r .head, r .code, r .long, place-alike a zero i)
+place-alike (cons r a) (suc j) i = rw (r .head, r .code, r .long, place-alike a j i, place-alike a (suc j) i)
+
+pub relocate-like : (l : List Box) {m m′ : List Box} → All2 Alike m m′ → (o : ℕ) → relocate l m o ≡ relocate l m′ o
+unfolding relocate
+relocate-like l {m} {m′} a o = go (resolve l o)
+  where
+    go : (s : Spot) → putAt m o s ≡ putAt m′ o s
+    go nowhere = refl
+    go (spot j i) = place-alike a j i
+
+pub relocate-same : (l : List Box) (o : ℕ) → relocate l l o ≡ o
+unfolding relocate
+relocate-same l o = go (resolve l o) refl
+  where
+    go : (s : Spot) → resolve l o ≡ s → putAt l o s ≡ o
+    go nowhere e = refl
+    go (spot j i) e = sym (resolved l o j i e .is)
+
+-- to a file with the same layout nothing moves
+pub relocate-alike : {l m : List Box} → All2 Alike l m → (o : ℕ) → relocate l m o ≡ o
+relocate-alike {l} a o = sym (relocate-like l a o) ∙ relocate-same l o
+
+pub relocated-alike : {l m : List Box} → All2 Alike l m → (stco : List ℕ) → Relocated l m stco stco
+relocated-alike a stco = record { same = refl; offsets = λ k h. sym (relocate-alike a (offsetAt stco k)) }

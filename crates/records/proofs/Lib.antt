@@ -1,0 +1,10 @@
+pub mod Lengths
+pub mod Answers
+pub mod Fitting
+pub mod Speaking
+pub mod Hearing
+pub mod Starting
+pub mod Showing
+pub mod Seeing
+pub mod Reading
+pub mod Rewriting
