@@ -46,7 +46,7 @@ module _ (G : Leaf) (t : Tables G) where
     pub same-table : (c : ℕ) → (c ≡ 0 → ⊥) → kindIn STBL c ≡ 0 → ((b b′ : List ℕ) → G STBL c b b′ → b ≡ b′) → find c (boxes xs) ≡ find c (boxes ys)
     same-table c z o h = kin-find G d STBL xs ys a c z (λ u v. u ≡ v) refl o h 0
 
-    six-kept : sixHolds (boxes xs) ≡ sixHolds (boxes ys)
+    pub six-kept : sixHolds (boxes xs) ≡ sixHolds (boxes ys)
     unfolding sixHolds kindIn parent ifEq
     six-kept =
         rw (
@@ -56,7 +56,7 @@ module _ (G : Leaf) (t : Tables G) where
           kin-find G d STBL xs ys a STCO (λ z. omega arith) (λ u v. tableForm 4 u ≡ tableForm 4 v) refl refl (λ b b′ g. t .stco b b′ g .1) 0,
         )
 
-    seven-kept : sevenHolds (boxes xs) ≡ sevenHolds (boxes ys)
+    pub seven-kept : sevenHolds (boxes xs) ≡ sevenHolds (boxes ys)
     unfolding sevenHolds kindIn parent ifEq
     seven-kept =
         rw (

@@ -1,0 +1,50 @@
+-- The rules by number. Rule 1 is of the file's length alone; the others are asked of every box, in file order.
+use Prim.Native.Nat.{ℕ}
+use mathlib.Core.List.{List}
+use Rattle.wire.specs.Tests.{ifEq}
+use Rattle.boxes.specs.Box.{Box}
+use Rattle.boxes.specs.Boxes.{boxes}
+use Rattle.boxes.specs.Containers.{FILE, DEPTH}
+use Rattle.verdict.specs.declared.Verdict.{Verdict}
+use Rattle.verdict.specs.declared.Verdict.the-variants.{Fine, Bad}
+use Rattle.verdict.specs.Judge.{Judge, judgeIn}
+use Rattle.shape.specs.Rules.{two, three}
+use Rattle.headers.specs.Four.{four}
+use Rattle.lists.specs.Rules.{five, nine}
+use Rattle.tracks.specs.Six.{six}
+use Rattle.tracks.specs.Seven.{seven}
+use Rattle.tracks.specs.Eight.{eight}
+use Rattle.descriptions.specs.Ten.{ten}
+
+-- rules 4, 5, 6 and 9 look at opaque boxes
+unfoldable pub leafBy : ℕ → ℕ → ℕ → List ℕ → ℕ → ℕ → Verdict
+leafBy n k c b p q =
+    ifEq n 4 (four .leaf k c b p q)
+    (ifEq n 5 (five .leaf k c b p q)
+    (ifEq n 6 (six .leaf k c b p q)
+    (ifEq n 9 (nine .leaf k c b p q) Fine)))
+
+-- rules 3, 4, 5, 7, 8 and 10 look at containers, rule 8 in a file with the boxes l
+unfoldable pub nodeBy : ℕ → List Box → ℕ → List ℕ → ℕ → ℕ → Verdict
+nodeBy n l k xs home p =
+    ifEq n 3 (three .node k xs home p)
+    (ifEq n 4 (four .node k xs home p)
+    (ifEq n 5 (five .node k xs home p)
+    (ifEq n 7 (seven .node k xs home p)
+    (ifEq n 8 (eight l .node k xs home p)
+    (ifEq n 10 (ten .node k xs home p) Fine)))))
+
+-- rule 2 looks at what is past the last whole box
+unfoldable pub endBy : ℕ → List ℕ → ℕ → Verdict
+endBy n xs p = ifEq n 2 (two .end xs p) Fine
+
+abbrev pub judgeBy : ℕ → List Box → Judge
+judgeBy n l = record { leaf = leafBy n; node = nodeBy n l; end = endBy n }
+
+-- what rule n says of a file
+unfoldable pub verdictOf : ℕ → List ℕ → Verdict
+verdictOf n xs = judgeIn (judgeBy n (boxes xs)) DEPTH FILE xs 0 0
+
+-- broken at a place where an answer is 0
+unfoldable pub unlessAnswer : ℕ → ℕ → Verdict
+unlessAnswer r p = ifEq r 0 (Bad p) Fine

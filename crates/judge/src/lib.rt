@@ -1,0 +1,58 @@
+// The judgement of a file: rules 1 to 10.
+pub mod rules;
+
+use verdict::Verdict;
+ghost use mathlib.Core.Path.{_≡_};
+ghost use Prim.Native.Nat.{_+_, _≤_};
+ghost use lib.ListN.{length};
+ghost use Rattle.judge.specs.Rules.{verdictOf};
+ghost use Rattle.judge.specs.Judgement.{judged};
+
+// A file is accepted, or refused with a number and a place.
+pub enum Judgement {
+    Accepted,
+    Refused(usize, usize),
+}
+
+// The longest file.
+pub const LONGEST: usize = 1048576;
+
+// What rule n says of a file.
+fn verdict_of(n: usize, file: &[u8]) -> Verdict
+    requires { ⌜ length (now file) ≤ 1048576 ⌝ }
+    ensures { λ r. ⌜ r ≡ verdictOf n (now (file .entry)) ⌝ }
+{
+    rules::judge_in(
+        n,
+        file,
+        file,
+        0,
+        0,
+        boxes::containers::FILE,
+        boxes::containers::DEPTH,
+    )
+}
+
+// The lowest number whose rule is broken, with the place of the first box in file order that breaks it.
+pub fn judge(file: &[u8]) -> Judgement
+    ensures { λ r. ⌜ r ≡ judged (now (file .entry)) ⌝ }
+{
+    if file.len() < 8 {
+        return Judgement::Refused(1, 0);
+    }
+    if LONGEST < file.len() {
+        return Judgement::Refused(1, 0);
+    }
+    let mut n = 2;
+    while n < 11 {
+        match verdict_of(n, file) {
+            Verdict::Fine => {
+                n += 1;
+            }
+            Verdict::Bad(p) => {
+                return Judgement::Refused(n, p);
+            }
+        }
+    }
+    Judgement::Accepted
+}

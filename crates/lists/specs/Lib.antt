@@ -1,0 +1,4 @@
+pub mod Forms
+pub mod Totals
+pub mod Urls
+pub mod Rules

@@ -1,0 +1,53 @@
+-- Rules 2 and 3 with places say what they say without; any edit of opaque boxes keeps both. Assumes nothing.
+use Prim.Native.Nat.{ℕ}
+use native.Mathlib.Omega.{arith}
+use mathlib.Core.Path.{_≡_, refl, sym, _∙_}
+use mathlib.Core.Bool.{true}
+use mathlib.Core.List.{List, [], _∷_, map}
+use lib.ListN.{length}
+use Rattle.wire.specs.Clauses.{isEq}
+use Rattle.wire.specs.Codes.{TRAK}
+use Rattle.boxes.specs.Box.{Box}
+use Rattle.boxes.specs.Boxes.{boxes}
+use Rattle.boxes.specs.Seek.{count}
+use Rattle.boxes.specs.Kin.{Leaf, Kin}
+use Rattle.boxes.proofs.Kin.{kin-codes, kin-count}
+use Rattle.verdict.specs.Rule.{Says, allIn}
+use Rattle.verdict.proofs.Places.{unless-fine}
+use Rattle.verdict.proofs.Keeping.{keep}
+use Rattle.shape.specs.Shape.{needed, ones, first, besides, shape}
+use Rattle.shape.specs.Rules.{two, twoRule, three, threeRule}
+
+pub two-says : Says two twoRule
+two-says = record { leaf = λ k c b p q. refl; node = λ k xs home p. refl; end = λ xs p. unless-fine (isEq (length xs) 0) p }
+
+pub three-says : Says three threeRule
+three-says = record { leaf = λ k c b p q. refl; node = λ k xs home p. unless-fine (shape k (boxes xs)) home; end = λ xs p. refl }
+
+-- ---- lists of boxes with the same codes
+
+module _ (l m : List Box) (counts : (c : ℕ) → count c l ≡ count c m) where
+  same-ones : (cs : List ℕ) → ones cs l ≡ ones cs m
+  unfolding ones
+  same-ones [] = refl
+  same-ones (c ∷ cs) = rw (counts c, same-ones cs)
+
+same-first : (l m : List Box) → map (λ x. x .code) l ≡ map (λ x. x .code) m → first l ≡ first m
+unfolding first
+same-first [] [] e = refl
+same-first [] (y ∷ m) e = let z : _≡_ {A = ℕ} 0 1 = cc in absurd (omega arith)
+same-first (x ∷ l) [] e = let z : _≡_ {A = ℕ} 0 1 = cc in absurd (omega arith)
+same-first (x ∷ l) (y ∷ m) e = cc
+
+pub same-shape : (l m : List Box) → map (λ x. x .code) l ≡ map (λ x. x .code) m → ((c : ℕ) → count c l ≡ count c m) → (k : ℕ) → shape k l ≡ shape k m
+unfolding shape besides
+same-shape l m e h k = rw (same-ones l m h (needed k), same-first l m e, h TRAK)
+
+-- ---- what an edit keeps
+
+module _ (G : Leaf) (d k : ℕ) (xs ys : List ℕ) (a : Kin G d k xs ys) where
+  pub kin-2 : allIn twoRule d k xs ≡ true → allIn twoRule d k ys ≡ true
+  kin-2 = keep twoRule twoRule G (λ k c b b′ z g t. t) (λ d k xs ys a t. t) (λ xs t. t) d k xs ys a
+
+  pub kin-3 : allIn threeRule d k xs ≡ true → allIn threeRule d k ys ≡ true
+  kin-3 = keep threeRule threeRule G (λ k c b b′ z g t. t) (λ d k xs ys a t. sym (same-shape (boxes xs) (boxes ys) (kin-codes G d k xs ys a) (kin-count G d k xs ys a) k) ∙ t) (λ xs t. t) d k xs ys a

@@ -1,0 +1,89 @@
+-- Laws of rule 3 in one container. Assumes nothing.
+use Prim.Native.Nat.{ℕ, zero, suc, _+_, _≤_, _<_}
+use native.Mathlib.Omega.{arith}
+use native.Mathlib.Numerals.{add-one}
+use mathlib.Core.Path.{_≡_, refl, sym, _∙_}
+use mathlib.Core.Bool.{true, false}
+use mathlib.Core.List.{List, [], _∷_}
+use lib.ListN.{length, getD, drop}
+use lib.Seq.{drop-cons, drop-length}
+use Rattle.wire.specs.Tests.{ifEq}
+use Rattle.wire.specs.Clauses.{isEq, oneIf}
+use Rattle.wire.specs.Codes.{FTYP, MOOV, TRAK, MDIA, MINF, DINF, STBL}
+use Rattle.wire.proofs.Tests.{both, eq-nay}
+use Rattle.wire.proofs.Clauses.{is-eq, not-eq, eq-is, le-is, clause}
+use Rattle.boxes.specs.declared.walk.Walk.{Walk}
+use Rattle.boxes.specs.declared.walk.BoxAt.{BoxAt}
+use Rattle.boxes.specs.Box.{Box}
+use Rattle.boxes.specs.Boxes.{boxes}
+use Rattle.boxes.specs.Containers.{FILE}
+use Rattle.boxes.specs.Walk.{Ran, Over}
+use Rattle.boxes.specs.Seek.{count}
+use Rattle.shape.specs.Shape.{needed, ones, first, besides, shape}
+
+-- there is one box of each code before the i-th: all hold where the rest do
+pub record Asked (cs : List ℕ) (l : List Box) (i : ℕ) : Type 0 where
+  pub is : ones cs l ≡ ones (drop i cs) l
+  pub inside : i ≤ length cs
+
+pub asked-none : (cs : List ℕ) (l : List Box) → Asked cs l 0
+asked-none cs l = record { is = refl; inside = omega arith }
+
+module _ {cs : List ℕ} {l : List Box} {i : ℕ} (a : Asked cs l i) where
+  pub asked-more : i < length cs → count (getD cs i 0) l ≡ 1 → Asked cs l (i + 1)
+  unfolding ones
+  asked-more h e = record { is = a .is ∙ rw (add-one, drop-cons cs i 0 h, is-eq (count (getD cs i 0) l) 1 e); inside = omega arith }
+
+  pub asked-bad : i < length cs → (count (getD cs i 0) l ≡ 1 → ⊥) → false ≡ ones cs l
+  unfolding ones
+  asked-bad h e = sym (a .is ∙ rw (drop-cons cs i 0 h, not-eq (count (getD cs i 0) l) 1 e))
+
+  pub asked-all : length cs ≤ i → true ≡ ones cs l
+  unfolding ones
+  asked-all h =
+      let e : i ≡ length cs = omega (arith, a .inside) in
+      sym (a .is ∙ rw (e, drop-length cs))
+
+-- ---- the first box, as a step of the walk tells it
+
+pub first-found : (xs : List ℕ) {b : BoxAt} {w : Walk} → Ran xs 0 b w → b .code ≡ first (boxes xs)
+unfolding first
+first-found xs s = rw (s .list)
+
+pub first-none : (xs : List ℕ) → Over xs 0 → 0 ≡ first (boxes xs)
+unfolding first
+first-none xs o = rw (o .list)
+
+-- ---- the codes that a kind needs
+
+pub ones-at : (k c : ℕ) (l : List Box) {r : ℕ} → k ≡ c → r ≡ oneIf (ones (needed c) l) → r ≡ oneIf (ones (needed k) l)
+ones-at k c l e q = rw e q
+
+-- a kind that is no container's needs none
+pub ones-none : (k : ℕ) (l : List Box) → (k ≡ FILE → ⊥) → (k ≡ MOOV → ⊥) → (k ≡ TRAK → ⊥) → (k ≡ MDIA → ⊥) → (k ≡ MINF → ⊥) → (k ≡ DINF → ⊥) → (k ≡ STBL → ⊥) → true ≡ ones (needed k) l
+unfolding ones needed
+ones-none k l a b c d e f g =
+    let n : [] ≡ needed k = eq-nay _ _ _ _ _ a (eq-nay _ _ _ _ _ b (eq-nay _ _ _ _ _ c (eq-nay _ _ _ _ _ d (eq-nay _ _ _ _ _ e (eq-nay _ _ _ _ _ f (eq-nay _ _ _ _ _ g refl)))))) in
+    rw (← n)
+
+-- ---- what rule 3 says
+
+pub ones-is : (i : ℕ) (cs : List ℕ) (l : List Box) → ones cs l ≡ true → i < length cs → count (getD cs i 0) l ≡ 1
+unfolding ones
+ones-is i [] l e h = absurd (omega arith)
+ones-is zero (c ∷ cs) l e h = eq-is _ _ (both _ _ e .0)
+ones-is (suc i) (c ∷ cs) l e h = ones-is i cs l (both (isEq (count c l) 1) _ e .1) (omega arith)
+
+module _ (l : List Box) where
+  -- one box of the i-th code that a container needs
+  pub shape-one : (k i : ℕ) → shape k l ≡ true → i < length (needed k) → count (getD (needed k) i 0) l ≡ 1
+  unfolding shape
+  shape-one k i e h = ones-is i (needed k) l (clause 0 _ e) h
+
+  pub shape-first : shape FILE l ≡ true → first l ≡ FTYP
+  unfolding shape besides ifEq
+  shape-first e = eq-is _ _ (clause 1 _ e)
+
+  pub shape-tracks : shape MOOV l ≡ true → (1 ≤ count TRAK l) × (count TRAK l ≤ 4)
+  unfolding shape besides ifEq
+  shape-tracks e = (le-is _ _ (clause 0 _ (clause 1 _ e)), le-is _ _ (clause 1 _ (clause 1 _ e)))

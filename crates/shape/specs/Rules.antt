@@ -1,0 +1,24 @@
+-- Rules 2 and 3, with places and without.
+use mathlib.Core.Bool.{true}
+use lib.ListN.{length}
+use Rattle.wire.specs.Clauses.{isEq}
+use Rattle.boxes.specs.Boxes.{boxes}
+use Rattle.verdict.specs.declared.Verdict.the-variants.{Fine}
+use Rattle.verdict.specs.Verdict.{unless}
+use Rattle.verdict.specs.Judge.{Judge}
+use Rattle.verdict.specs.Rule.{Rule}
+use Rattle.shape.specs.Shape.{shape}
+
+-- rule 2: boxes tile the file and each container, so that nothing stands past the last whole box
+abbrev pub two : Judge
+two = record { leaf = λ k c b p q. Fine; node = λ k xs home p. Fine; end = λ xs p. unless (isEq (length xs) 0) p }
+
+abbrev pub twoRule : Rule
+twoRule = record { leaf = λ k c b. true; node = λ k xs. true; end = λ xs. isEq (length xs) 0 }
+
+-- rule 3: each container, and the file, has its boxes
+abbrev pub three : Judge
+three = record { leaf = λ k c b p q. Fine; node = λ k xs home p. unless (shape k (boxes xs)) home; end = λ xs p. Fine }
+
+abbrev pub threeRule : Rule
+threeRule = record { leaf = λ k c b. true; node = λ k xs. shape k (boxes xs); end = λ xs. true }
