@@ -1,2 +1,4 @@
 pub mod Answers
 pub mod Order
+pub mod Says
+pub mod Exact

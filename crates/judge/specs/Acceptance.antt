@@ -1,0 +1,34 @@
+-- Acceptance without places: each rule holds of the whole file.
+use Prim.Native.Nat.{ℕ, _≤_}
+use mathlib.Core.Path.{_≡_}
+use mathlib.Core.Bool.{true}
+use mathlib.Core.List.{List}
+use lib.ListN.{length}
+use Rattle.boxes.specs.Boxes.{boxes}
+use Rattle.boxes.specs.Containers.{FILE, DEPTH}
+use Rattle.verdict.specs.Rule.{Rule, allIn}
+use Rattle.shape.specs.Rules.{twoRule, threeRule}
+use Rattle.headers.specs.Four.{fourRule}
+use Rattle.lists.specs.Rules.{fiveRule, nineRule}
+use Rattle.tracks.specs.Six.{sixRule}
+use Rattle.tracks.specs.Seven.{sevenRule}
+use Rattle.tracks.specs.Eight.{eightRule}
+use Rattle.descriptions.specs.Ten.{tenRule}
+use Rattle.judge.specs.Judgement.{LONGEST}
+
+-- a rule holds of a file
+abbrev pub Holds : Rule → List ℕ → Type 0
+Holds r xs = allIn r DEPTH FILE xs ≡ true
+
+pub record Meets (xs : List ℕ) : Type 0 where
+  pub least : 8 ≤ length xs
+  pub most : length xs ≤ LONGEST
+  pub two : Holds twoRule xs
+  pub three : Holds threeRule xs
+  pub four : Holds fourRule xs
+  pub five : Holds fiveRule xs
+  pub six : Holds sixRule xs
+  pub seven : Holds sevenRule xs
+  pub eight : Holds (eightRule (boxes xs)) xs
+  pub nine : Holds nineRule xs
+  pub ten : Holds tenRule xs
