@@ -4,4 +4,3 @@ pub mod Picture
 pub mod Replacing
 pub mod Keeping
 pub mod Kept
-pub mod Marked
