@@ -1,0 +1,33 @@
+// Rule 10 on an entry: in a track, whose time scale, handler and count of data references stand before it, and alone.
+use crate::named;
+use crate::on_records;
+use crate::print;
+use entries::rule;
+use entries::rule::Around;
+use heads::lend;
+use wire::number;
+
+// The largest frames_per_sample, and the one of an older release.
+const MOST: usize = 15;
+
+const WIDER: usize = 255;
+
+fn in_track(rest: &[u8], entry: &[u8]) -> usize {
+    let around = Around::Track {
+        scale: number::word32(rest, 0),
+        handler: number::word32(rest, 4),
+        references: number::word32(rest, 8),
+    };
+    rule::entry_rule(entry, around, MOST)
+}
+
+pub fn show(case: &[u8]) {
+    let rest = named::body(case);
+    let entry = lend::rest(rest, 12);
+    named::name(case);
+    print::say(b": track ", in_track(rest, entry));
+    print::say(b" alone ", rule::entry_rule(entry, Around::Alone, MOST));
+    print::say(b" wider ", rule::entry_rule(entry, Around::Alone, WIDER));
+    on_records::read_back(entry);
+    print::line();
+}
