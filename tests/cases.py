@@ -584,13 +584,14 @@ def size_of(stsz, sample):
     return number(stsz, 4, 4) or number(stsz, 12 + 4 * sample, 4)
 
 
-def show_chunks(stsc, stsz, stco):
-    """Each chunk: its number and first sample from 0, its offset, samples, description and bytes."""
+def show_chunks(stts, stsc, stsz, stco):
+    """Each chunk: its number and first sample from 0, its offset, samples, description, first tick and bytes."""
     offsets, runs, first, lines = items(stco, 4), items(stsc, 12), 0, []
+    deltas = [delta for count, delta in items(stts, 8) for sample in range(count)]
     for k, n in enumerate(chunk_samples(runs, len(offsets))):
         description = [description for start, per, description in runs if start <= k + 1][-1]
         length = sum(size_of(stsz, sample) for sample in range(first, first + n))
-        lines.append("chunk %d %d %d %d %d bytes %d" % (k, *offsets[k], first, n, description, length))
+        lines.append("chunk %d %d %d %d %d tick %d bytes %d" % (k, *offsets[k], first, n, description, sum(deltas[:first]), length))
         first += n
     return lines
 
@@ -606,7 +607,7 @@ def show_tables(name, entry_count, stts, stsc, stsz, stco):
     if not all(forms):
         return [line]
     fine = agree(stts, stsc, stsz, stco, entry_count)
-    return [line + " agree %d" % fine] + (show_chunks(stsc, stsz, stco) if fine else [])
+    return [line + " agree %d" % fine] + (show_chunks(stts, stsc, stsz, stco) if fine else [])
 
 
 def forms_of(make, one):

@@ -11,7 +11,7 @@ use tables::table;
 use tables::time;
 use wire::number;
 ghost use Prim.Native.Nat.{_+_, _≤_};
-ghost use Rattle.tables.specs.Tables.{count};
+ghost use Rattle.tables.specs.Tables.{Table, count};
 ghost use Rattle.tables.specs.Chunks.{Walkable, samplesOver};
 
 fn forms(stts: &[u8], stsc: &[u8], stsz: &[u8], stco: &[u8]) {
@@ -35,9 +35,9 @@ fn ticks(stts: &[u8]) {
     print::say(b" ticks ", sum.0 as usize);
 }
 
-// A chunk's number from 0, offset, first sample from 0, samples and description, and how many bytes it has.
-fn say_chunk(stsz: &[u8], found: Chunk)
-    requires { ⌜ found .first + found .samples ≤ 65536 ⌝ }
+// A chunk's number from 0, offset, first sample from 0, samples and description, its first tick, and how many bytes it has.
+fn say_chunk(stts: &[u8], stsz: &[u8], found: Chunk)
+    requires { ⌜ Table 8 (now stts) × (found .first + found .samples ≤ 65536) ⌝ }
 {
     let lies = chunk::extent_of(stsz, found);
     print::say(b"\nchunk ", found.number);
@@ -45,17 +45,19 @@ fn say_chunk(stsz: &[u8], found: Chunk)
     print::say(b" ", found.first);
     print::say(b" ", found.samples);
     print::say(b" ", found.description);
+    let tick = time::tick_at(stts, found.first);
+    print::say(b" tick ", tick.0 as usize);
     print::say(b" bytes ", lies.bytes);
 }
 
-fn chunks(stsc: &[u8], stsz: &[u8], stco: &[u8])
-    requires { ⌜ Walkable (now stsc) (now stco) × (samplesOver (now stsc) (count (now stco)) ≤ 65536) ⌝ }
+fn chunks(stts: &[u8], stsc: &[u8], stsz: &[u8], stco: &[u8])
+    requires { ⌜ Table 8 (now stts) × Walkable (now stsc) (now stco) × (samplesOver (now stsc) (count (now stco)) ≤ 65536) ⌝ }
 {
     let mut walk = ChunkWalk::start();
     loop {
         match walk.step(stsc, stco) {
             ChunkStep::Found(found, next) => {
-                say_chunk(stsz, found);
+                say_chunk(stts, stsz, found);
                 walk = next;
             }
             ChunkStep::End => {
@@ -83,7 +85,7 @@ fn agree(stts: &[u8], stsc: &[u8], stsz: &[u8], stco: &[u8], entries: usize) {
         return;
     }
     print::text(b" agree 1");
-    chunks(stsc, stsz, stco);
+    chunks(stts, stsc, stsz, stco);
 }
 
 // The count of sample entries, then `stts`, `stsc`, `stsz` and `stco`, each behind its length.

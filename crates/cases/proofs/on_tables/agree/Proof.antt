@@ -58,5 +58,5 @@ agree-spec = tie.close (tie.spec
     let forms = six _ _ _ _ _ _ _ _ (first .if1 .left) (first .before .table-form .ensures) (second .if2 .left) (second .before .table-form2 .ensures)
     (third .if3 .left) (third .before .sizes-form .ensures) (fourth .if4 .left) (fourth .before .table-form3 .ensures) in
     let s = seven-is _ _ _ _ _ forms (was-yea _ _ (fifth .if5 .left) (fifth .before .seven .ensures)) in
-    (s .walk, omega (arith, s .total, s .few)))
+    (forms .times, s .walk, omega (arith, s .total, s .few)))
     (λ c. search needs))

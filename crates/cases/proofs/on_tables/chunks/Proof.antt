@@ -13,10 +13,10 @@ use Rattle.cases.proofs.on_tables.chunks.Statement.{statement}
 use Rattle.cases.proofs.on_tables.chunks.Tie as tie
 
 abbrev Inv : tie.InvT-loop
-Inv stsc stsz stco walk₀ walk = (walk ≡ walkAt stsc (walk .chunk)) × (walk .chunk ≤ count stco)
+Inv stts stsc stsz stco walk₀ walk = (walk ≡ walkAt stsc (walk .chunk)) × (walk .chunk ≤ count stco)
 
 abbrev μ : tie.MeasureT-loop
-μ stsc stsz stco walk₀ walk = count stco - walk .chunk
+μ stts stsc stsz stco walk₀ walk = count stco - walk .chunk
 
 -- a chunk's samples are among those of all chunks
 few : (stsc stco : List ℕ) (k : ℕ) (found : Chunk) → found ≡ chunkAt stsc stco k → k < count stco → samplesOver stsc (count stco) ≤ 65536 → found .first + found .samples ≤ 65536
@@ -26,13 +26,13 @@ few stsc stco k found e h m = rw e (omega (arith, first-more stsc k, first-mono 
 pub chunks-spec : {M : Type 1} → statement M
 chunks-spec = tie.close (tie.spec Inv μ
     (λ c κs. search needs)
-    (λ c. let e = c .start .ensures ∙ walk-start _ (c .before .before .before .before .pre .0 .rising) in
+    (λ c. let e = c .start .ensures ∙ walk-start _ (c .before .before .before .before .before .pre .1 .rising) in
     (walk-is _ _ 0 e, omega (arith, walk-chunk _ _ 0 e)))
-    (λ c κs. (c .before .before .before .before .before .pre .0, c .loop .inv .0))
+    (λ c κs. (c .before .before .before .before .before .before .pre .1, c .loop .inv .0))
     (λ c. search needs)
     (λ c κs. let step = c .before .before .before in
     let f = found-is _ _ _ _ _ (sym (c .before .found .given .1) ∙ step .step .ensures) in
-    few _ _ _ _ (f .found) (f .inside) (step .before .before .before .before .before .before .pre .1))
+    (step .before .before .before .before .before .before .before .pre .0, few _ _ _ _ (f .found) (f .inside) (step .before .before .before .before .before .before .before .pre .2)))
     (λ c. let f = found-is _ _ _ _ _ (sym (c .before .before .found .given .1) ∙ c .before .before .before .before .step .ensures) in
     omega (arith, f .inside, f .moved))
     (λ c. let f = found-is _ _ _ _ _ (sym (c .before .before .found .given .1) ∙ c .before .before .before .before .step .ensures) in
