@@ -1,0 +1,60 @@
+-- The marked cases M1 to M11, as one table. (M12 joins with the edits.)
+use Prim.Native.Nat.{ℕ}
+use mathlib.Core.Bool.{Bool, true, _&&_}
+use mathlib.Core.List.{List, [], _∷_, _++_, map}
+use lib.Dec.{eqb}
+use Rattle.wire.specs.Numbers.{bytes}
+use Rattle.wire.specs.Codes.{SAMR, SAWB, SOUN}
+use Rattle.entries.specs.declared.rule.Around.the-variants.{Track, Alone}
+use Rattle.entries.specs.Entries.{entryRule}
+use Rattle.judge.specs.Judgement.{judged, number, place}
+
+-- M1 with another code, TimeScale, mode_set, period and frames, and whether it is accepted
+pub record Case : Type 0 where
+  pub code : ℕ
+  pub scale : ℕ
+  pub modes : ℕ
+  pub period : ℕ
+  pub frames : ℕ
+  pub fine : ℕ
+
+abbrev pub case : ℕ → ℕ → ℕ → ℕ → ℕ → ℕ → Case
+case code scale modes period frames fine = record { code = code; scale = scale; modes = modes; period = period; frames = frames; fine = fine }
+
+-- byte for byte as the paper has it
+abbrev pub entry : Case → List ℕ
+entry c =
+    bytes 4 0x00000035 ++ bytes 4 (c .code) ++ bytes 6 0x000000000000 ++ bytes 2 0x0001 ++ bytes 8 0x0000000000000000
+    ++ bytes 2 0x0002 ++ bytes 2 0x0010 ++ bytes 4 0x00000000 ++ bytes 2 (c .scale) ++ bytes 2 0x0000
+    ++ bytes 4 0x00000011 ++ bytes 4 0x64616D72 ++ bytes 4 0x5658595A ++ bytes 1 0x00
+    ++ bytes 2 (c .modes) ++ bytes 1 (c .period) ++ bytes 1 (c .frames)
+
+abbrev pub cases : List Case
+cases =
+    case SAMR 8000 0x81FF 0 1 1
+    ∷ case SAMR 8000 0x83FF 0 1 0
+    ∷ case SAWB 16000 0x83FF 0 1 1
+    ∷ case SAMR 8000 0x81FF 0 15 1
+    ∷ case SAMR 8000 0x81FF 0 16 0
+    ∷ case SAMR 8000 0x81FF 0 0 0
+    ∷ case SAMR 8000 0x81FF 2 6 1
+    ∷ case SAMR 8000 0x81FF 4 6 0
+    ∷ case SAMR 8000 0x81FF 6 2 1
+    ∷ []
+
+-- an entry, and whether it is accepted; a file, and its refusal with the place
+pub data Row : Type 0 where
+  ofEntry : Case → Row
+  ofFile : List ℕ → ℕ → ℕ → Row
+
+-- M1 to M9 are entries. M10: length 0. M11: eight bytes, size 0
+abbrev pub table : List Row
+table = map ofEntry cases ++ ofFile [] 1 0 ∷ ofFile (bytes 4 0 ++ bytes 4 0x66726565) 2 0 ∷ []
+
+abbrev pub asMarked : Row → Bool
+asMarked (ofEntry c) = eqb (entryRule (Track (c .scale) SOUN 1) 15 (entry c)) (c .fine) && eqb (entryRule Alone 15 (entry c)) (c .fine)
+asMarked (ofFile xs n p) = eqb (number (judged xs)) n && eqb (place (judged xs)) p
+
+abbrev pub allMarked : List Row → Bool
+allMarked [] = true
+allMarked (r ∷ l) = asMarked r && allMarked l
