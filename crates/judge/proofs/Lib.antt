@@ -2,3 +2,4 @@ pub mod Answers
 pub mod Order
 pub mod Says
 pub mod Exact
+pub mod Calls

@@ -5,6 +5,8 @@ use lib.ListN.{length}
 use Rattle.wire.specs.Tests.{ifLt}
 use Rattle.verdict.specs.declared.Verdict.{Verdict}
 use Rattle.verdict.specs.declared.Verdict.the-variants.{Fine, Bad}
+use Rattle.verdict.specs.declared.Answer.{Answer}
+use Rattle.verdict.specs.declared.Answer.the-variants as answer
 use Rattle.judge.specs.declared.Judgement.{Judgement}
 use Rattle.judge.specs.declared.Judgement.the-variants.{Accepted, Refused}
 use Rattle.judge.specs.Rules.{verdictOf}
@@ -35,3 +37,8 @@ judgedFrom (suc k) n xs = next n (verdictOf n xs) (judgedFrom k (n + 1) xs)
 -- rule 1: "Length is 8 to 1,048,576. Place 0."; then rules 2 to 10
 unfoldable pub judged : List ℕ → Judgement
 judged xs = ifLt (length xs) 8 (Refused 1 0) (ifLt LONGEST (length xs) (Refused 1 0) (judgedFrom 9 2 xs))
+
+-- "after 1 to 10": the answer of a call on a file that is accepted, else the refusal
+unfoldable pub whenAccepted : Judgement → Answer → Answer
+whenAccepted Accepted a = a
+whenAccepted (Refused n p) a = answer.Refused n p

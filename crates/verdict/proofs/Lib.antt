@@ -2,3 +2,4 @@ pub mod Places
 pub mod Acceptance
 pub mod Keeping
 pub mod Traverse
+pub mod Answers

@@ -2,3 +2,4 @@ pub mod Verdict
 pub mod Judge
 pub mod Rule
 pub mod Inner
+pub mod Answers

@@ -1,4 +1,4 @@
-// The verdict of a rule.
+// The verdict of a rule, and the answer of a call.
 ghost use mathlib.Core.Path.{_≡_};
 ghost use Rattle.verdict.specs.Verdict.{sooner as soonerOf};
 
@@ -6,6 +6,12 @@ ghost use Rattle.verdict.specs.Verdict.{sooner as soonerOf};
 pub enum Verdict {
     Fine,
     Bad(usize),
+}
+
+// What a call answers: that it is done, with a number, or a refusal's number and place.
+pub enum Answer {
+    Done(usize),
+    Refused(usize, usize),
 }
 
 // Of two verdicts the one with the lower place.

@@ -1,0 +1,25 @@
+-- What a call answers once it knows the judgement of its file. Assumes nothing.
+use Prim.Native.Nat.{ℕ, _≤_}
+use mathlib.Core.Path.{_≡_, sym, _∙_}
+use mathlib.Core.List.{List}
+use lib.ListN.{length}
+use Rattle.verdict.specs.declared.Answer.{Answer}
+use Rattle.verdict.specs.declared.Answer.the-variants as answer
+use Rattle.judge.specs.declared.Judgement.{Judgement}
+use Rattle.judge.specs.declared.Judgement.the-variants.{Accepted, Refused}
+use Rattle.judge.specs.Judgement.{LONGEST, judged, whenAccepted}
+use Rattle.judge.specs.Acceptance.{Meets}
+use Rattle.judge.proofs.Exact.{accepted-meets}
+
+module _ (xs : List ℕ) {j : Judgement} (e : j ≡ judged xs) where
+  pub when-accepted : (a : Answer) {r : Answer} → j ≡ Accepted → r ≡ a → r ≡ whenAccepted (judged xs) a
+  unfolding whenAccepted
+  when-accepted a f g = rw (← e, f, g)
+
+  pub when-refused : (a : Answer) {n p : ℕ} → j ≡ Refused n p → answer.Refused n p ≡ whenAccepted (judged xs) a
+  unfolding whenAccepted
+  when-refused a f = rw (← e, f)
+
+  -- what a call may go by then
+  pub met : j ≡ Accepted → Meets xs
+  met f = accepted-meets xs (sym e ∙ f)

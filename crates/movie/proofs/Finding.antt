@@ -1,0 +1,37 @@
+-- What is found in what was found. Assumes nothing.
+use Prim.Native.Nat.{ℕ, _≤_, _<_, _^_}
+use native.Mathlib.Omega.{arith}
+use mathlib.Core.Path.{_≡_}
+use mathlib.Core.List.{List}
+use lib.ListN.{length}
+use Rattle.wire.specs.Codes.{MOOV, TRAK, TKHD, MDIA, MDHD, HDLR, MINF, STBL}
+use Rattle.wire.specs.Numbers.{word}
+use Rattle.boxes.specs.Boxes.{boxes}
+use Rattle.boxes.specs.Seek.{count, nth, find}
+use Rattle.boxes.proofs.Placing.{found-short}
+use Rattle.movie.specs.Movie.{tracks, track, table, handler, scale, movieTicks, stbl}
+
+module _ (xs : List ℕ) {moov : List ℕ} (e : moov ≡ find MOOV (boxes xs)) where
+  pub tracks-are : {r : ℕ} → r ≡ count TRAK (boxes moov) → r ≤ length moov → (r ≡ tracks xs) × (r ≤ length xs)
+  tracks-are f h = (rw (f, e), omega (arith, h, found-short _ _ _ e))
+
+  pub track-is : (t : ℕ) {ys : List ℕ} → ys ≡ nth TRAK t (boxes moov) → (ys ≡ track xs t) × (length ys ≤ length xs)
+  unfolding track
+  track-is t f = (rw (f, e), omega (arith, found-short _ _ _ e, found-short _ _ _ f))
+
+module _ (b : List ℕ) {mdia : List ℕ} (e : mdia ≡ find MDIA (boxes b)) where
+  pub handler-is : {ys : List ℕ} {r : ℕ} → ys ≡ find HDLR (boxes mdia) → r ≡ word 4 ys 8 → r ≡ handler b
+  unfolding handler
+  handler-is f g = rw (g, f, e)
+
+  pub scale-is : {ys : List ℕ} {r : ℕ} → ys ≡ find MDHD (boxes mdia) → r ≡ word 4 ys 12 → r ≡ scale b
+  unfolding scale
+  scale-is f g = rw (g, f, e)
+
+  pub table-is : (c : ℕ) {minf ys zs : List ℕ} → minf ≡ find MINF (boxes mdia) → ys ≡ find STBL (boxes minf) → zs ≡ find c (boxes ys) → (zs ≡ table c b) × (length zs ≤ length b)
+  unfolding table
+  table-is c f g h = (rw (h, g, f, e), omega (arith, found-short _ _ _ e, found-short _ _ _ f, found-short _ _ _ g, found-short _ _ _ h))
+
+pub ticks-are : (b : List ℕ) {ys : List ℕ} {r : ℕ} → ys ≡ find TKHD (boxes b) → r ≡ word 4 ys 20 → r ≡ movieTicks b
+unfolding movieTicks
+ticks-are b f g = rw (g, f)

@@ -1,0 +1,48 @@
+-- The movie of a file: its tracks, in file order and from 0, and what each of them says.
+use Prim.Native.Nat.{ℕ, _+_}
+use mathlib.Core.List.{List}
+use Rattle.wire.specs.Codes.{MOOV, TRAK, TKHD, MDIA, MDHD, HDLR, MINF, STBL, STSD}
+use Rattle.wire.specs.Numbers.{word}
+use Rattle.boxes.specs.Box.{Box}
+use Rattle.boxes.specs.Boxes.{boxes}
+use Rattle.boxes.specs.Seek.{count, find, nth}
+
+-- the boxes of `moov`
+abbrev pub movie : List ℕ → List Box
+movie xs = boxes (find MOOV (boxes xs))
+
+abbrev pub tracks : List ℕ → ℕ
+tracks xs = count TRAK (movie xs)
+
+-- the payload of track t
+unfoldable pub track : List ℕ → ℕ → List ℕ
+track xs t = nth TRAK t (movie xs)
+
+-- ---- the boxes of a track's containers, by the track's payload b
+
+abbrev pub mdia : List ℕ → List Box
+mdia b = boxes (find MDIA (boxes b))
+
+abbrev pub minf : List ℕ → List Box
+minf b = boxes (find MINF (mdia b))
+
+abbrev pub stbl : List ℕ → List Box
+stbl b = boxes (find STBL (minf b))
+
+-- ---- what it says
+
+-- the payload of a box of its `stbl`
+unfoldable pub table : ℕ → List ℕ → List ℕ
+table c b = find c (stbl b)
+
+-- "hdlr has its type at 8"
+unfoldable pub handler : List ℕ → ℕ
+handler b = word 4 (find HDLR (mdia b)) 8
+
+-- "mvhd and mdhd have .. time scale at 12"
+unfoldable pub scale : List ℕ → ℕ
+scale b = word 4 (find MDHD (mdia b)) 12
+
+-- "movie ticks (the tkhd number at 20)"
+unfoldable pub movieTicks : List ℕ → ℕ
+movieTicks b = word 4 (find TKHD (boxes b)) 20
