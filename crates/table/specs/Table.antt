@@ -1,0 +1,41 @@
+-- The table writer: "takes a sheet and a track and gives one stsd box".
+use Prim.Native.Nat.{ℕ, _+_}
+use mathlib.Core.List.{List, [], _∷_, _++_}
+use lib.ListN.{length}
+use Rattle.wire.specs.Tests.{pick, ifEq, ifLt}
+use Rattle.wire.specs.Numbers.{bytes}
+use Rattle.wire.specs.Codes.{STSD}
+use Rattle.verdict.specs.declared.Answer.{Answer}
+use Rattle.verdict.specs.declared.Answer.the-variants.{Done, Refused}
+use Rattle.verdict.specs.Answers.{inRoom, outBy}
+use Rattle.movie.specs.Entries.{Entry}
+use Rattle.sheet.specs.Sheet.{SLOTS, bodies}
+use Rattle.table.specs.Form.{unsheet, formed}
+
+-- the entries of track t
+unfoldable pub own : ℕ → List Entry → List Entry
+own t [] = []
+own t (e ∷ es) = ifEq (e .track) t (e ∷ own t es) (own t es)
+
+-- "16 bytes, then that track's bodies": size, `stsd`, version and flags, count
+unfoldable pub table : List Entry → List ℕ
+table es = bytes 4 (16 + length (bodies es)) ++ bytes 4 STSD ++ bytes 4 0 ++ bytes 4 (length es) ++ bodies es
+
+unfoldable pub tableOf : ℕ → List ℕ → ℕ → List ℕ
+tableOf k xs t = table (own t (unsheet k xs))
+
+-- the longest result
+abbrev pub LONGEST : ℕ
+LONGEST = 1048576
+
+-- "30, then 20 (track 0 or above the sheet's highest), then 24, then 25"
+unfoldable pub tableAnswer : ℕ → List ℕ → ℕ → List ℕ → Answer
+tableAnswer k xs t out =
+    pick (formed k xs)
+    (ifEq (length (own t (unsheet k xs))) 0 (Refused 20 0)
+    (ifLt LONGEST (length (tableOf k xs t)) (Refused 24 0)
+    (inRoom (tableOf k xs t) out)))
+    (Refused 30 0)
+
+abbrev pub tableOut : ℕ → List ℕ → ℕ → List ℕ → List ℕ
+tableOut k xs t out = outBy (tableAnswer k xs t out) (tableOf k xs t) out
