@@ -3,3 +3,4 @@ pub mod Order
 pub mod Says
 pub mod Exact
 pub mod Calls
+pub mod Editable

@@ -3,14 +3,14 @@ use mathlib.Core.List.{List}
 use Rattle.wire.specs.Tests.{ifEq}
 use Rattle.boxes.specs.Box.{Box}
 use Rattle.verdict.specs.Rule.{Says}
-use Rattle.shape.specs.Rules.{twoRule, threeRule}
+use Rattle.shape.specs.Rules.{twoRule, threeRule, plainRule}
 use Rattle.headers.specs.Four.{fourRule}
 use Rattle.lists.specs.Rules.{fiveRule, nineRule}
 use Rattle.tracks.specs.Six.{sixRule}
 use Rattle.tracks.specs.Seven.{sevenRule}
 use Rattle.tracks.specs.Eight.{eightRule}
 use Rattle.descriptions.specs.Ten.{tenRule}
-use Rattle.shape.proofs.Keeping.{two-says, three-says}
+use Rattle.shape.proofs.Keeping.{two-says, three-says, plain-says}
 use Rattle.headers.proofs.Rule4.{four-says}
 use Rattle.lists.proofs.Rules.{five-says, nine-says}
 use Rattle.tracks.proofs.Kept.{six-says, seven-says}
@@ -54,3 +54,7 @@ module _ (l : List Box) where
   pub says-10 : Says (judgeBy 10 l) tenRule
   unfolding leafBy nodeBy endBy ifEq
   says-10 = record { leaf = ten-says .leaf; node = ten-says .node; end = ten-says .end }
+
+  pub says-23 : Says (judgeBy 23 l) plainRule
+  unfolding leafBy nodeBy endBy ifEq
+  says-23 = record { leaf = plain-says .leaf; node = plain-says .node; end = plain-says .end }

@@ -1,13 +1,13 @@
 -- Acceptance without places: each rule holds of the whole file.
 use Prim.Native.Nat.{ℕ, _≤_}
 use mathlib.Core.Path.{_≡_}
-use mathlib.Core.Bool.{true}
+use mathlib.Core.Bool.{Bool, true}
 use mathlib.Core.List.{List}
 use lib.ListN.{length}
 use Rattle.boxes.specs.Boxes.{boxes}
 use Rattle.boxes.specs.Containers.{FILE, DEPTH}
 use Rattle.verdict.specs.Rule.{Rule, allIn}
-use Rattle.shape.specs.Rules.{twoRule, threeRule}
+use Rattle.shape.specs.Rules.{twoRule, threeRule, plainRule}
 use Rattle.headers.specs.Four.{fourRule}
 use Rattle.lists.specs.Rules.{fiveRule, nineRule}
 use Rattle.tracks.specs.Six.{sixRule}
@@ -32,3 +32,7 @@ pub record Meets (xs : List ℕ) : Type 0 where
   pub eight : Holds (eightRule (boxes xs)) xs
   pub nine : Holds nineRule xs
   pub ten : Holds tenRule xs
+
+-- an edit takes the file: refusal 23 lets it pass
+abbrev pub plain : List ℕ → Bool
+plain xs = allIn plainRule DEPTH FILE xs

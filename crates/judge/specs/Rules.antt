@@ -8,7 +8,7 @@ use Rattle.boxes.specs.Containers.{FILE, DEPTH}
 use Rattle.verdict.specs.declared.Verdict.{Verdict}
 use Rattle.verdict.specs.declared.Verdict.the-variants.{Fine, Bad}
 use Rattle.verdict.specs.Judge.{Judge, judgeIn}
-use Rattle.shape.specs.Rules.{two, three}
+use Rattle.shape.specs.Rules.{two, three, plain}
 use Rattle.headers.specs.Four.{four}
 use Rattle.lists.specs.Rules.{five, nine}
 use Rattle.tracks.specs.Six.{six}
@@ -24,7 +24,7 @@ leafBy n k c b p q =
     (ifEq n 6 (six .leaf k c b p q)
     (ifEq n 9 (nine .leaf k c b p q) Fine)))
 
--- rules 3, 4, 5, 7, 8 and 10 look at containers, rule 8 in a file with the boxes l
+-- rules 3, 4, 5, 7, 8 and 10 and refusal 23 look at containers, rule 8 in a file with the boxes l
 unfoldable pub nodeBy : ℕ → List Box → ℕ → List ℕ → ℕ → ℕ → Verdict
 nodeBy n l k xs home p =
     ifEq n 3 (three .node k xs home p)
@@ -32,7 +32,8 @@ nodeBy n l k xs home p =
     (ifEq n 5 (five .node k xs home p)
     (ifEq n 7 (seven .node k xs home p)
     (ifEq n 8 (eight l .node k xs home p)
-    (ifEq n 10 (ten .node k xs home p) Fine)))))
+    (ifEq n 10 (ten .node k xs home p)
+    (ifEq n 23 (plain .node k xs home p) Fine))))))
 
 -- rule 2 looks at what is past the last whole box
 unfoldable pub endBy : ℕ → List ℕ → ℕ → Verdict

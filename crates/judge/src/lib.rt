@@ -5,6 +5,8 @@ use verdict::Verdict;
 ghost use mathlib.Core.Path.{_≡_};
 ghost use Prim.Native.Nat.{_+_, _≤_};
 ghost use lib.ListN.{length};
+ghost use Rattle.wire.specs.Clauses.{oneIf};
+ghost use Rattle.judge.specs.Acceptance.{plain as plainOf};
 ghost use Rattle.judge.specs.Rules.{verdictOf};
 ghost use Rattle.judge.specs.Judgement.{judged};
 
@@ -55,4 +57,15 @@ pub fn judge(file: &[u8]) -> Judgement
         }
     }
     Judgement::Accepted
+}
+
+// Whether an edit takes a file, which refusal 23 asks: 1 or 0.
+pub fn plain(file: &[u8]) -> usize
+    requires { ⌜ length (now file) ≤ 1048576 ⌝ }
+    ensures { λ r. ⌜ r ≡ oneIf (plainOf (now (file .entry))) ⌝ }
+{
+    match verdict_of(23, file) {
+        Verdict::Fine => 1,
+        Verdict::Bad(_) => 0,
+    }
 }

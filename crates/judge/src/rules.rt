@@ -66,6 +66,9 @@ fn node_by(n: usize, file: &[u8], k: usize, part: &[u8], home: usize, base: usiz
     if n == 10 {
         return descriptions::ten_at(k, part, base);
     }
+    if n == 23 {
+        return unless(shape::plain_of(k, part), home);
+    }
     Verdict::Fine
 }
 

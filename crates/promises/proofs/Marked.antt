@@ -25,7 +25,7 @@ use Rattle.entries.specs.Decoders.{boxRule, strayModes, periodRule, framesRule,
 use Rattle.entries.specs.Entries.{trackRule, esdsRule, avcRule, insideRule, ruleAs, entryRule}
 use Rattle.verdict.specs.Judge.{judgeList, judgeBox, judgeIn}
 use Rattle.verdict.specs.Verdict.{sooner, unless}
-use Rattle.shape.specs.Shape.{needed, ones, first, besides, shape}
+use Rattle.shape.specs.Shape.{needed, exactly, first, besides, shape}
 use Rattle.lists.specs.Forms.{listForm, formIn}
 use Rattle.lists.specs.Totals.{follow, brokenAt, entriesOf, entries, overMost}
 use Rattle.lists.specs.Urls.{isUrl}
@@ -40,5 +40,5 @@ use Rattle.judge.specs.Judgement.{next, judgedFrom, judged}
 use Rattle.judge.specs.Rules.{leafBy, nodeBy, endBy, verdictOf}
 
 pub marked : allMarked table ≡ true
-unfolding isEq isLt isLe every oneIf bytesOn bytes word same sumTo allTo ifEq ifLt ifLe header write whole boxes total after parent kindIn tilingOf meant count nth placeBy placeIn startIn samplesIn firstSample chunkAt extentOf descriptionOf emptyTogether seven rises runFine runsFine runAmong runOf listed sizeAt bytesFrom hasForm timedTo mdats within past resolve inAt chunkIn chunksIn boxHeader commonHead audioHead visualStart visualHead headSize nameIn begins headRule kindOf handlerOf boxRule strayModes periodRule framesRule damrRule d263Rule recordRule trackRule esdsRule avcRule insideRule ruleAs entryRule judgeList judgeBox judgeIn sooner unless needed ones first besides shape listForm formIn follow brokenAt entriesOf entries overMost isUrl brandsForm headForm handlerForm ifBox form tracksIn identity fresh tkhdPlace freshTo eightHolds eightAt sevenHolds sevenIn tableOf tableIn sixHolds aroundIn stsdStart meets entriesFrom tenAt next judgedFrom judged leafBy nodeBy endBy verdictOf
+unfolding isEq isLt isLe every oneIf bytesOn bytes word same sumTo allTo ifEq ifLt ifLe header write whole boxes total after parent kindIn tilingOf meant count nth placeBy placeIn startIn samplesIn firstSample chunkAt extentOf descriptionOf emptyTogether seven rises runFine runsFine runAmong runOf listed sizeAt bytesFrom hasForm timedTo mdats within past resolve inAt chunkIn chunksIn boxHeader commonHead audioHead visualStart visualHead headSize nameIn begins headRule kindOf handlerOf boxRule strayModes periodRule framesRule damrRule d263Rule recordRule trackRule esdsRule avcRule insideRule ruleAs entryRule judgeList judgeBox judgeIn sooner unless needed exactly first besides shape listForm formIn follow brokenAt entriesOf entries overMost isUrl brandsForm headForm handlerForm ifBox form tracksIn identity fresh tkhdPlace freshTo eightHolds eightAt sevenHolds sevenIn tableOf tableIn sixHolds aroundIn stsdStart meets entriesFrom tenAt next judgedFrom judged leafBy nodeBy endBy verdictOf
 marked = refl

@@ -1,4 +1,4 @@
--- Rules 2 and 3 with places say what they say without; any edit of opaque boxes keeps both. Assumes nothing.
+-- Rules 2 and 3 and refusal 23 with places say what they say without; any edit of opaque boxes keeps them. Assumes nothing.
 use Prim.Native.Nat.{ℕ}
 use native.Mathlib.Omega.{arith}
 use mathlib.Core.Path.{_≡_, refl, sym, _∙_}
@@ -15,8 +15,8 @@ use Rattle.boxes.proofs.Kin.{kin-codes, kin-count}
 use Rattle.verdict.specs.Rule.{Says, allIn}
 use Rattle.verdict.proofs.Places.{unless-fine}
 use Rattle.verdict.proofs.Keeping.{keep}
-use Rattle.shape.specs.Shape.{needed, ones, first, besides, shape}
-use Rattle.shape.specs.Rules.{two, twoRule, three, threeRule}
+use Rattle.shape.specs.Shape.{needed, barred, exactly, first, besides, shape}
+use Rattle.shape.specs.Rules.{two, twoRule, three, threeRule, plain, plainRule}
 
 pub two-says : Says two twoRule
 two-says = record { leaf = λ k c b p q. refl; node = λ k xs home p. refl; end = λ xs p. unless-fine (isEq (length xs) 0) p }
@@ -24,13 +24,16 @@ two-says = record { leaf = λ k c b p q. refl; node = λ k xs home p. refl; end 
 pub three-says : Says three threeRule
 three-says = record { leaf = λ k c b p q. refl; node = λ k xs home p. unless-fine (shape k (boxes xs)) home; end = λ xs p. refl }
 
+pub plain-says : Says plain plainRule
+plain-says = record { leaf = λ k c b p q. refl; node = λ k xs home p. unless-fine (exactly 0 (barred k) (boxes xs)) home; end = λ xs p. refl }
+
 -- ---- lists of boxes with the same codes
 
 module _ (l m : List Box) (counts : (c : ℕ) → count c l ≡ count c m) where
-  same-ones : (cs : List ℕ) → ones cs l ≡ ones cs m
-  unfolding ones
-  same-ones [] = refl
-  same-ones (c ∷ cs) = rw (counts c, same-ones cs)
+  pub same-exactly : (n : ℕ) (cs : List ℕ) → exactly n cs l ≡ exactly n cs m
+  unfolding exactly
+  same-exactly n [] = refl
+  same-exactly n (c ∷ cs) = rw (counts c, same-exactly n cs)
 
 same-first : (l m : List Box) → map (λ x. x .code) l ≡ map (λ x. x .code) m → first l ≡ first m
 unfolding first
@@ -41,7 +44,7 @@ same-first (x ∷ l) (y ∷ m) e = cc
 
 pub same-shape : (l m : List Box) → map (λ x. x .code) l ≡ map (λ x. x .code) m → ((c : ℕ) → count c l ≡ count c m) → (k : ℕ) → shape k l ≡ shape k m
 unfolding shape besides
-same-shape l m e h k = rw (same-ones l m h (needed k), same-first l m e, h TRAK)
+same-shape l m e h k = rw (same-exactly l m h 1 (needed k), same-first l m e, h TRAK)
 
 -- ---- what an edit keeps
 
@@ -51,3 +54,6 @@ module _ (G : Leaf) (d k : ℕ) (xs ys : List ℕ) (a : Kin G d k xs ys) where
 
   pub kin-3 : allIn threeRule d k xs ≡ true → allIn threeRule d k ys ≡ true
   kin-3 = keep threeRule threeRule G (λ k c b b′ z g t. t) (λ d k xs ys a t. sym (same-shape (boxes xs) (boxes ys) (kin-codes G d k xs ys a) (kin-count G d k xs ys a) k) ∙ t) (λ xs t. t) d k xs ys a
+
+  pub kin-plain : allIn plainRule d k xs ≡ true → allIn plainRule d k ys ≡ true
+  kin-plain = keep plainRule plainRule G (λ k c b b′ z g t. t) (λ d k xs ys a t. sym (same-exactly (boxes xs) (boxes ys) (kin-count G d k xs ys a) 0 (barred k)) ∙ t) (λ xs t. t) d k xs ys a

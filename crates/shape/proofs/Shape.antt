@@ -19,27 +19,27 @@ use Rattle.boxes.specs.Boxes.{boxes}
 use Rattle.boxes.specs.Containers.{FILE}
 use Rattle.boxes.specs.Walk.{Ran, Over}
 use Rattle.boxes.specs.Seek.{count}
-use Rattle.shape.specs.Shape.{needed, ones, first, besides, shape}
+use Rattle.shape.specs.Shape.{needed, barred, exactly, first, besides, shape}
 
--- there is one box of each code before the i-th: all hold where the rest do
-pub record Asked (cs : List ℕ) (l : List Box) (i : ℕ) : Type 0 where
-  pub is : ones cs l ≡ ones (drop i cs) l
+-- there are n boxes of each code before the i-th: all hold where the rest do
+pub record Asked (n : ℕ) (cs : List ℕ) (l : List Box) (i : ℕ) : Type 0 where
+  pub is : exactly n cs l ≡ exactly n (drop i cs) l
   pub inside : i ≤ length cs
 
-pub asked-none : (cs : List ℕ) (l : List Box) → Asked cs l 0
-asked-none cs l = record { is = refl; inside = omega arith }
+pub asked-none : (n : ℕ) (cs : List ℕ) (l : List Box) → Asked n cs l 0
+asked-none n cs l = record { is = refl; inside = omega arith }
 
-module _ {cs : List ℕ} {l : List Box} {i : ℕ} (a : Asked cs l i) where
-  pub asked-more : i < length cs → count (getD cs i 0) l ≡ 1 → Asked cs l (i + 1)
-  unfolding ones
-  asked-more h e = record { is = a .is ∙ rw (add-one, drop-cons cs i 0 h, is-eq (count (getD cs i 0) l) 1 e); inside = omega arith }
+module _ {n : ℕ} {cs : List ℕ} {l : List Box} {i : ℕ} (a : Asked n cs l i) where
+  pub asked-more : i < length cs → count (getD cs i 0) l ≡ n → Asked n cs l (i + 1)
+  unfolding exactly
+  asked-more h e = record { is = a .is ∙ rw (add-one, drop-cons cs i 0 h, is-eq (count (getD cs i 0) l) n e); inside = omega arith }
 
-  pub asked-bad : i < length cs → (count (getD cs i 0) l ≡ 1 → ⊥) → false ≡ ones cs l
-  unfolding ones
-  asked-bad h e = sym (a .is ∙ rw (drop-cons cs i 0 h, not-eq (count (getD cs i 0) l) 1 e))
+  pub asked-bad : i < length cs → (count (getD cs i 0) l ≡ n → ⊥) → false ≡ exactly n cs l
+  unfolding exactly
+  asked-bad h e = sym (a .is ∙ rw (drop-cons cs i 0 h, not-eq (count (getD cs i 0) l) n e))
 
-  pub asked-all : length cs ≤ i → true ≡ ones cs l
-  unfolding ones
+  pub asked-all : length cs ≤ i → true ≡ exactly n cs l
+  unfolding exactly
   asked-all h =
       let e : i ≡ length cs = omega (arith, a .inside) in
       sym (a .is ∙ rw (e, drop-length cs))
@@ -56,29 +56,29 @@ first-none xs o = rw (o .list)
 
 -- ---- the codes that a kind needs
 
-pub ones-at : (k c : ℕ) (l : List Box) {r : ℕ} → k ≡ c → r ≡ oneIf (ones (needed c) l) → r ≡ oneIf (ones (needed k) l)
+pub ones-at : (k c : ℕ) (l : List Box) {r : ℕ} → k ≡ c → r ≡ oneIf (exactly 1 (needed c) l) → r ≡ oneIf (exactly 1 (needed k) l)
 ones-at k c l e q = rw e q
 
 -- a kind that is no container's needs none
-pub ones-none : (k : ℕ) (l : List Box) → (k ≡ FILE → ⊥) → (k ≡ MOOV → ⊥) → (k ≡ TRAK → ⊥) → (k ≡ MDIA → ⊥) → (k ≡ MINF → ⊥) → (k ≡ DINF → ⊥) → (k ≡ STBL → ⊥) → true ≡ ones (needed k) l
-unfolding ones needed
+pub ones-none : (k : ℕ) (l : List Box) → (k ≡ FILE → ⊥) → (k ≡ MOOV → ⊥) → (k ≡ TRAK → ⊥) → (k ≡ MDIA → ⊥) → (k ≡ MINF → ⊥) → (k ≡ DINF → ⊥) → (k ≡ STBL → ⊥) → true ≡ exactly 1 (needed k) l
+unfolding exactly needed
 ones-none k l a b c d e f g =
     let n : [] ≡ needed k = eq-nay _ _ _ _ _ a (eq-nay _ _ _ _ _ b (eq-nay _ _ _ _ _ c (eq-nay _ _ _ _ _ d (eq-nay _ _ _ _ _ e (eq-nay _ _ _ _ _ f (eq-nay _ _ _ _ _ g refl)))))) in
     rw (← n)
 
 -- ---- what rule 3 says
 
-pub ones-is : (i : ℕ) (cs : List ℕ) (l : List Box) → ones cs l ≡ true → i < length cs → count (getD cs i 0) l ≡ 1
-unfolding ones
-ones-is i [] l e h = absurd (omega arith)
-ones-is zero (c ∷ cs) l e h = eq-is _ _ (both _ _ e .0)
-ones-is (suc i) (c ∷ cs) l e h = ones-is i cs l (both (isEq (count c l) 1) _ e .1) (omega arith)
+pub exactly-is : (n i : ℕ) (cs : List ℕ) (l : List Box) → exactly n cs l ≡ true → i < length cs → count (getD cs i 0) l ≡ n
+unfolding exactly
+exactly-is n i [] l e h = absurd (omega arith)
+exactly-is n zero (c ∷ cs) l e h = eq-is _ _ (both _ _ e .0)
+exactly-is n (suc i) (c ∷ cs) l e h = exactly-is n i cs l (both (isEq (count c l) n) _ e .1) (omega arith)
 
 module _ (l : List Box) where
   -- one box of the i-th code that a container needs
   pub shape-one : (k i : ℕ) → shape k l ≡ true → i < length (needed k) → count (getD (needed k) i 0) l ≡ 1
   unfolding shape
-  shape-one k i e h = ones-is i (needed k) l (clause 0 _ e) h
+  shape-one k i e h = exactly-is 1 i (needed k) l (clause 0 _ e) h
 
   pub shape-first : shape FILE l ≡ true → first l ≡ FTYP
   unfolding shape besides ifEq
@@ -87,3 +87,14 @@ module _ (l : List Box) where
   pub shape-tracks : shape MOOV l ≡ true → (1 ≤ count TRAK l) × (count TRAK l ≤ 4)
   unfolding shape besides ifEq
   shape-tracks e = (le-is _ _ (clause 0 _ (clause 1 _ e)), le-is _ _ (clause 1 _ (clause 1 _ e)))
+
+-- ---- refusal 23
+
+pub barred-at : (k c : ℕ) (l : List Box) {r : ℕ} → k ≡ c → r ≡ oneIf (exactly 0 (barred c) l) → r ≡ oneIf (exactly 0 (barred k) l)
+barred-at k c l e q = rw e q
+
+pub barred-none : (k : ℕ) (l : List Box) → (k ≡ FILE → ⊥) → (k ≡ MOOV → ⊥) → (k ≡ TRAK → ⊥) → (k ≡ STBL → ⊥) → true ≡ exactly 0 (barred k) l
+unfolding exactly barred
+barred-none k l a b c d =
+    let n : [] ≡ barred k = eq-nay _ _ _ _ _ a (eq-nay _ _ _ _ _ b (eq-nay _ _ _ _ _ c (eq-nay _ _ _ _ _ d refl))) in
+    rw (← n)

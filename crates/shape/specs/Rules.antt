@@ -1,4 +1,4 @@
--- Rules 2 and 3, with places and without.
+-- Rules 2 and 3 and refusal 23, with places and without.
 use mathlib.Core.Bool.{true}
 use lib.ListN.{length}
 use Rattle.wire.specs.Clauses.{isEq}
@@ -7,7 +7,7 @@ use Rattle.verdict.specs.declared.Verdict.the-variants.{Fine}
 use Rattle.verdict.specs.Verdict.{unless}
 use Rattle.verdict.specs.Judge.{Judge}
 use Rattle.verdict.specs.Rule.{Rule}
-use Rattle.shape.specs.Shape.{shape}
+use Rattle.shape.specs.Shape.{shape, barred, exactly}
 
 -- rule 2: boxes tile the file and each container, so that nothing stands past the last whole box
 abbrev pub two : Judge
@@ -22,3 +22,10 @@ three = record { leaf = λ k c b p q. Fine; node = λ k xs home p. unless (shape
 
 abbrev pub threeRule : Rule
 threeRule = record { leaf = λ k c b. true; node = λ k xs. shape k (boxes xs); end = λ xs. true }
+
+-- refusal 23: no container has a box that an edit doesn't take
+abbrev pub plain : Judge
+plain = record { leaf = λ k c b p q. Fine; node = λ k xs home p. unless (exactly 0 (barred k) (boxes xs)) home; end = λ xs p. Fine }
+
+abbrev pub plainRule : Rule
+plainRule = record { leaf = λ k c b. true; node = λ k xs. exactly 0 (barred k) (boxes xs); end = λ xs. true }

@@ -4,7 +4,7 @@ use mathlib.Core.Bool.{Bool, true, false}
 use mathlib.Core.List.{List, [], _∷_}
 use Rattle.wire.specs.Tests.{pick, ifEq}
 use Rattle.wire.specs.Clauses.{isEq, isLe, every}
-use Rattle.wire.specs.Codes.{FTYP, MOOV, MVHD, TRAK, TKHD, MDIA, MDHD, HDLR, MINF, DINF, DREF, STBL, STSD, STTS, STSC, STSZ, STCO}
+use Rattle.wire.specs.Codes.{FTYP, MOOV, MVHD, TRAK, TKHD, MDIA, MDHD, HDLR, MINF, DINF, DREF, STBL, STSD, STTS, STSC, STSZ, STCO, MOOF, MFRA, SIDX, META, CO64, SAIO}
 use Rattle.boxes.specs.Box.{Box}
 use Rattle.boxes.specs.Containers.{FILE}
 use Rattle.boxes.specs.Seek.{count}
@@ -20,10 +20,10 @@ needed k =
     (ifEq k DINF (DREF ∷ [])
     (ifEq k STBL (STSD ∷ STTS ∷ STSC ∷ STSZ ∷ STCO ∷ []) []))))))
 
--- exactly one box of each code
-unfoldable pub ones : List ℕ → List Box → Bool
-ones [] l = true
-ones (c ∷ cs) l = pick (isEq (count c l) 1) (ones cs l) false
+-- exactly n boxes of each code
+unfoldable pub exactly : ℕ → List ℕ → List Box → Bool
+exactly n [] l = true
+exactly n (c ∷ cs) l = pick (isEq (count c l) n) (exactly n cs l) false
 
 -- the code of the first box, and 0 where there is none
 unfoldable pub first : List Box → ℕ
@@ -38,4 +38,15 @@ besides k l =
 
 -- the boxes l of a container of kind k are those of rule 3
 unfoldable pub shape : ℕ → List Box → Bool
-shape k l = every (ones (needed k) l ∷ besides k l ∷ [])
+shape k l = every (exactly 1 (needed k) l ∷ besides k l ∷ [])
+
+-- ---- refusal 23
+
+-- the codes of which a container of kind k has none where an edit takes the file: "top-level moof, mfra, sidx or meta, meta
+-- directly in moov or trak, or co64 or saio in an stbl"
+unfoldable pub barred : ℕ → List ℕ
+barred k =
+    ifEq k FILE (MOOF ∷ MFRA ∷ SIDX ∷ META ∷ [])
+    (ifEq k MOOV (META ∷ [])
+    (ifEq k TRAK (META ∷ [])
+    (ifEq k STBL (CO64 ∷ SAIO ∷ []) [])))

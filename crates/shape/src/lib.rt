@@ -1,4 +1,4 @@
-// Rule 3 of one container: which boxes it has to have, and how many.
+// Rule 3 and refusal 23 of one container: which boxes it has to have, or may not have.
 use boxes::containers::FILE;
 use boxes::seek;
 use boxes::walk::Step;
@@ -7,15 +7,15 @@ use wire::codes;
 ghost use mathlib.Core.Path.{_≡_};
 ghost use Rattle.wire.specs.Clauses.{oneIf};
 ghost use Rattle.boxes.specs.Boxes.{boxes};
-ghost use Rattle.shape.specs.Shape.{ones as onesOf, needed, first, besides as besidesOf, shape};
+ghost use Rattle.shape.specs.Shape.{exactly as exactlyOf, needed, barred, first, besides as besidesOf, shape};
 
-// Whether a part has exactly one box of each code: 1 or 0.
-fn ones(part: &[u8], list: &[usize]) -> usize
-    ensures { λ r. ⌜ r ≡ oneIf (onesOf (now (list .entry)) (boxes (now (part .entry)))) ⌝ }
+// Whether a part has exactly n boxes of each code: 1 or 0.
+fn exactly(n: usize, part: &[u8], list: &[usize]) -> usize
+    ensures { λ r. ⌜ r ≡ oneIf (exactlyOf n (now (list .entry)) (boxes (now (part .entry)))) ⌝ }
 {
     let mut i = 0;
     while i < list.len() {
-        if seek::count(part, list[i]) != 1 {
+        if seek::count(part, list[i]) != n {
             return 0;
         }
         i += 1;
@@ -25,28 +25,29 @@ fn ones(part: &[u8], list: &[usize]) -> usize
 
 // Whether a container of kind k has exactly one of each box that it needs: 1 or 0.
 fn one_each(k: usize, part: &[u8]) -> usize
-    ensures { λ r. ⌜ r ≡ oneIf (onesOf (needed k) (boxes (now (part .entry)))) ⌝ }
+    ensures { λ r. ⌜ r ≡ oneIf (exactlyOf 1 (needed k) (boxes (now (part .entry)))) ⌝ }
 {
     if k == FILE {
-        return ones(part, &[codes::FTYP, codes::MOOV]);
+        return exactly(1, part, &[codes::FTYP, codes::MOOV]);
     }
     if k == codes::MOOV {
-        return ones(part, &[codes::MVHD]);
+        return exactly(1, part, &[codes::MVHD]);
     }
     if k == codes::TRAK {
-        return ones(part, &[codes::TKHD, codes::MDIA]);
+        return exactly(1, part, &[codes::TKHD, codes::MDIA]);
     }
     if k == codes::MDIA {
-        return ones(part, &[codes::MDHD, codes::HDLR, codes::MINF]);
+        return exactly(1, part, &[codes::MDHD, codes::HDLR, codes::MINF]);
     }
     if k == codes::MINF {
-        return ones(part, &[codes::DINF, codes::STBL]);
+        return exactly(1, part, &[codes::DINF, codes::STBL]);
     }
     if k == codes::DINF {
-        return ones(part, &[codes::DREF]);
+        return exactly(1, part, &[codes::DREF]);
     }
     if k == codes::STBL {
-        return ones(
+        return exactly(
+            1,
             part,
             &[
                 codes::STSD,
@@ -104,6 +105,29 @@ pub fn shape_of(k: usize, part: &[u8]) -> usize
     }
     if besides(k, part) == 0 {
         return 0;
+    }
+    1
+}
+
+// Whether a container of kind k has none of the boxes that no edit takes: 1 or 0.
+pub fn plain_of(k: usize, part: &[u8]) -> usize
+    ensures { λ r. ⌜ r ≡ oneIf (exactlyOf 0 (barred k) (boxes (now (part .entry)))) ⌝ }
+{
+    if k == FILE {
+        return exactly(
+            0,
+            part,
+            &[codes::MOOF, codes::MFRA, codes::SIDX, codes::META],
+        );
+    }
+    if k == codes::MOOV {
+        return exactly(0, part, &[codes::META]);
+    }
+    if k == codes::TRAK {
+        return exactly(0, part, &[codes::META]);
+    }
+    if k == codes::STBL {
+        return exactly(0, part, &[codes::CO64, codes::SAIO]);
     }
     1
 }

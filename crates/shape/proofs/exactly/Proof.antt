@@ -1,4 +1,4 @@
--- The invariant: the codes before the i-th have one box each.
+-- The invariant: the codes before the i-th have n boxes each.
 use borrow.Author.Needs.{needs}
 use Prim.Native.Nat.{_-_}
 use Rattle.boxes.specs.Boxes.{boxes}
@@ -6,18 +6,18 @@ use Rattle.shape.proofs.Shape.{Asked, asked-none, asked-more, asked-bad
 use Rattle.wire.proofs.Clauses.{yea, nay}
 use lib.ListN.{length}
 use native.Mathlib.Omega.{arith}
-use Rattle.shape.proofs.ones.Statement.{statement}
-use Rattle.shape.proofs.ones.Tie as tie
+use Rattle.shape.proofs.exactly.Statement.{statement}
+use Rattle.shape.proofs.exactly.Tie as tie
 
 abbrev Inv : tie.InvT-loop
-Inv part list i₀ i = Asked list (boxes part) i
+Inv n part list i₀ i = Asked n list (boxes part) i
 
 abbrev μ : tie.MeasureT-loop
-μ part list i₀ i = length list - i
+μ n part list i₀ i = length list - i
 
-pub ones-spec : {M : Type 1} → statement M
-ones-spec = tie.close (tie.spec Inv μ
-    (λ c. asked-none _ _)
+pub exactly-spec : {M : Type 1} → statement M
+exactly-spec = tie.close (tie.spec Inv μ
+    (λ c. asked-none _ _ _)
     (λ c. search needs)
     (λ c. search needs)
     (λ c κs. search needs)

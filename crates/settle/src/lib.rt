@@ -1,0 +1,1 @@
+// The chunk offsets of a file that was edited.
