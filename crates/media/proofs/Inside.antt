@@ -67,13 +67,14 @@ module _ {xs : List ℕ} {o n at : ℕ} (a : Ahead xs o n at) where
     sized : size (boxAt xs b) ≡ b .size
     sized = omega (arith, length-payload s, s .least)
 
-    pub ahead-more : w .at < o → Ahead xs o n (w .at)
-    ahead-more h =
-        let e : o - at - b .size ≡ o - w .at = omega (arith, s .next) in
+    pub ahead-more : {end : ℕ} → end ≡ b .at + b .size → end < o → Ahead xs o n end
+    ahead-more {end} q h =
+        let i : w .at ≡ end = omega (arith, s .next, s .start) in
+        let e : o - at - b .size ≡ o - end = omega (arith, s .start) in
         record {
-          left = a .left ∙ rw (s .list) (in-past (boxAt xs b) (boxes (drop (w .at) xs)) (o - at) n (omega (arith, sized, s .next)) ∙ rw (sized, e));
+          left = a .left ∙ rw (s .list) (in-past (boxAt xs b) (boxes (drop (w .at) xs)) (o - at) n (omega (arith, sized, s .next)) ∙ rw (sized, e, i));
           below = omega arith;
         }
 
-    pub ahead-here : o ≤ w .at → inAt (boxes xs) o n ≡ holds (b .code) (b .head) (b .size) (o - at) n
-    ahead-here h = a .left ∙ rw (s .list) (in-here (boxAt xs b) (boxes (drop (w .at) xs)) (o - at) n (omega (arith, sized, s .next)) ∙ rw sized)
+    pub ahead-here : o ≤ b .at + b .size → inAt (boxes xs) o n ≡ holds (b .code) (b .head) (b .size) (o - at) n
+    ahead-here h = a .left ∙ rw (s .list) (in-here (boxAt xs b) (boxes (drop (w .at) xs)) (o - at) n (omega (arith, sized, s .start)) ∙ rw sized)

@@ -4,7 +4,7 @@ use boxes::walk::Step;
 use boxes::walk::Walk;
 use wire::codes;
 ghost use mathlib.Core.Path.{_≡_};
-ghost use Prim.Native.Nat.{_≤_};
+ghost use Prim.Native.Nat.{_+_, _^_, _≤_, _<_};
 ghost use Rattle.wire.specs.Clauses.{oneIf};
 ghost use Rattle.boxes.specs.Boxes.{boxes};
 ghost use Rattle.media.specs.Payloads.{inAt, holds as holdsOf};
@@ -26,6 +26,14 @@ fn holds(b: BoxAt, from: usize, bytes: usize) -> usize
     1
 }
 
+// The place past a box: an `mdat` inside it is passed over with it.
+fn past(b: BoxAt) -> usize
+    requires { ⌜ b .at + b .size < 2 ^ 63 ⌝ }
+    ensures { λ r. ⌜ r ≡ b .at + b .size ⌝ }
+{
+    b.at + b.size
+}
+
 // Whether so many bytes from a place on lie inside the payload of one `mdat` of the file: 1 or 0.
 pub fn in_payload(file: &[u8], offset: usize, bytes: usize) -> usize
     ensures { λ r. ⌜ r ≡ oneIf (inAt (boxes (now (file .entry))) offset bytes) ⌝ }
@@ -33,11 +41,12 @@ pub fn in_payload(file: &[u8], offset: usize, bytes: usize) -> usize
     let mut w = Walk { at: 0 };
     loop {
         match w.step(file) {
-            Step::Found(b, next) => {
-                if offset <= next.at {
+            Step::Found(b, _) => {
+                let end = past(b);
+                if offset <= end {
                     return holds(b, offset - w.at, bytes);
                 }
-                w = next;
+                w = Walk { at: end };
             }
             Step::End => {
                 return 0;

@@ -22,6 +22,7 @@ in-payload-spec = tie.close (tie.spec Inv μ
     (λ c. ahead-all _ _ _)
     (λ c κs. search needs)
     (λ c. search needs)
+    (λ c κs. let s = ran _ _ _ _ _ (c .before .before .before .step .ensures) (c .before .b .given .1) in omega arith)
     (λ c. let i = c .before .before .before .before .before .before .before .loop .inv in omega arith)
     (λ c κs. let s = ran _ _ _ _ _ (c .before .before .before .before .before .before .step .ensures) (c .before .before .before .before .b .given .1) in omega arith)
     (λ c. let t = c .before .before .before .before .before .before .before in
@@ -31,7 +32,7 @@ in-payload-spec = tie.close (tie.spec Inv μ
     let s = ran _ _ _ _ _ (t .step .ensures) (c .before .before .before .b .given .1) in
     omega arith)
     (λ c. let t = c .before .before .before .before .before in
-    ahead-more (t .before .loop .inv) (ran _ _ _ _ _ (t .step .ensures) (c .before .before .before .b .given .1)) (omega arith))
+    ahead-more (t .before .loop .inv) (ran _ _ _ _ _ (t .step .ensures) (c .before .before .before .b .given .1)) (c .before .past .ensures) (omega arith))
     (λ c. search needs)
     (λ c. let t = c .before .before in nay _ (ahead-over (t .before .loop .inv) (ended _ _ _ (t .step .ensures) (c .enum-told .given .1) .0)))
     (λ c. search needs)
