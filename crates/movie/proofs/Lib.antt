@@ -1,1 +1,7 @@
 pub mod Finding
+pub mod Lying
+pub mod Boxed
+pub mod Counting
+pub mod Spotting
+pub mod Naming
+pub mod Asking

@@ -1,4 +1,6 @@
 // The movie of a file: its tracks and what they say.
+pub mod entry;
+
 use boxes::seek;
 use wire::codes;
 use wire::number;

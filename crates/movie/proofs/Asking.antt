@@ -1,0 +1,76 @@
+-- Looking an entry up, as code and its callers ask. Assumes nothing.
+use Prim.Native.Nat.{ℕ, _+_, _-_, _≤_, min}
+use native.Mathlib.Omega.{arith}
+use mathlib.Core.Path.{_≡_, refl, ap, subst, _∙_}
+use mathlib.Core.List.{List}
+use lib.ListN.{length, take, drop, length-take, length-drop}
+use Rattle.wire.specs.Codes.{MOOV, TRAK, MDIA, MINF, STBL, STSD}
+use Rattle.wire.proofs.Lists.{tail-is, drop-min}
+use Rattle.boxes.specs.declared.walk.BoxAt.{BoxAt}
+use Rattle.boxes.specs.declared.seek.Seen.{Seen}
+use Rattle.boxes.specs.declared.seek.Seen.the-variants as seen
+use Rattle.boxes.specs.Boxes.{boxes}
+use Rattle.boxes.specs.Seek.{ANY, find, nth, startIn, SeenAs}
+use Rattle.boxes.proofs.Placing.{found-short}
+use Rattle.boxes.proofs.Seeking.{cut-as, none-as}
+use Rattle.movie.specs.declared.entry.EntryAt.{EntryAt}
+use Rattle.movie.specs.declared.entry.Named.{Named}
+use Rattle.movie.specs.declared.entry.Named.the-variants.{At, Missing}
+use Rattle.movie.specs.declared.entry.Spot.{Spot}
+use Rattle.movie.specs.declared.entry.Spot.the-variants.{In, Past}
+use Rattle.movie.specs.Movie.{movie, mdia, minf, stbl, track, table}
+use Rattle.movie.specs.Entries.{FRONT, entriesStart, entries}
+use Rattle.movie.specs.Named.{listIn, heldIn, listStart, InTrack, SpotAs, PlacedAs, EntryIs, NamedAs}
+use Rattle.movie.proofs.Counting.{length-after}
+
+-- ---- as code asks
+
+pub list-is : (b stsd : List ℕ) (n : ℕ) → stsd ≡ table STSD b → length stsd ≤ length b → n ≡ min FRONT (length stsd) → (take (length stsd - n) (drop n stsd) ≡ listIn b) × (length (take (length stsd - n) (drop n stsd)) ≤ length b)
+unfolding listIn
+list-is b stsd n e h f = (rw f (tail-is stsd (min FRONT (length stsd)) (omega arith) ∙ drop-min FRONT stsd) ∙ ap (drop FRONT) e, rw (length-take, length-drop) (omega arith))
+
+pub spot-in : (xs : List ℕ) {moov : List ℕ} → moov ≡ find MOOV (boxes xs) → (i : ℕ) (r : Spot) (t n : ℕ) → SpotAs moov i r → r ≡ In t n → InTrack (find MOOV (boxes xs)) i t n
+spot-in xs {moov} e i r t n s f = let g : InTrack moov i t n = subst (SpotAs moov i) f s in rw e at g
+
+pub spot-small : (xs : List ℕ) {i t n : ℕ} → InTrack (find MOOV (boxes xs)) i t n → t ≤ length xs
+spot-small xs s = omega (arith, s .small, found-short MOOV 0 xs refl)
+
+pub spot-past : (xs : List ℕ) {moov : List ℕ} → moov ≡ find MOOV (boxes xs) → (i : ℕ) (r : Spot) → SpotAs moov i r → r ≡ Past → NamedAs xs i Missing
+unfolding entries NamedAs
+spot-past xs {moov} e i r s f =
+    let g : heldIn (boxes moov) ≤ i = subst (SpotAs moov i) f s in
+    let h : heldIn (movie xs) ≤ i = rw e at g in
+    rw (length-after 0 (movie xs) (startIn MOOV 0 (boxes xs))) h
+
+-- where they start, and no number on the way there is large
+module _ (b : List ℕ) {mdia minf stbl : List ℕ} (e : mdia ≡ find MDIA (boxes b)) (f : minf ≡ find MINF (boxes mdia)) (g : stbl ≡ find STBL (boxes minf)) where
+  pub starts-are : {i j k m : ℕ} → i ≡ startIn MDIA 0 (boxes b) → j ≡ startIn MINF 0 (boxes mdia) → k ≡ startIn STBL 0 (boxes minf) → m ≡ startIn STSD 0 (boxes stbl) → i + j + k + m + FRONT ≡ entriesStart b
+  unfolding entriesStart
+  starts-are o p q r = rw (o, p, q, r, g, f, e)
+
+  pub starts-few : (length mdia ≤ length b) × (length minf ≤ length b) × (length stbl ≤ length b)
+  starts-few = let h = found-short MDIA 0 b e in let k = found-short MINF 0 mdia f in let l = found-short STBL 0 minf g in (h, omega arith, omega arith)
+
+pub list-start-is : (xs : List ℕ) (t : ℕ) {moov b : List ℕ} → moov ≡ find MOOV (boxes xs) → b ≡ track xs t → {i j k : ℕ} → i ≡ startIn MOOV 0 (boxes xs) → j ≡ startIn TRAK t (boxes moov) → k ≡ entriesStart b → i + j + k ≡ listStart xs t
+unfolding listStart
+list-start-is xs t e f o p q = rw (o, p, q, f, e)
+
+module _ (xs : List ℕ) (t n : ℕ) {b l : List ℕ} (e : b ≡ track xs t) (f : l ≡ listIn b) (r : Seen) (s : SeenAs l ANY n r) where
+  pub placed-at : (x : BoxAt) → r ≡ seen.At x → {p : ℕ} → p ≡ listStart xs t → PlacedAs xs t n (At (record { track = t + 1; nth = n; place = p + x .at; size = x .size }))
+  unfolding PlacedAs
+  placed-at x g q = record { track = refl; nth = refl; box = x; cut = rw (f, e) at (cut-as l ANY n r s x g); size = refl; place = rw q }
+
+  pub placed-none : r ≡ seen.Missing → PlacedAs xs t n Missing
+  unfolding PlacedAs
+  placed-none g = rw (f, e) at (none-as l ANY n r s g)
+
+-- ---- as callers ask
+
+module _ (xs : List ℕ) (i : ℕ) (r : Named) (s : NamedAs xs i r) where
+  pub named-at : (e : EntryAt) → r ≡ At e → EntryIs xs i e
+  unfolding NamedAs
+  named-at e f = subst (NamedAs xs i) f s
+
+  pub named-none : r ≡ Missing → length (entries xs) ≤ i
+  unfolding NamedAs
+  named-none f = subst (NamedAs xs i) f s

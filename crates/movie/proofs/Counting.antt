@@ -1,0 +1,62 @@
+-- How many entries there are, by the walk over the boxes of `moov`. Assumes nothing.
+use Prim.Native.Nat.{ℕ, _+_, _≤_}
+use native.Mathlib.Omega.{arith}
+use mathlib.Core.Path.{_≡_, refl, sym, ap, _∙_}
+use mathlib.Core.Bool.{Bool, true, false}
+use mathlib.Core.List.{List, [], _∷_, _++_}
+use lib.Dec.{eqb}
+use lib.ListN.{length, drop, length-append}
+use Rattle.wire.specs.Tests.{pick, ifEq}
+use Rattle.wire.specs.Codes.{MOOV, TRAK}
+use Rattle.boxes.specs.declared.walk.Walk.{Walk}
+use Rattle.boxes.specs.declared.walk.BoxAt.{BoxAt}
+use Rattle.boxes.specs.Box.{Box, size}
+use Rattle.boxes.specs.Boxes.{boxes}
+use Rattle.boxes.specs.Walk.{payload, Ran, Over}
+use Rattle.boxes.specs.Seek.{ANY, count, find, startIn}
+use Rattle.boxes.proofs.Placing.{found-short}
+use Rattle.boxes.proofs.Seeking.{length-payload}
+use Rattle.movie.specs.Entries.{entriesOf, entriesAfter, entries}
+use Rattle.movie.specs.Named.{listIn, held, heldIn}
+use Rattle.movie.proofs.Boxed.{count-any, length-from}
+
+-- ---- how many
+
+pub length-of : (t : ℕ) (b : List ℕ) (p : ℕ) → length (entriesOf t b p) ≡ count ANY (boxes (listIn b))
+unfolding entriesOf listIn
+length-of t b p = length-from t _ _ ∙ sym (count-any _)
+
+pub length-after : (t : ℕ) (l : List Box) (p : ℕ) → length (entriesAfter t l p) ≡ heldIn l
+unfolding entriesAfter heldIn held ifEq
+length-after t [] p = refl
+length-after t (x ∷ l) p = go (eqb (x .code) TRAK) (length-after (t + 1) l (p + size x)) (length-after t l (p + size x))
+  where
+    go : (s : Bool) → length (entriesAfter (t + 1) l (p + size x)) ≡ heldIn l → length (entriesAfter t l (p + size x)) ≡ heldIn l
+        → length (pick s (entriesOf (t + 1) (x .body) (p + x .head) ++ entriesAfter (t + 1) l (p + size x)) (entriesAfter t l (p + size x))) ≡ pick s (count ANY (boxes (listIn (x .body)))) 0 + heldIn l
+    go true i j = rw length-append (omega (arith, i, length-of (t + 1) (x .body) (p + x .head)))
+    go false i j = omega (arith, j)
+
+-- ---- the walk
+
+-- before place at there are n entries
+pub record Tally (ys : List ℕ) (n at : ℕ) : Type 0 where
+  pub is : heldIn (boxes ys) ≡ n + heldIn (boxes (drop at ys))
+  pub few : n ≤ at
+  pub inside : at ≤ length ys
+
+pub tally-none : (ys : List ℕ) → Tally ys 0 0
+tally-none ys = record { is = omega arith; few = omega arith; inside = omega arith }
+
+module _ {ys : List ℕ} {n at : ℕ} (g : Tally ys n at) where
+  pub tally-more : {b : BoxAt} {w : Walk} → Ran ys at b w → {d : List ℕ} → d ≡ payload ys b → {m : ℕ} → m ≡ held (b .code) d → m ≤ length d → Tally ys (n + m) (w .at)
+  unfolding heldIn
+  tally-more s f e h =
+      let k = length-payload s in
+      record { is = g .is ∙ rw (s .list, ← f, ← e) (omega arith); few = omega (arith, g .few, s .next, s .least, ap length f); inside = omega (arith, s .next, s .inside) }
+
+  pub tally-all : Over ys at → (xs : List ℕ) → ys ≡ find MOOV (boxes xs) → (n ≡ length (entries xs)) × (n ≤ length xs)
+  unfolding heldIn entries
+  tally-all o xs e =
+      let h : heldIn (boxes ys) ≡ n = g .is ∙ rw (o .list) (omega arith) in
+      let k : heldIn (boxes (find MOOV (boxes xs))) ≡ n = rw e at h in
+      (sym (length-after 0 (boxes (find MOOV (boxes xs))) (startIn MOOV 0 (boxes xs)) ∙ k), omega (arith, found-short MOOV 0 xs e, g .few, g .inside))
