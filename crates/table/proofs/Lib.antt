@@ -1,1 +1,6 @@
-
+pub mod Reading
+pub mod Judging
+pub mod Making
+pub mod Opening
+pub mod Forming
+pub mod Owning
