@@ -4,3 +4,5 @@ pub mod Making
 pub mod Opening
 pub mod Forming
 pub mod Owning
+pub mod Answering
+pub mod RoundTrip

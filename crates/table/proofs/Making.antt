@@ -23,9 +23,9 @@ use Rattle.table.proofs.Reading.{read-length}
 
 -- ---- the front
 
-slot-length : (kind track place size : ℕ) → length (slot kind track place size) ≡ SLOT
+pub slot-length : (kind track place size : ℕ) → length (slot kind track place size) ≡ SLOT
 unfolding slot
-slot-length kind track place size = rw (length-append, length-append, length-bytes, length-bytes)
+slot-length kind track place size = rw (length-append, length-append, length-bytes 4 place, length-bytes 4 size)
 
 pub slots-length : (es : List Entry) → length (slots es) ≡ SLOT * length es
 unfolding slots

@@ -29,7 +29,7 @@ put-own-below t = and 3 put-own-kinds.ps (falls 3 put-own-kinds.ps _<_ μ-put-ow
 
 pub +put-own-spec : {M : Type 1} → statement M
 +put-own-spec = close μ-put-own (λ t. put-own-lts.spec (byte-reads.Asked, byte-reads.Learnt, body-reads.Asked, body-reads.Learnt, put-if-reads.Asked, put-if-reads.Learnt, rest-reads.Asked, rest-reads.Learnt, past-reads.Asked, past-reads.Learnt, put-own-below t, put-own.Post) (put-own-at t) put-own.Post
-    (λ c. own-none _ _ _ _ _ _ (omega arith))
+    (λ c. (own-none _ _ _ _ _ _ (omega arith), omega arith))
     (λ c κs. search needs)
     (λ c κs. search needs)
     (λ c κs. let a = c .before .before .before .before .before .before .before .args in omega (arith, parts-length (word 4 (a .slots .now) 8) (a .bodies .now) (c .body .ensures) refl))
@@ -38,4 +38,4 @@ pub +put-own-spec : {M : Type 1} → statement M
     (λ c. omega arith)
     (λ c κs. let a = c .before .before .before .before .before .before .before .before .before .before .before .before .before .args in (omega arith, omega (arith, parts-length (word 4 (a .slots .now) 8) (a .bodies .now) (c .before .before .before .before .before .before .body .ensures) (c .past .ensures))))
     (λ c. search needs)
-    (λ c. own-more _ (λ e. omega arith) record { slots = c .before .before .before .before .rest .ensures; bodies = c .before .before .before .past .ensures } (c .before .before .before .before .before .before .before .before .before .before .byte .ensures .0) (c .before .before .before .before .before .before .before .before .before .body .ensures) (c .before .before .before .before .before .before .before .before .put-if .ensures .0) (c .before .before .put-own .ensures)))
+    (λ c. let a = c .before .before .before .before .before .before .before .before .before .before .before .before .before .before .before .before .args in (own-more _ (λ e. omega arith) record { slots = c .before .before .before .before .rest .ensures; bodies = c .before .before .before .past .ensures } (c .before .before .before .before .before .before .before .before .before .before .byte .ensures .0) (c .before .before .before .before .before .before .before .before .before .body .ensures) (c .before .before .before .before .before .before .before .before .put-if .ensures .0) (c .before .before .put-own .ensures .0), omega (arith, parts-length (word 4 (a .slots .now) 8) (a .bodies .now) (c .before .before .before .before .before .before .before .before .before .body .ensures) (c .before .before .before .past .ensures)))))
