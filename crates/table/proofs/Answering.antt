@@ -1,11 +1,10 @@
 -- What the table writer answers and leaves. Assumes nothing.
 use Prim.Native.Nat.{ℕ, _+_, _≤_, _<_}
 use native.Mathlib.Omega.{arith}
-use mathlib.Core.Path.{_≡_, refl, sym, ap, _∙_}
-use mathlib.Core.Bool.{Bool, true, false}
-use mathlib.Core.List.{List, [], _∷_, _++_}
+use mathlib.Core.Path.{_≡_, refl, sym, _∙_}
+use mathlib.Core.List.{List}
 use lib.ListN.{length, length-append}
-use Rattle.wire.specs.Tests.{pick, ifLt}
+use Rattle.wire.specs.Tests.{ifLt}
 use Rattle.wire.specs.Clauses.{oneIf}
 use Rattle.wire.specs.Codes.{STSD}
 use Rattle.wire.specs.Numbers.{bytes}

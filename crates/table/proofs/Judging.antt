@@ -1,17 +1,14 @@
 -- Laws of the form. Assumes nothing.
-use Prim.Native.Nat.{ℕ, _+_, _-_, _*_, _≤_, _<_}
-use native.Mathlib.Omega.{arith}
-use mathlib.Core.Path.{_≡_, refl, sym, ap, _∙_}
-use mathlib.Core.Bool.{Bool, true, false}
-use mathlib.Core.List.{List, [], _∷_, _++_}
-use lib.ListN.{length, take, drop, getD}
-use Rattle.wire.specs.Tests.{pick}
+use Prim.Native.Nat.{ℕ, _-_}
+use mathlib.Core.Path.{_≡_, _∙_}
+use mathlib.Core.List.{List}
+use lib.ListN.{take, getD}
 use Rattle.wire.specs.Numbers.{word}
-use Rattle.wire.specs.Clauses.{isEq, oneIf}
+use Rattle.wire.specs.Clauses.{oneIf}
 use Rattle.wire.proofs.Clauses.{is-eq, not-eq, was-nay, was-yea}
 use Rattle.entries.specs.declared.rule.Around.the-variants.{Alone}
 use Rattle.entries.specs.Entries.{entryRule}
-use Rattle.table.specs.Form.{FRAMES, firstOf, read, follows, steps, allMeet}
+use Rattle.table.specs.Form.{FRAMES, read, follows, steps, allMeet}
 use Rattle.table.proofs.Reading.{Past, past-is, read-none, read-more}
 
 -- ---- the tracks

@@ -1,4 +1,6 @@
 pub mod Reading
+pub mod Slotting
+pub mod Comparing
 pub mod Judging
 pub mod Making
 pub mod Opening

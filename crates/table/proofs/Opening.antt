@@ -1,6 +1,6 @@
 -- A sheet's count, its slots and its bodies, as code takes them. Assumes nothing.
-use Prim.Native.Nat.{ℕ, _≤_, _<_}
-use mathlib.Core.Path.{_≡_, refl, sym, ap, _∙_}
+use Prim.Native.Nat.{ℕ, _≤_}
+use mathlib.Core.Path.{_≡_, sym, _∙_}
 use mathlib.Core.List.{List, [], _∷_, _++_}
 use lib.ListN.{length, take, drop, getD, replicate}
 use Rattle.wire.specs.Tests.{ifEq}
@@ -9,7 +9,8 @@ use Rattle.wire.specs.Writing.{Put}
 use Rattle.sheet.specs.Sheet.{slots, bodies, front, bodiesAt, sheet}
 use Rattle.table.specs.Form.{read, unsheet}
 use Rattle.table.proofs.Reading.{read-length}
-use Rattle.table.proofs.Making.{front-made, front-length, bodies-prefix, same-bad, same-good}
+use Rattle.table.proofs.Making.{front-made, front-length, bodies-prefix}
+use Rattle.table.proofs.Comparing.{same-bad, same-good}
 
 pub record Opened (k : ℕ) (sheet : List ℕ) (n : ℕ) (xs ys : List ℕ) : Type 0 where
   pub count : n ≡ getD sheet 1 0

@@ -1,10 +1,10 @@
 -- A sheet that is made of entries says those entries, and a sheet of the right form is made of what it says. Assumes nothing.
-use Prim.Native.Nat.{ℕ, _+_, _-_, _*_, _^_, _≤_, _<_}
+use Prim.Native.Nat.{ℕ, _-_, _*_, _^_, _≤_, _<_}
 use native.Mathlib.Omega.{arith}
 use mathlib.Core.Path.{_≡_, refl, sym, ap, _∙_}
-use mathlib.Core.Bool.{Bool, true, false}
+use mathlib.Core.Bool.{true}
 use mathlib.Core.List.{List, [], _∷_, _++_, append-assoc}
-use lib.ListN.{length, take, drop, getD, replicate, length-append}
+use lib.ListN.{length, drop, getD, replicate}
 use lib.Seq.{take-append-seam, drop-append-seam, drop-at}
 use Rattle.wire.specs.Numbers.{bytes, word}
 use Rattle.wire.specs.Same.{same}
@@ -12,8 +12,8 @@ use Rattle.wire.proofs.Clauses.{is-eq, is-le, eq-is, holds, done, clause}
 use Rattle.wire.proofs.Numbers.{length-bytes, word-bytes, word-right}
 use Rattle.wire.proofs.Same.{same-refl, same-is}
 use Rattle.movie.specs.Entries.{Entry}
-use Rattle.sheet.specs.Sheet.{SLOT, slot, slotOf, slots, bodies, front, bodiesAt, sheet}
-use Rattle.table.specs.Form.{firstOf, read, unsheet, steps, allMeet, formed}
+use Rattle.sheet.specs.Sheet.{SLOT, slot, slots, bodies, front, bodiesAt, sheet}
+use Rattle.table.specs.Form.{read, unsheet, steps, allMeet, formed}
 use Rattle.table.specs.Table.{own, table, tableOf}
 use Rattle.table.proofs.Making.{slot-length, front-length}
 

@@ -85,12 +85,12 @@ fn all_meet(slots: &[u8], bodies: &[u8], n: usize) -> usize
 
 // 1 where a sheet of n entries is the one that they make, else 0.
 fn made(sheet: &[u8], n: usize) -> usize
-    requires { ⌜ (n ≡ getD (now sheet) 1 0) × (n ≤ 8) ⌝ }
+    requires { ⌜ (n ≡ getD (now sheet) 1 0) × (n ≤ SLOTS) ⌝ }
     ensures { λ r. ⌜ r ≡ same (now (sheet .entry)) (sheetText SLOTS (unsheet SLOTS (now (sheet .entry)))) ⌝ }
 {
     let slots = lend::rest(sheet, FRONT);
     let bodies = lend::rest(sheet, BODIES);
-    let mut again = [0u8; 100];
+    let mut again = [0u8; BODIES];
     slots::put_front(&mut again, slots, bodies, n);
     if compare::same(lend::front(sheet, BODIES), &again) == 0 {
         return 0;

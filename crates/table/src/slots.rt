@@ -49,7 +49,7 @@ fn put_slot(
     place: usize,
     size: usize,
 ) -> usize
-    requires { ⌜ (at < 60000) × (kind < 256) × (track < 256) ⌝ }
+    requires { ⌜ (at < 65000) × (kind < 256) × (track < 256) ⌝ }
     ensures { λ r. ⌜ Put (slotText kind track place size) (now (out .entry)) at r (now (out .exit)) × (r ≡ at + 12) ⌝ }
 {
     let a = put::number(out, at, 1, kind);
@@ -61,7 +61,7 @@ fn put_slot(
 
 // Writes the first slot as it should be.
 fn put_first(out: &mut [u8], at: usize, slots: &[u8], bodies: &[u8]) -> usize
-    requires { ⌜ at < 60000 ⌝ }
+    requires { ⌜ at < 65000 ⌝ }
     ensures { λ r. ⌜ Put (slotOf (firstOf (now (slots .entry)) (now (bodies .entry)))) (now (out .entry)) at r (now (out .exit)) × (r ≡ at + 12) ⌝ }
 {
     let first = body(slots, bodies);
@@ -78,7 +78,7 @@ fn put_first(out: &mut [u8], at: usize, slots: &[u8], bodies: &[u8]) -> usize
 
 // Writes n slots as they should be.
 fn put_slots(out: &mut [u8], at: usize, slots: &[u8], bodies: &[u8], n: usize) -> usize
-    requires { ⌜ at + 12 * n < 60000 ⌝ }
+    requires { ⌜ at + 12 * n < 65000 ⌝ }
     ensures { λ r. ⌜ Put (slotsText (read n (now (slots .entry)) (now (bodies .entry)))) (now (out .entry)) at r (now (out .exit)) ⌝ }
 {
     if n == 0 {

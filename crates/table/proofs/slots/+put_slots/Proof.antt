@@ -1,5 +1,5 @@
 use borrow.Author.Needs.{needs}
-use Rattle.table.proofs.Reading.{slots-none, slots-more}
+use Rattle.table.proofs.Slotting.{slots-none, slots-more}
 use native.Mathlib.Omega.{arith}
 use Prim.Native.Nat.{ℕ, _<_}
 use borrow.Fn.Kinds.{In}

@@ -1,5 +1,5 @@
 use borrow.Author.Needs.{needs}
-use Rattle.table.proofs.Reading.{slot-is}
+use Rattle.table.proofs.Slotting.{slot-is}
 use Rattle.wire.proofs.Writing.{pen-then, pen-is}
 use native.Mathlib.Omega.{arith}
 use Rattle.table.proofs.slots.put_slot.Statement.{statement}
