@@ -8,3 +8,4 @@ pub mod Forming
 pub mod Owning
 pub mod Answering
 pub mod RoundTrip
+pub mod Tracks

@@ -1,5 +1,5 @@
 -- The table writer: "takes a sheet and a track and gives one stsd box".
-use Prim.Native.Nat.{ℕ, _+_}
+use Prim.Native.Nat.{ℕ, _+_, max}
 use mathlib.Core.List.{List, [], _∷_, _++_}
 use lib.ListN.{length}
 use Rattle.wire.specs.Tests.{pick, ifEq, ifLt}
@@ -16,6 +16,11 @@ use Rattle.table.specs.Form.{unsheet, formed}
 unfoldable pub own : ℕ → List Entry → List Entry
 own t [] = []
 own t (e ∷ es) = ifEq (e .track) t (e ∷ own t es) (own t es)
+
+-- "the sheet's highest" track: in a sheet of the form a track has entries exactly from 1 to it
+unfoldable pub highest : List Entry → ℕ
+highest [] = 0
+highest (e ∷ es) = max (e .track) (highest es)
 
 -- "16 bytes, then that track's bodies": size, `stsd`, version and flags, count
 unfoldable pub table : List Entry → List ℕ

@@ -1,3 +1,4 @@
+-- The measure is the number of slots that are left.
 use borrow.Author.Needs.{needs}
 use Rattle.table.proofs.Owning.{count-none, count-more, one-most}
 use native.Mathlib.Omega.{arith}

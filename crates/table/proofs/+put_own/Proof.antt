@@ -1,3 +1,4 @@
+-- The measure is the number of slots that are left.
 use borrow.Author.Needs.{needs}
 use Rattle.table.proofs.Reading.{parts-length}
 use Rattle.table.proofs.Owning.{own-none, own-more}

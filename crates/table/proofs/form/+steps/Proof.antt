@@ -1,3 +1,4 @@
+-- The measure is the number of slots that are left.
 use borrow.Author.Needs.{needs}
 use Rattle.table.proofs.Judging.{steps-none, steps-bad, steps-more}
 use native.Mathlib.Omega.{arith}
