@@ -4,7 +4,6 @@ use native.Mathlib.Omega.{arith}
 use mathlib.Core.Path.{_≡_, refl, sym, ap, _∙_}
 use mathlib.Core.Bool.{Bool, true, false}
 use mathlib.Core.List.{List, [], _∷_, _++_}
-use lib.ListN.{drop}
 use Rattle.wire.specs.Tests.{pick}
 use Rattle.wire.specs.Numbers.{word}
 use Rattle.wire.specs.Clauses.{isEq, isLt, every, oneIf}
@@ -15,7 +14,7 @@ use Rattle.boxes.specs.Boxes.{boxes}
 use Rattle.boxes.specs.Seek.{ANY, meant, count, find}
 use Rattle.boxes.proofs.Seeking.{meant-any}
 use Rattle.movie.specs.Movie.{table}
-use Rattle.movie.specs.Entries.{FRONT}
+use Rattle.movie.specs.Named.{listIn}
 use Rattle.brands.specs.Brands.{times, listed, oneEntry, plain, second, ready}
 
 -- ---- an answer over clauses
@@ -48,9 +47,9 @@ pub one-is : (b : List ℕ) {stsd : List ℕ} {n r : ℕ} → stsd ≡ table STS
 unfolding oneEntry
 one-is b f g e = e ∙ rw (g, f)
 
-pub plain-is : (b : List ℕ) {stsd rest : List ℕ} {n r : ℕ} → stsd ≡ table STSD b → rest ≡ drop FRONT stsd → n ≡ count AVC1 (boxes rest) → r ≡ oneIf (isEq n 0) → r ≡ oneIf (plain b)
+pub plain-is : (b : List ℕ) {list : List ℕ} {n r : ℕ} → list ≡ listIn b → n ≡ count AVC1 (boxes list) → r ≡ oneIf (isEq n 0) → r ≡ oneIf (plain b)
 unfolding plain
-plain-is b f g h e = e ∙ rw (h, g, f)
+plain-is b f g e = e ∙ rw (g, f)
 
 -- ---- the second box
 

@@ -2,7 +2,7 @@
 use Prim.Native.Nat.{ℕ, _+_, _-_, _*_, _/_}
 use mathlib.Core.Bool.{Bool, true, false}
 use mathlib.Core.List.{List, [], _∷_}
-use lib.ListN.{length, drop}
+use lib.ListN.{length}
 use Rattle.wire.specs.Tests.{ifEq}
 use Rattle.wire.specs.Numbers.{word}
 use Rattle.wire.specs.Clauses.{isEq, isLt, isLe, every, oneIf}
@@ -12,7 +12,7 @@ use Rattle.boxes.specs.Box.{Box}
 use Rattle.boxes.specs.Boxes.{boxes}
 use Rattle.boxes.specs.Seek.{count, find}
 use Rattle.movie.specs.Movie.{tracks, track, table, handler}
-use Rattle.movie.specs.Entries.{FRONT}
+use Rattle.movie.specs.Named.{listIn}
 
 -- ---- the compatible list of an `ftyp` payload: after the major brand and the minor version
 
@@ -48,7 +48,7 @@ singleTo xs n = allTo (λ t. single (track xs t)) n
 
 -- "no avc1 entry"
 unfoldable pub plain : List ℕ → Bool
-plain b = isEq (count AVC1 (boxes (drop FRONT (table STSD b)))) 0
+plain b = isEq (count AVC1 (boxes (listIn b))) 0
 
 unfoldable pub plainTo : List ℕ → ℕ → Bool
 plainTo xs n = allTo (λ t. plain (track xs t)) n

@@ -63,8 +63,7 @@ fn all_single(file: &[u8]) -> usize
 fn plain(track: &[u8]) -> usize
     ensures { λ r. ⌜ r ≡ oneIf (plainOf (now (track .entry))) ⌝ }
 {
-    let entries = heads::lend::rest(movie::table(track, codes::STSD), 8);
-    compatible::equal(seek::count(entries, codes::AVC1), 0)
+    compatible::equal(seek::count(movie::entry::list(track), codes::AVC1), 0)
 }
 
 fn all_plain(file: &[u8]) -> usize

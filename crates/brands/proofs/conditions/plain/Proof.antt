@@ -8,5 +8,4 @@ plain-spec = tie.close (tie.spec
     (λ c κs. search needs)
     (λ c κs. search needs)
     (λ c κs. search needs)
-    (λ c κs. search needs)
-    (λ c. plain-is _ (c .before .before .before .table .ensures .0) (c .before .before .rest .ensures) (c .before .count .ensures .0) (c .equal .ensures .0)))
+    (λ c. plain-is _ (c .before .before .list .ensures .0) (c .before .count .ensures .0) (c .equal .ensures .0)))
