@@ -1,10 +1,11 @@
 -- Fields, one by one, from their rule and back. Assumes nothing.
 use Prim.Native.Nat.{ℕ, zero, suc, _<_}
 use native.Mathlib.Omega.{arith}
-use mathlib.Core.Path.{_≡_, refl, sym}
+use mathlib.Core.Path.{_≡_, refl, sym, _∙_}
 use mathlib.Core.List.{List, [], _∷_}
 use mathlib.Core.Logic.{⊎-elim, _⊎_, inl, inr}
 use lib.ListN.{getD}
+use Rattle.wire.specs.Tests.{ifLt}
 use Rattle.wire.proofs.Tests.{lt-yea, eq-yea, eq-nay}
 use Rattle.heads.proofs.Meeting.{lt-met, eq-met, eq-ways}
 use Rattle.records.specs.declared.field.Rates.{Rates}
@@ -19,6 +20,15 @@ below-none r e = e
 pub below-more : (p : ℕ × ℕ) (ps : List (ℕ × ℕ)) (r : ℕ) → p .0 < p .1 → below ps r ≡ 1 → below (p ∷ ps) r ≡ 1
 unfolding below
 below-more p ps r h e = sym (lt-yea _ _ _ _ _ h (sym e))
+
+-- an answer that is made so, from the last number back
+pub below-last : (r s : ℕ) → s ≡ r → s ≡ below [] r
+unfolding below
+below-last r s e = e
+
+pub below-next : (n m r s t : ℕ) (ps : List (ℕ × ℕ)) → t ≡ ifLt n m s 0 → s ≡ below ps r → t ≡ below ((n, m) ∷ ps) r
+unfolding below
+below-next n m r s t ps e h = e ∙ rw h
 
 -- number i, from 0
 pub below-at : (i : ℕ) (ps : List (ℕ × ℕ)) (r : ℕ) → below ps r ≡ 1 → getD ps i (0, 1) .0 < getD ps i (0, 1) .1
