@@ -1,0 +1,85 @@
+-- A rule that holds of a file holds of the boxes that an edit relates. Assumes nothing.
+use Prim.Native.Nat.{ℕ, zero, suc, _+_, _≤_}
+use native.Mathlib.Omega.{arith}
+use mathlib.Core.Path.{_≡_, refl, sym, ap, subst, _∙_}
+use mathlib.Core.Bool.{Bool, true, false}
+use mathlib.Core.List.{List, [], _∷_}
+use lib.Dec.{eqb}
+use lib.ListN.{length}
+use borrow.Author.Tests.{eqb-true, eqb-false}
+use Rattle.wire.specs.Tests.{pick, ifEq}
+use Rattle.wire.specs.Clauses.{isLe}
+use Rattle.wire.proofs.Tests.{both, eq-yea, eq-nay}
+use Rattle.wire.proofs.Clauses.{is-le}
+use Rattle.boxes.specs.Box.{Box, write}
+use Rattle.boxes.specs.Boxes.{boxes, after}
+use Rattle.boxes.specs.Containers.{kindIn}
+use Rattle.boxes.specs.Seek.{ANY, meant, count, byNumber, nth}
+use Rattle.boxes.specs.Kin.{All2, Leaf, KinBox, Kin}
+use Rattle.boxes.specs.Kin.All2.{nil, cons}
+use Rattle.boxes.proofs.Reading.{lengths, length-cons}
+use Rattle.boxes.proofs.Seeking.{meant-is, meant-most}
+use Rattle.verdict.specs.Rule.{Rule, allList, allBox, allIn}
+
+-- ---- what a rule says of one box
+
+module _ (r : Rule) (go : ℕ → List ℕ → Bool) (k : ℕ) (x : Box) (q : allBox r go k x ≡ true) where
+  pub says-leaf : kindIn k (x .code) ≡ 0 → r .leaf k (x .code) (x .body) ≡ true
+  unfolding allBox
+  says-leaf e = eq-yea _ _ _ _ _ e refl ∙ q
+
+  pub says-node : (kindIn k (x .code) ≡ 0 → ⊥) → go (kindIn k (x .code)) (x .body) ≡ true
+  unfolding allBox
+  says-node e = eq-nay _ _ _ _ _ e refl ∙ q
+
+-- ---- with the rule known of every opaque box of the first file
+
+abbrev pub With : Rule → Leaf → Leaf
+With r G k c b b′ = G k c b b′ × (r .leaf k c b ≡ true)
+
+list-with : {R S : Box → Box → Type 0} (f : Box → Bool) (t : Bool) → ((x y : Box) → R x y → f x ≡ true → S x y) → {l m : List Box} → All2 R l m → allList f t l ≡ true → All2 S l m
+unfolding allList
+list-with f t h nil q = nil
+list-with f t h (cons {x} {y} {l} {m} r a) q =
+    let u = both (f x) (allList f t l) q in
+    cons (h x y r (u .0)) (list-with f t h a (u .1))
+
+module _ (r : Rule) (G : Leaf) where
+  -- an edit of a file of which a rule holds
+  pub kin-with : (d k : ℕ) (xs ys : List ℕ) → Kin G d k xs ys → allIn r d k xs ≡ true → Kin (With r G) d k xs ys
+  unfolding allIn
+  kin-with zero k xs ys e q = e
+  kin-with (suc d) k xs ys (a, e) q =
+      let u = both (r .node k xs) _ q in (
+        list-with _ _ (λ x y s p. record {
+          head = s .head;
+          code = s .code;
+          leaf = λ z. (s .leaf z, says-leaf r (allIn r d) k x p z);
+          node = λ z. kin-with d (kindIn k (x .code)) (x .body) (y .body) (s .node z) (says-node r (allIn r d) k x p z);
+        }) a (u .1),
+        e,
+      )
+
+-- ---- no box is longer than the file
+
+abbrev pub short : ℕ → Rule
+short n = record { leaf = λ k c b. isLe (length b) n; node = λ k xs. true; end = λ xs. true }
+
+module _ (n : ℕ) where
+  short-list : (f : Box → Bool) → ((x : Box) → length (x .body) ≤ n → f x ≡ true) → (l : List Box) → length (write l) ≤ n → allList f true l ≡ true
+  unfolding allList
+  short-list f h [] k = refl
+  short-list f h (x ∷ l) k = let e = length-cons x l in rw (h x (omega arith)) (short-list f h l (omega arith))
+
+  short-box : (d k : ℕ) → ((j : ℕ) (ys : List ℕ) → length ys ≤ n → allIn (short n) d j ys ≡ true) → (x : Box) → length (x .body) ≤ n → allBox (short n) (allIn (short n) d) k x ≡ true
+  unfolding allBox ifEq
+  short-box d k ih x h = go (eqb (kindIn k (x .code)) 0)
+    where
+      go : (t : Bool) → pick t (isLe (length (x .body)) n) (allIn (short n) d (kindIn k (x .code)) (x .body)) ≡ true
+      go true = is-le _ _ h
+      go false = ih (kindIn k (x .code)) (x .body) h
+
+  pub short-all : (d k : ℕ) (xs : List ℕ) → length xs ≤ n → allIn (short n) d k xs ≡ true
+  unfolding allIn
+  short-all zero k xs h = refl
+  short-all (suc d) k xs h = short-list _ (short-box d k (λ j ys. short-all d j ys)) (boxes xs) (omega (arith, lengths xs))

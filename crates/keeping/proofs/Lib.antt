@@ -1,0 +1,4 @@
+pub mod Sound
+pub mod Content
+pub mod Words
+pub mod Knowing
