@@ -2,3 +2,5 @@ pub mod Sound
 pub mod Content
 pub mod Words
 pub mod Knowing
+pub mod Offsets
+pub mod Arranging
