@@ -4,3 +4,5 @@ pub mod Words
 pub mod Knowing
 pub mod Offsets
 pub mod Arranging
+pub mod Sifting
+pub mod Second
