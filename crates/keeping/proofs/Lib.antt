@@ -6,3 +6,5 @@ pub mod Offsets
 pub mod Arranging
 pub mod Sifting
 pub mod Second
+pub mod Tracking
+pub mod Tables
