@@ -8,3 +8,6 @@ pub mod Sifting
 pub mod Second
 pub mod Tracking
 pub mod Tables
+pub mod Settling
+pub mod Accepting
+pub mod Sampling
