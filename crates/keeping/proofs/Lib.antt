@@ -11,3 +11,4 @@ pub mod Tables
 pub mod Settling
 pub mod Accepting
 pub mod Sampling
+pub mod Keeping
