@@ -3,13 +3,13 @@ use Prim.Native.Nat.{ℕ, _+_, _-_, _≤_, _<_}
 use mathlib.Core.Path.{_≡_}
 use mathlib.Core.List.{List, [], _∷_, _++_}
 use lib.ListN.{length, take, drop}
-use Rattle.wire.specs.Tests.{ifEq}
+use Rattle.wire.specs.Tests.{ifEq, ifLt}
 use Rattle.wire.specs.Codes.{MOOV, TRAK, STSD}
 use Rattle.boxes.specs.declared.walk.BoxAt.{BoxAt}
 use Rattle.boxes.specs.Box.{Box, header}
 use Rattle.boxes.specs.Boxes.{boxes}
 use Rattle.boxes.specs.Walk.{payload, boxAt}
-use Rattle.boxes.specs.Seek.{ANY, count, nth as nthIn, startIn, Cut}
+use Rattle.boxes.specs.Seek.{ANY, meant, count, byNumber, nth as nthIn, startIn, Cut}
 use Rattle.movie.specs.declared.entry.EntryAt.{EntryAt}
 use Rattle.movie.specs.declared.entry.Named.{Named}
 use Rattle.movie.specs.declared.entry.Named.the-variants.{At, Missing}
@@ -82,3 +82,15 @@ pub record EntryIs (xs : List ℕ) (i : ℕ) (e : EntryAt) : Type 0 where
 unfoldable pub NamedAs : List ℕ → ℕ → Named → Type 0
 NamedAs xs i (At e) = EntryIs xs i e
 NamedAs xs i Missing = length (entries xs) ≤ i
+
+-- ---- the same as functions
+
+-- in which track the entry i of the boxes l of `moov` is, after t tracks, and its number there
+unfoldable pub spotIn : ℕ → List Box → ℕ → Spot
+spotIn t [] i = Past
+spotIn t (x ∷ l) i = ifLt i (held (x .code) (x .body)) (In t i) (spotIn (t + meant TRAK (x .code)) l (i - held (x .code) (x .body)))
+
+-- the bytes of entry i, and none where there is no such entry
+unfoldable pub bytesAt : ℕ → List Entry → List ℕ
+bytesAt i [] = []
+bytesAt i (e ∷ es) = byNumber i (e .bytes) (λ j. bytesAt j es)

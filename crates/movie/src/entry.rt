@@ -34,7 +34,7 @@ pub enum Named {
 }
 
 // A track and a number there, both from 0.
-enum Spot {
+pub enum Spot {
     In(usize, usize),
     Past,
 }

@@ -1,2 +1,6 @@
 pub mod Agreeing
 pub mod Offsets
+pub mod Each
+pub mod Placed
+pub mod Agreement
+pub mod Settled
