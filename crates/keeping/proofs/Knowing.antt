@@ -14,51 +14,36 @@ use Rattle.wire.proofs.Clauses.{is-le}
 use Rattle.boxes.specs.Box.{Box, write}
 use Rattle.boxes.specs.Boxes.{boxes, after}
 use Rattle.boxes.specs.Containers.{kindIn}
-use Rattle.boxes.specs.Seek.{ANY, meant, count, byNumber, nth}
 use Rattle.boxes.specs.Kin.{All2, Leaf, KinBox, Kin}
 use Rattle.boxes.specs.Kin.All2.{nil, cons}
 use Rattle.boxes.proofs.Reading.{lengths, length-cons}
-use Rattle.boxes.proofs.Seeking.{meant-is, meant-most}
+use Rattle.boxes.proofs.Reading.{All}
+use Rattle.boxes.proofs.Reading.All.{none, some}
+use Rattle.settle.proofs.Each.{rule-leaves, rule-inside}
 use Rattle.verdict.specs.Rule.{Rule, allList, allBox, allIn}
-
--- ---- what a rule says of one box
-
-module _ (r : Rule) (go : ℕ → List ℕ → Bool) (k : ℕ) (x : Box) (q : allBox r go k x ≡ true) where
-  pub says-leaf : kindIn k (x .code) ≡ 0 → r .leaf k (x .code) (x .body) ≡ true
-  unfolding allBox
-  says-leaf e = eq-yea _ _ _ _ _ e refl ∙ q
-
-  pub says-node : (kindIn k (x .code) ≡ 0 → ⊥) → go (kindIn k (x .code)) (x .body) ≡ true
-  unfolding allBox
-  says-node e = eq-nay _ _ _ _ _ e refl ∙ q
 
 -- ---- with the rule known of every opaque box of the first file
 
 abbrev pub With : Rule → Leaf → Leaf
 With r G k c b b′ = G k c b b′ × (r .leaf k c b ≡ true)
 
-list-with : {R S : Box → Box → Type 0} (f : Box → Bool) (t : Bool) → ((x y : Box) → R x y → f x ≡ true → S x y) → {l m : List Box} → All2 R l m → allList f t l ≡ true → All2 S l m
-unfolding allList
-list-with f t h nil q = nil
-list-with f t h (cons {x} {y} {l} {m} r a) q =
-    let u = both (f x) (allList f t l) q in
-    cons (h x y r (u .0)) (list-with f t h a (u .1))
+list-with : {R S : Box → Box → Type 0} {P Q : Box → Type 0} → ((x y : Box) → R x y → P x → Q x → S x y) → {l m : List Box} → All2 R l m → All P l → All Q l → All2 S l m
+list-with h nil none none = nil
+list-with h (cons {x} {y} r a) (some p b) (some q c) = cons (h x y r p q) (list-with h a b c)
 
 module _ (r : Rule) (G : Leaf) where
   -- an edit of a file of which a rule holds
   pub kin-with : (d k : ℕ) (xs ys : List ℕ) → Kin G d k xs ys → allIn r d k xs ≡ true → Kin (With r G) d k xs ys
-  unfolding allIn
   kin-with zero k xs ys e q = e
-  kin-with (suc d) k xs ys (a, e) q =
-      let u = both (r .node k xs) _ q in (
-        list-with _ _ (λ x y s p. record {
-          head = s .head;
-          code = s .code;
-          leaf = λ z. (s .leaf z, says-leaf r (allIn r d) k x p z);
-          node = λ z. kin-with d (kindIn k (x .code)) (x .body) (y .body) (s .node z) (says-node r (allIn r d) k x p z);
-        }) a (u .1),
-        e,
-      )
+  kin-with (suc d) k xs ys (a, e) q = (
+    list-with (λ x y s f g. record {
+      head = s .head;
+      code = s .code;
+      leaf = λ z. (s .leaf z, f z);
+      node = λ z. kin-with d (kindIn k (x .code)) (x .body) (y .body) (s .node z) (g z);
+    }) a (rule-leaves r d k xs q) (rule-inside r d k xs q),
+    e,
+  )
 
 -- ---- no box is longer than the file
 

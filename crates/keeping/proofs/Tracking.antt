@@ -20,46 +20,18 @@ use Rattle.movie.specs.Movie.{track}
 use Rattle.descriptions.proofs.Kept.{In}
 use Rattle.verdict.specs.Rule.{Rule, allList, allBox, allIn}
 
--- ---- what is known of every box of a list is known of the one that is found
+-- ---- what is known of every box of a code is known of the one of a number
 
-all-list : (f : Box → Bool) (t : Bool) (l : List Box) → allList f t l ≡ true → All (λ x. f x ≡ true) l
-unfolding allList
-all-list f t [] q = none
-all-list f t (x ∷ l) q = let u = both (f x) (allList f t l) q in some (u .0) (all-list f t l (u .1))
-
--- of the boxes of a container
-pub all-boxes : (r : Rule) (d k : ℕ) (xs : List ℕ) → allIn r (suc d) k xs ≡ true → All (λ x. allBox r (allIn r d) k x ≡ true) (boxes xs)
-unfolding allIn
-all-boxes r d k xs q = all-list _ _ (boxes xs) (both (r .node k xs) _ q .1)
-
--- of the container itself
-pub all-node : (r : Rule) (d k : ℕ) (xs : List ℕ) → allIn r (suc d) k xs ≡ true → r .node k xs ≡ true
-unfolding allIn
-all-node r d k xs q = both (r .node k xs) _ q .0
-
-module _ {Q : Box → Type 0} (c : ℕ) (z : c ≡ ANY → ⊥) (P : List ℕ → Type 0) (hits : (x : Box) → Q x → x .code ≡ c → P (x .body)) where
-  -- the box is meant, or it is passed
-  hit : (x : Box) → Q x → eqb (meant c (x .code)) 0 ≡ false → P (x .body)
-  hit x q e = hits x q (meant-is c (x .code) z (omega (arith, eqb-false (meant c (x .code)) 0 e, meant-most c (x .code))))
-
-  pub all-nth : P [] → (n : ℕ) {l : List Box} → All Q l → P (nth c n l)
+module _ (c : ℕ) (z : c ≡ ANY → ⊥) (P : List ℕ → Type 0) (empty : P []) where
+  pub each-nth : (n : ℕ) {l : List Box} → All (λ x. x .code ≡ c → P (x .body)) l → P (nth c n l)
   unfolding nth ifEq
-  all-nth empty n none = empty
-  all-nth empty n (some {x} {l} q a) = go (eqb (meant c (x .code)) 0) refl n (λ i. all-nth empty i a)
+  each-nth n none = empty
+  each-nth n (some {x} {l} h a) = go (eqb (meant c (x .code)) 0) refl n (λ i. each-nth i a)
     where
       go : (t : Bool) → eqb (meant c (x .code)) 0 ≡ t → (n : ℕ) → ((i : ℕ) → P (nth c i l)) → P (pick t (nth c n l) (byNumber n (x .body) (λ i. nth c i l)))
       go true e n ih = ih n
-      go false e zero ih = hit x q e
+      go false e zero ih = h (meant-is c (x .code) z (omega (arith, eqb-false (meant c (x .code)) 0 e, meant-most c (x .code))))
       go false e (suc n) ih = ih n
-
-  pub all-find : {l : List Box} → All Q l → 0 < count c l → P (find c l)
-  unfolding nth count ifEq
-  all-find none h = absurd (omega arith)
-  all-find (some {x} {l} q a) h = go (eqb (meant c (x .code)) 0) refl (all-find a)
-    where
-      go : (t : Bool) → eqb (meant c (x .code)) 0 ≡ t → (0 < count c l → P (find c l)) → P (pick t (find c l) (x .body))
-      go true e ih = ih (omega (arith, eqb-true (meant c (x .code)) 0 e))
-      go false e ih = hit x q e
 
 -- ---- the way to the tables
 
