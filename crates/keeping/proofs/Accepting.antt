@@ -29,7 +29,7 @@ use Rattle.judge.specs.Acceptance.{Holds, Meets, plain}
 use Rattle.keeping.proofs.Content.{Content}
 use Rattle.keeping.proofs.Offsets.{six-forms}
 use Rattle.keeping.proofs.Arranging.{Arranges, arranged-boxes, arranged-rule}
-use Rattle.keeping.proofs.Settling.{new, new-bytes, new-tiled, new-small, new-length-in, Edit, edit-kin, edit-sound, edit-moved, same-payloads, new-good}
+use Rattle.keeping.proofs.Settling.{new, new-bytes, new-tiled, new-small, Edit, edit-kin, edit-sound, edit-moved, same-payloads, new-good}
 
 -- the file has its boxes, in whichever order
 shape-arranged : {A : List Box → List Box} → Arranges A → (l : List Box) → shape FILE (A l) ≡ shape FILE l

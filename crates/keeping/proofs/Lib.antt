@@ -12,3 +12,4 @@ pub mod Settling
 pub mod Accepting
 pub mod Sampling
 pub mod Keeping
+pub mod Times

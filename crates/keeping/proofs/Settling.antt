@@ -70,7 +70,7 @@ module _ {A : List Box → List Box} (a : Arranges A) (xs ys : List ℕ) (w : By
   pub xs-tiled : after xs ≡ []
   xs-tiled = two-tiled 5 FILE xs (m .two)
 
-  ys-tiled : after ys ≡ []
+  pub ys-tiled : after ys ≡ []
   ys-tiled = sym (c .kin .1) ∙ xs-tiled
 
   ys-small : length ys < 4294967296
@@ -105,9 +105,6 @@ module _ {A : List Box → List Box} (a : Arranges A) (xs ys : List ℕ) (w : By
   pub settled-is : settled xs (write (A (boxes ys))) ≡ write (A (boxes new))
   unfolding settled
   settled-is = rw (arranged-boxes a ys (c .bytes) ys-tiled ys-small) (arranged-edit a ys (c .bytes) ys-tiled ys-small g keeps 5 FILE)
-
-  pub new-length-in : length (write (A (boxes new))) ≡ length (write (A (boxes ys)))
-  new-length-in = arranged-length a new new-bytes new-tiled new-small ∙ new-length ∙ sym (arranged-length a ys (c .bytes) ys-tiled ys-small)
 
   -- ---- payloads and offsets
 
