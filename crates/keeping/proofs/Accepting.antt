@@ -1,7 +1,6 @@
 -- An edit keeps every rule, and refusal 23 lets the file pass again. Assumes nothing.
-use Prim.Native.Nat.{ℕ, _≤_, _<_}
-use native.Mathlib.Omega.{arith}
-use mathlib.Core.Path.{_≡_, refl, sym, ap, _∙_}
+use Prim.Native.Nat.{ℕ, _≤_}
+use mathlib.Core.Path.{_≡_, refl}
 use mathlib.Core.Bool.{true}
 use mathlib.Core.List.{List}
 use lib.ListN.{length}
@@ -10,8 +9,8 @@ use Rattle.wire.specs.Numbers.{Bytes}
 use Rattle.boxes.specs.Box.{Box, write}
 use Rattle.boxes.specs.Boxes.{boxes}
 use Rattle.boxes.specs.Containers.{FILE, DEPTH}
-use Rattle.verdict.specs.Rule.{Rule, allIn}
-use Rattle.shape.specs.Shape.{needed, barred, exactly, besides, shape}
+use Rattle.verdict.specs.Rule.{Rule}
+use Rattle.shape.specs.Shape.{needed, besides, shape}
 use Rattle.shape.specs.Rules.{twoRule, threeRule, plainRule}
 use Rattle.shape.proofs.Keeping.{same-exactly, kin-2, kin-3, kin-plain}
 use Rattle.headers.specs.Four.{tracksFine, fourRule}
@@ -27,9 +26,11 @@ use Rattle.descriptions.specs.Ten.{tenIn, tenRule}
 use Rattle.descriptions.proofs.Kept.{kin-10}
 use Rattle.judge.specs.Acceptance.{Holds, Meets, plain}
 use Rattle.keeping.proofs.Content.{Content}
-use Rattle.keeping.proofs.Offsets.{six-forms}
-use Rattle.keeping.proofs.Arranging.{Arranges, arranged-boxes, arranged-rule}
-use Rattle.keeping.proofs.Settling.{new, new-bytes, new-tiled, new-small, Edit, edit-kin, edit-sound, edit-moved, same-payloads, new-good}
+use Rattle.keeping.proofs.Forms.{six-forms}
+use Rattle.keeping.proofs.Arranges.{Arranges}
+use Rattle.keeping.proofs.Arranging.{arranged-boxes, arranged-rule}
+use Rattle.keeping.proofs.Settling.{new, new-bytes, new-tiled, new-small, Edit, edit-kin, edit-sound}
+use Rattle.keeping.proofs.Following.{edit-moved, same-payloads, new-good}
 
 -- the file has its boxes, in whichever order
 shape-arranged : {A : List Box → List Box} → Arranges A → (l : List Box) → shape FILE (A l) ≡ shape FILE l

@@ -1,53 +1,24 @@
--- An order of the file's boxes that no rule sees. Assumes nothing.
-use Prim.Native.Nat.{ℕ, suc, _+_, _≤_, _<_}
+-- Laws of a file whose boxes were put in an order. Assumes nothing.
+use Prim.Native.Nat.{ℕ, suc, _<_}
 use native.Mathlib.Omega.{arith}
 use mathlib.Core.Path.{_≡_, refl, sym, ap, _∙_}
-use mathlib.Core.Bool.{Bool, true, false}
-use mathlib.Core.List.{List, [], _∷_, _++_, map, append-nil}
+use mathlib.Core.Bool.{true, false}
+use mathlib.Core.List.{List, [], _∷_, map, append-nil}
 use lib.ListN.{length}
 use Rattle.wire.specs.Numbers.{Bytes}
-use Rattle.wire.specs.Codes.{MOOV}
 use Rattle.wire.proofs.Tests.{both}
 use Rattle.boxes.specs.Box.{Box, write}
 use Rattle.boxes.specs.Boxes.{whole, boxes, after}
-use Rattle.boxes.specs.Containers.{FILE}
-use Rattle.boxes.specs.Seek.{count, find}
-use Rattle.boxes.specs.Rewrite.{Bodies, Leaves, over, overBoxes, editBox, editIn}
+use Rattle.boxes.specs.Rewrite.{Bodies, Leaves, over, editBox, editIn}
 use Rattle.boxes.specs.Kin.{All2}
 use Rattle.boxes.specs.Kin.All2.{nil, cons}
 use Rattle.boxes.proofs.Whole.{Good, short-not}
 use Rattle.boxes.proofs.Reading.{All, parts, lengths, boxes-write, after-write}
 use Rattle.boxes.proofs.Rewriting.{open-over, boxes-over, length-over, bytes-write}
 use Rattle.boxes.proofs.Editing.{box-length}
-use Rattle.media.specs.Payloads.{mdats}
 use Rattle.media.specs.Relocate.{Alike}
-use Rattle.verdict.specs.Rule.{Rule, allList, allIn}
-use Rattle.shape.specs.Shape.{first}
-
--- the same boxes, each with its bytes; what the rules read of the list stays, and bodies are not looked at
-pub record Arranges (A : List Box → List Box) : Type 1 where
-  pub each : {P : Box → Type 0} {l : List Box} → All P l → All P (A l)
-  pub size : (l : List Box) → length (write (A l)) ≡ length (write l)
-  pub payloads : (l : List Box) → mdats (A l) ≡ mdats l
-  pub counts : (c : ℕ) (l : List Box) → count c (A l) ≡ count c l
-  pub first : (l : List Box) → first (A l) ≡ first l
-  pub movie : (l : List Box) → find MOOV (A l) ≡ find MOOV l
-  pub all : (f : Box → Bool) (t : Bool) (l : List Box) → allList f t (A l) ≡ allList f t l
-  pub maps : (f : Bodies) (l : List Box) → A (map (over f) l) ≡ map (over f) (A l)
-
--- the order stays
-pub stay : Arranges (λ l. l)
-stay =
-    record {
-      each = λ a. a;
-      size = λ l. refl;
-      payloads = λ l. refl;
-      counts = λ c l. refl;
-      first = λ l. refl;
-      movie = λ l. refl;
-      all = λ f t l. refl;
-      maps = λ f l. refl;
-    }
+use Rattle.verdict.specs.Rule.{Rule, allIn}
+use Rattle.keeping.proofs.Arranges.{Arranges}
 
 -- bodies of the same length leave the layout
 alike-over : (f : Bodies) → ((c : ℕ) (b : List ℕ) → length (f c b) ≡ length b) → (l : List Box) → All2 Alike l (map (over f) l)
@@ -81,6 +52,7 @@ module _ {A : List Box → List Box} (a : Arranges A) (ys : List ℕ) (w : Bytes
   pub arranged-after : after (write (A (boxes ys))) ≡ []
   arranged-after = ap after (sym (append-nil (write (A (boxes ys))))) ∙ after-write [] none good small
 
+  -- it holds bytes
   pub arranged-bytes : Bytes (write (A (boxes ys)))
   arranged-bytes = bytes-write (a .each (parts ys w .filled))
 
@@ -101,6 +73,7 @@ module _ {A : List Box → List Box} (a : Arranges A) (ys : List ℕ) (w : Bytes
     unfolding editIn
     edit-boxes = boxes-over bodies ys w (rw (length-over bodies (box-length g keeps d k) ys) n)
 
+    -- to rewrite bodies and then to arrange is to arrange and then to rewrite
     pub arranged-edit : editIn g (suc d) k (write (A (boxes ys))) ≡ write (A (boxes (editIn g (suc d) k ys)))
     unfolding editIn
     arranged-edit =

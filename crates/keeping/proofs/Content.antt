@@ -1,7 +1,6 @@
 -- An edit of a file's content: boxes are rewritten where they stand, before chunk offsets follow. Assumes nothing.
 use Prim.Native.Nat.{ℕ, _≤_}
 use mathlib.Core.Path.{_≡_, refl, _∙_}
-use mathlib.Core.Bool.{true}
 use mathlib.Core.List.{List}
 use lib.ListN.{length}
 use Rattle.wire.specs.Numbers.{Bytes}
@@ -26,6 +25,7 @@ pub record Content (xs ys : List ℕ) : Type 1 where
 abbrev Equal : Leaf
 Equal k c b b′ = b ≡ b′
 
+-- which is sound
 pub equal-sound : Sound Equal
 equal-sound =
     record {

@@ -1,5 +1,5 @@
 -- Demand 3: what an edit makes of an accepted file is accepted, and has the same samples. Assumes nothing.
-use Prim.Native.Nat.{ℕ, _+_, _≤_, _<_}
+use Prim.Native.Nat.{ℕ, _≤_}
 use native.Mathlib.Omega.{arith}
 use mathlib.Core.Path.{_≡_, refl, sym, ap, subst, _∙_}
 use mathlib.Core.List.{List}
@@ -16,7 +16,8 @@ use Rattle.moving.specs.Moving.{moveOf}
 use Rattle.settle.specs.Settle.{settled}
 use Rattle.keeping.specs.Kept.{Kept}
 use Rattle.keeping.proofs.Content.{Content, content-same}
-use Rattle.keeping.proofs.Arranging.{Arranges, stay, arranged-length, arranged-bytes}
+use Rattle.keeping.proofs.Arranges.{Arranges, stay}
+use Rattle.keeping.proofs.Arranging.{arranged-length, arranged-bytes}
 use Rattle.keeping.proofs.Second.{second}
 use Rattle.keeping.proofs.Settling.{xs-tiled, new, new-bytes, new-tiled, new-small, new-length, edit-kin, settled-is, ys-tiled}
 use Rattle.keeping.proofs.Accepting.{edit-plain, edit-meets}

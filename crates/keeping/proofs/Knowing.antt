@@ -1,20 +1,18 @@
 -- A rule that holds of a file holds of the boxes that an edit relates. Assumes nothing.
-use Prim.Native.Nat.{ℕ, zero, suc, _+_, _≤_}
+use Prim.Native.Nat.{ℕ, zero, suc, _≤_}
 use native.Mathlib.Omega.{arith}
-use mathlib.Core.Path.{_≡_, refl, sym, ap, subst, _∙_}
+use mathlib.Core.Path.{_≡_, refl}
 use mathlib.Core.Bool.{Bool, true, false}
 use mathlib.Core.List.{List, [], _∷_}
 use lib.Dec.{eqb}
 use lib.ListN.{length}
-use borrow.Author.Tests.{eqb-true, eqb-false}
 use Rattle.wire.specs.Tests.{pick, ifEq}
 use Rattle.wire.specs.Clauses.{isLe}
-use Rattle.wire.proofs.Tests.{both, eq-yea, eq-nay}
 use Rattle.wire.proofs.Clauses.{is-le}
 use Rattle.boxes.specs.Box.{Box, write}
-use Rattle.boxes.specs.Boxes.{boxes, after}
+use Rattle.boxes.specs.Boxes.{boxes}
 use Rattle.boxes.specs.Containers.{kindIn}
-use Rattle.boxes.specs.Kin.{All2, Leaf, KinBox, Kin}
+use Rattle.boxes.specs.Kin.{All2, Leaf, Kin}
 use Rattle.boxes.specs.Kin.All2.{nil, cons}
 use Rattle.boxes.proofs.Reading.{lengths, length-cons}
 use Rattle.boxes.proofs.Reading.{All}
@@ -24,6 +22,7 @@ use Rattle.verdict.specs.Rule.{Rule, allList, allBox, allIn}
 
 -- ---- with the rule known of every opaque box of the first file
 
+-- G, and the rule of the first body
 abbrev pub With : Rule → Leaf → Leaf
 With r G k c b b′ = G k c b b′ × (r .leaf k c b ≡ true)
 
@@ -47,6 +46,7 @@ module _ (r : Rule) (G : Leaf) where
 
 -- ---- no box is longer than the file
 
+-- the rule that no opaque box is longer than n
 abbrev pub short : ℕ → Rule
 short n = record { leaf = λ k c b. isLe (length b) n; node = λ k xs. true; end = λ xs. true }
 
@@ -64,6 +64,7 @@ module _ (n : ℕ) where
       go true = is-le _ _ h
       go false = ih (kindIn k (x .code)) (x .body) h
 
+  -- it holds of a file of n bytes at most
   pub short-all : (d k : ℕ) (xs : List ℕ) → length xs ≤ n → allIn (short n) d k xs ≡ true
   unfolding allIn
   short-all zero k xs h = refl

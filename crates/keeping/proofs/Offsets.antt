@@ -1,45 +1,33 @@
 -- The rewriting of chunk offsets keeps every rule but 8, and relocates where a table has its form. Assumes nothing.
-use Prim.Native.Nat.{ℕ, _+_, _≤_, _<_}
+use Prim.Native.Nat.{ℕ, _≤_, _<_}
 use native.Mathlib.Omega.{arith}
-use mathlib.Core.Path.{_≡_, refl, sym, ap, subst, _∙_}
+use mathlib.Core.Path.{_≡_, refl, sym, subst}
 use mathlib.Core.Bool.{Bool, true, false}
 use mathlib.Core.List.{List}
 use lib.Dec.{eqb}
-use lib.ListN.{length, getD}
+use lib.ListN.{length}
 use borrow.Author.Tests.{eqb-true}
 use Rattle.wire.specs.Tests.{pick, ifEq}
 use Rattle.wire.specs.Numbers.{Bytes}
-use Rattle.wire.specs.Codes.{STBL, STTS, STSC, STSZ, STCO}
+use Rattle.wire.specs.Codes.{STBL, STCO}
 use Rattle.wire.proofs.Clauses.{le-is}
 use Rattle.wire.proofs.Numbers.{word-fits}
-use Rattle.boxes.specs.Box.{Box, write}
-use Rattle.boxes.specs.Containers.{kindIn}
+use Rattle.boxes.specs.Box.{Box}
 use Rattle.boxes.specs.Words.{reword, rewordLeaf}
 use Rattle.boxes.specs.Kin.{Leaf}
 use Rattle.boxes.proofs.Kin.{Then, Made}
 use Rattle.boxes.proofs.Wording.{reword-length}
 use Rattle.tables.specs.Tables.{hasForm, tableForm}
-use Rattle.tables.specs.Sizes.{sizesForm}
 use Rattle.tables.proofs.Tables.{form-is}
 use Rattle.media.specs.Relocate.{relocate, Relocated}
 use Rattle.media.proofs.Rewording.{relocated-reword}
 use Rattle.headers.specs.Forms.{ifBox, form}
 use Rattle.tracks.specs.Six.{tableOf, tableIn, sixRule}
-use Rattle.tracks.proofs.Kept.{Tables}
 use Rattle.settle.specs.Settle.{offsets}
 use Rattle.judge.specs.Judgement.{LONGEST}
 use Rattle.keeping.proofs.Sound.{Sound}
 use Rattle.keeping.proofs.Words.{byte-before, word-before}
 use Rattle.keeping.proofs.Knowing.{With, short}
-
--- a test that is asked where m is n, and one that is asked elsewhere
-if-kept : (m n : ℕ) (s s′ t t′ : Bool) → (m ≡ n → s ≡ true → s′ ≡ true) → (t ≡ true → t′ ≡ true) → ifEq m n s t ≡ true → ifEq m n s′ t′ ≡ true
-unfolding ifEq
-if-kept m n s s′ t t′ h g = go (eqb m n) refl
-  where
-    go : (e : Bool) → eqb m n ≡ e → pick e s t ≡ true → pick e s′ t′ ≡ true
-    go true e = h (eqb-true m n e)
-    go false e = g
 
 form-table : (b : List ℕ) → form STBL STCO b ≡ true
 unfolding form ifBox ifEq
@@ -83,28 +71,10 @@ module _ (f : ℕ → ℕ) where
         described = record { mdhd = λ b b′ r. rw (r .0); hdlr = λ b b′ r. rw (r .0); dref = λ b b′ r. rw (r .0); stsd = λ b b′ r a q. rw (r .0) q };
       }
 
--- ---- rule 6 is kept where the tables are
-
-module _ (G : Leaf) (t : Tables G) where
-  -- a table that is kept has what it had
-  same-form : (c : ℕ) (T : List ℕ → Bool) {d : ℕ} {b b′ : List ℕ} → ((b b′ : List ℕ) → G STBL c b b′ → T b ≡ T b′) → d ≡ c → G STBL d b b′ → T b ≡ true → T b′ ≡ true
-  same-form c T {d} {b} {b′} h e g q = sym (h b b′ (subst (λ (i : ℕ). G STBL i b b′) e g)) ∙ q
-
-  table-kept : (c : ℕ) (b b′ : List ℕ) → G STBL c b b′ → tableOf c b ≡ true → tableOf c b′ ≡ true
-  unfolding tableOf
-  table-kept c b b′ g =
-      if-kept c STTS _ _ _ _ (λ e. same-form STTS (tableForm 8) (λ u v r. ap (tableForm 8) (t .stts u v r)) e g)
-      (if-kept c STSC _ _ _ _ (λ e. same-form STSC (tableForm 12) (λ u v r. ap (tableForm 12) (t .stsc u v r)) e g)
-      (if-kept c STCO _ _ _ _ (λ e. same-form STCO (tableForm 4) (λ u v r. t .stco u v r .1) e g)
-      (if-kept c STSZ _ _ _ _ (λ e. same-form STSZ sizesForm (λ u v r. ap sizesForm (t .stsz u v r)) e g) (λ q. q))))
-
-  pub six-forms : (k c : ℕ) (b b′ : List ℕ) → G k c b b′ → tableIn k c b ≡ true → tableIn k c b′ ≡ true
-  unfolding tableIn
-  six-forms k c b b′ g = if-kept k STBL _ _ _ _ (λ e. table-kept c b b′ (subst (λ (i : ℕ). G i c b b′) e g)) (λ q. q)
-
 -- ---- rule 8: each offset is relocated
 
 module _ (G : Leaf) (same : (b b′ : List ℕ) → G STBL STCO b b′ → b ≡ b′) (f : ℕ → ℕ) (l m : List Box) (is : (o : ℕ) → f o ≡ relocate l m o) (below : (o : ℕ) → o < 4294967296 → relocate l m o < 4294967296) where
+  -- a table that had its form has each offset relocated
   pub offsets-moved : (b b″ : List ℕ) → Then (With sixRule (With (short LONGEST) G)) (Made (rewordLeaf offsets f)) STBL STCO b b″ → Relocated l m b b″
   unfolding rewordLeaf ifEq tableIn tableOf
   offsets-moved b b″ r =

@@ -1,7 +1,7 @@
 -- An edit keeps every track, and every sample of it byte for byte and in order. Assumes nothing.
-use Prim.Native.Nat.{ℕ, suc}
+use Prim.Native.Nat.{ℕ}
 use native.Mathlib.Omega.{arith}
-use mathlib.Core.Path.{_≡_, refl, sym, ap, _∙_}
+use mathlib.Core.Path.{_≡_, refl, sym}
 use mathlib.Core.Bool.{true}
 use mathlib.Core.List.{List, []}
 use Rattle.wire.specs.Tests.{ifEq, ifLe}
@@ -9,7 +9,7 @@ use Rattle.wire.specs.Numbers.{Bytes, word}
 use Rattle.wire.specs.Codes.{MOOV, TRAK, STBL, STSC, STSZ, STCO}
 use Rattle.boxes.specs.Box.{Box, write}
 use Rattle.boxes.specs.Boxes.{boxes}
-use Rattle.boxes.specs.Containers.{FILE, DEPTH, parent, kindIn}
+use Rattle.boxes.specs.Containers.{FILE, parent, kindIn}
 use Rattle.boxes.specs.Seek.{count, nth, find}
 use Rattle.boxes.specs.Kin.{Kin}
 use Rattle.boxes.proofs.Kin.{kin-count, kin-find, kin-child}
@@ -22,10 +22,12 @@ use Rattle.tracks.proofs.Kept.{same-table}
 use Rattle.judge.specs.Acceptance.{Meets}
 use Rattle.keeping.specs.Samples.{samples}
 use Rattle.keeping.proofs.Content.{Content}
-use Rattle.keeping.proofs.Arranging.{Arranges, arranged-boxes, arranged-after, arranged-bytes}
-use Rattle.keeping.proofs.Tracking.{Tracked, in-track}
+use Rattle.keeping.proofs.Arranges.{Arranges}
+use Rattle.keeping.proofs.Arranging.{arranged-boxes, arranged-after, arranged-bytes}
+use Rattle.keeping.proofs.Tracking.{in-track}
 use Rattle.keeping.proofs.Tables.{track-eight}
-use Rattle.keeping.proofs.Settling.{xs-tiled, new, new-bytes, new-tiled, new-small, Edit, edit-kin, edit-sound, edit-moved, same-payloads}
+use Rattle.keeping.proofs.Settling.{xs-tiled, new, new-bytes, new-tiled, new-small, Edit, edit-kin, edit-sound}
+use Rattle.keeping.proofs.Following.{edit-moved, same-payloads}
 
 -- a table that is missing of both has no offsets
 relocated-none : (l m : List Box) → Relocated l m [] []

@@ -1,5 +1,5 @@
 -- `moov` right after the first box is an order that no rule sees. Assumes nothing.
-use Prim.Native.Nat.{ℕ, _+_}
+use Prim.Native.Nat.{ℕ}
 use native.Mathlib.Omega.{arith}
 use mathlib.Core.Path.{_≡_, refl}
 use mathlib.Core.Bool.{Bool, true, false}
@@ -16,8 +16,9 @@ use Rattle.media.proofs.Payloads.{mdat-or, mdats-hit, mdats-miss}
 use Rattle.verdict.specs.Rule.{allList}
 use Rattle.shape.specs.Shape.{first}
 use Rattle.moving.specs.Moving.{moovSecond}
-use Rattle.keeping.proofs.Arranging.{Arranges}
-use Rattle.keeping.proofs.Sifting.{seconded, each-second, second-maps}
+use Rattle.keeping.proofs.Arranges.{Arranges}
+use Rattle.keeping.proofs.Sifting.{seconded, each-second}
+use Rattle.keeping.proofs.Mapping.{second-maps}
 
 -- ---- what the rules read
 

@@ -1,17 +1,25 @@
 -- Boxes in another order: `moov` before the others, and right after the first. Assumes nothing.
 use Prim.Native.Nat.{ℕ}
-use mathlib.Core.Path.{_≡_, refl, sym, ap, _∙_}
+use mathlib.Core.Path.{_≡_, refl, _∙_}
 use mathlib.Core.Bool.{Bool, true, false}
-use mathlib.Core.List.{List, [], _∷_, _++_, map}
+use mathlib.Core.List.{List, [], _∷_, _++_}
 use lib.Dec.{eqb}
 use borrow.Author.Tests.{eqb-true, eqb-false}
 use Rattle.wire.specs.Tests.{pick, ifEq}
 use Rattle.wire.specs.Codes.{MOOV}
 use Rattle.boxes.specs.Box.{Box}
-use Rattle.boxes.specs.Rewrite.{Bodies, over}
 use Rattle.boxes.proofs.Reading.{All}
 use Rattle.boxes.proofs.Reading.All.{none, some}
 use Rattle.moving.specs.Moving.{just, others, moovSecond}
+
+all-just : (l : List Box) → All (λ x. x .code ≡ MOOV) (just MOOV l)
+unfolding just ifEq
+all-just [] = none
+all-just (y ∷ l) = go (eqb (y .code) MOOV) refl (all-just l)
+  where
+    go : (t : Bool) → eqb (y .code) MOOV ≡ t → All (λ x. x .code ≡ MOOV) (just MOOV l) → All (λ x. x .code ≡ MOOV) (pick t (y ∷ just MOOV l) (just MOOV l))
+    go true e ih = some (eqb-true _ _ e) ih
+    go false e ih = ih
 
 -- ---- what sees no order of a `moov` and another box
 
@@ -20,15 +28,6 @@ module _ {X : Type 0} (F : List Box → X) (under : (y : Box) (l m : List Box) �
   to-front : (y : Box) (q : List Box) → (y .code ≡ MOOV → ⊥) → {p : List Box} → All (λ x. x .code ≡ MOOV) p → F (p ++ y ∷ q) ≡ F (y ∷ (p ++ q))
   to-front y q n none = refl
   to-front y q n (some {x} {l = p} h a) = under x (p ++ y ∷ q) (y ∷ (p ++ q)) (to-front y q n a) ∙ swap x y (p ++ q) h n
-
-  all-just : (l : List Box) → All (λ x. x .code ≡ MOOV) (just MOOV l)
-  unfolding just ifEq
-  all-just [] = none
-  all-just (y ∷ l) = go (eqb (y .code) MOOV) refl (all-just l)
-    where
-      go : (t : Bool) → eqb (y .code) MOOV ≡ t → All (λ x. x .code ≡ MOOV) (just MOOV l) → All (λ x. x .code ≡ MOOV) (pick t (y ∷ just MOOV l) (just MOOV l))
-      go true e ih = some (eqb-true _ _ e) ih
-      go false e ih = ih
 
   sifted : (l : List Box) → F (just MOOV l ++ others MOOV l) ≡ F l
   unfolding just others ifEq
@@ -39,6 +38,7 @@ module _ {X : Type 0} (F : List Box → X) (under : (y : Box) (l m : List Box) �
       go true e ih = under y _ _ ih
       go false e ih = to-front y (others MOOV l) (eqb-false _ _ e) (all-just l) ∙ under y _ _ ih
 
+  -- does not see that `moov` comes second
   pub seconded : (l : List Box) → F (moovSecond l) ≡ F l
   unfolding moovSecond
   seconded [] = refl
@@ -69,36 +69,8 @@ module _ {P : Box → Type 0} where
       go true ih = ih
       go false ih = some h ih
 
+  -- it is one of every box in the other order
   pub each-second : {l : List Box} → All P l → All P (moovSecond l)
   unfolding moovSecond
   each-second none = none
   each-second (some {x} {l} h a) = some h (all-append (each-just MOOV a) (each-others MOOV a))
-
--- ---- bodies rewritten
-
-map-append : {A B : Type 0} (f : A → B) (l m : List A) → map f (l ++ m) ≡ map f l ++ map f m
-map-append f [] m = refl
-map-append f (x ∷ l) m = rw (map-append f l m)
-
-just-maps : (c : ℕ) (f : Bodies) (l : List Box) → just c (map (over f) l) ≡ map (over f) (just c l)
-unfolding just ifEq
-just-maps c f [] = refl
-just-maps c f (x ∷ l) = go (eqb (x .code) c) (just-maps c f l)
-  where
-    go : (t : Bool) → just c (map (over f) l) ≡ map (over f) (just c l) → pick t (over f x ∷ just c (map (over f) l)) (just c (map (over f) l)) ≡ map (over f) (pick t (x ∷ just c l) (just c l))
-    go true e = ap (λ (z : List Box). over f x ∷ z) e
-    go false e = e
-
-others-maps : (c : ℕ) (f : Bodies) (l : List Box) → others c (map (over f) l) ≡ map (over f) (others c l)
-unfolding others ifEq
-others-maps c f [] = refl
-others-maps c f (x ∷ l) = go (eqb (x .code) c) (others-maps c f l)
-  where
-    go : (t : Bool) → others c (map (over f) l) ≡ map (over f) (others c l) → pick t (others c (map (over f) l)) (over f x ∷ others c (map (over f) l)) ≡ map (over f) (pick t (others c l) (x ∷ others c l))
-    go true e = e
-    go false e = ap (λ (z : List Box). over f x ∷ z) e
-
-pub second-maps : (f : Bodies) (l : List Box) → moovSecond (map (over f) l) ≡ map (over f) (moovSecond l)
-unfolding moovSecond
-second-maps f [] = refl
-second-maps f (x ∷ l) = rw (just-maps MOOV f l, others-maps MOOV f l, map-append (over f) (just MOOV l) (others MOOV l))

@@ -1,22 +1,18 @@
 -- What the opaque boxes of an edit must keep, so that every rule is kept. Assumes nothing.
-use Prim.Native.Nat.{ℕ, _≤_}
-use native.Mathlib.Omega.{arith}
-use mathlib.Core.Path.{_≡_, refl, sym, ap, _∙_}
-use mathlib.Core.Bool.{Bool, true, false}
+use Prim.Native.Nat.{ℕ}
+use mathlib.Core.Path.{_≡_, _∙_}
+use mathlib.Core.Bool.{true}
 use mathlib.Core.List.{List}
-use lib.ListN.{length, drop}
-use Rattle.wire.specs.Numbers.{Bytes, word}
-use Rattle.wire.specs.Codes.{TRAK, TKHD, DINF, DREF, STBL, STSD, STCO, MDAT}
-use Rattle.boxes.specs.Boxes.{boxes}
-use Rattle.boxes.specs.Containers.{FILE, DEPTH, kindIn}
-use Rattle.boxes.specs.Kin.{Leaf, Kin}
-use Rattle.boxes.proofs.Kin.{Then, kin-refl, kin-then}
+use Rattle.wire.specs.Numbers.{word}
+use Rattle.wire.specs.Codes.{TRAK, TKHD, DINF, DREF, STBL, STSD, MDAT}
+use Rattle.boxes.specs.Containers.{FILE, kindIn}
+use Rattle.boxes.specs.Kin.{Leaf}
+use Rattle.boxes.proofs.Kin.{Then}
 use Rattle.headers.specs.Forms.{form}
 use Rattle.lists.specs.Forms.{listForm}
 use Rattle.lists.specs.Urls.{allUrls}
 use Rattle.tracks.proofs.Kept.{Tables}
 use Rattle.descriptions.proofs.Kept.{Described}
-use Rattle.judge.specs.Judgement.{LONGEST}
 
 -- how a box is related to what it becomes, by its container's kind and its code: each rule but 8 is kept, and so are payloads
 pub record Sound (G : Leaf) : Type 0 where

@@ -1,28 +1,27 @@
 -- From a file down to the tables of one of its tracks. Assumes nothing.
-use Prim.Native.Nat.{ℕ, zero, suc, _≤_, _<_}
+use Prim.Native.Nat.{ℕ, zero, suc}
 use native.Mathlib.Omega.{arith}
-use mathlib.Core.Path.{_≡_, refl, sym, ap, subst, _∙_}
+use mathlib.Core.Path.{_≡_, refl}
 use mathlib.Core.Bool.{Bool, true, false}
-use mathlib.Core.List.{List, [], _∷_}
+use mathlib.Core.List.{List, []}
 use lib.Dec.{eqb}
-use borrow.Author.Tests.{eqb-true, eqb-false}
+use borrow.Author.Tests.{eqb-false}
 use Rattle.wire.specs.Tests.{pick, ifEq}
 use Rattle.wire.specs.Codes.{MOOV, TRAK, MDIA, MINF, STBL}
-use Rattle.wire.proofs.Tests.{both}
 use Rattle.boxes.specs.Box.{Box}
-use Rattle.boxes.specs.Boxes.{boxes, after}
+use Rattle.boxes.specs.Boxes.{boxes}
 use Rattle.boxes.specs.Containers.{FILE, DEPTH, parent, kindIn}
-use Rattle.boxes.specs.Seek.{ANY, meant, count, byNumber, nth, find}
+use Rattle.boxes.specs.Seek.{ANY, meant, byNumber, nth}
 use Rattle.boxes.proofs.Reading.{All}
 use Rattle.boxes.proofs.Reading.All.{none, some}
 use Rattle.boxes.proofs.Seeking.{meant-is, meant-most}
 use Rattle.movie.specs.Movie.{track}
 use Rattle.descriptions.proofs.Kept.{In}
-use Rattle.verdict.specs.Rule.{Rule, allList, allBox, allIn}
 
 -- ---- what is known of every box of a code is known of the one of a number
 
 module _ (c : ℕ) (z : c ≡ ANY → ⊥) (P : List ℕ → Type 0) (empty : P []) where
+  -- the payload of the n-th, or nothing
   pub each-nth : (n : ℕ) {l : List Box} → All (λ x. x .code ≡ c → P (x .body)) l → P (nth c n l)
   unfolding nth ifEq
   each-nth n none = empty
@@ -50,6 +49,7 @@ module _ (R : ℕ → ℕ → List ℕ → List ℕ → Type 0) (T : List ℕ �
       (λ b b′ r. into 2 MDIA MINF (In STBL T) (λ z. omega arith) (λ z. omega arith) empty
       (λ b b′ r. into 1 MINF STBL T (λ z. omega arith) (λ z. omega arith) empty last b b′ r 0) b b′ r 0) b b′ r 0
 
+  -- what T says of the tables of track t of two files that R relates
   pub in-track : (xs ys : List ℕ) → R DEPTH FILE xs ys → (t : ℕ) → Tracked T (track xs t) (track ys t)
   unfolding track kindIn parent ifEq boxes nth
   in-track xs ys r t =
