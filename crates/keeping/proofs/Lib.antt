@@ -19,3 +19,6 @@ pub mod Sampling
 pub mod Clocked
 pub mod Times
 pub mod Keeping
+pub mod Entry
+pub mod Changed
+pub mod Once
