@@ -5,6 +5,7 @@ use entries::decoder;
 use heads::lend;
 use records::field::Amr;
 use records::field::H263;
+use records::field::Rates;
 use records::field::Record;
 use records::record;
 use records::record::Written;
@@ -38,9 +39,9 @@ fn say_picture(f: H263) {
     item(f.version);
     item(f.level);
     item(f.profile);
-    item(f.rates);
-    item(f.average);
-    item(f.maximum);
+    item(f.rates.given);
+    item(f.rates.average);
+    item(f.rates.maximum);
 }
 
 fn say_record(fields: Record) {
@@ -112,9 +113,11 @@ fn picture(list: &[u8]) -> H263 {
         version: wide(list, 7),
         level: wide(list, 8),
         profile: wide(list, 9),
-        rates: wide(list, 10),
-        average: wide(list, 11),
-        maximum: wide(list, 12),
+        rates: Rates {
+            given: wide(list, 10),
+            average: wide(list, 11),
+            maximum: wide(list, 12),
+        },
     }
 }
 

@@ -1,0 +1,5 @@
+pub mod Order
+pub mod Pieces
+pub mod Parted
+pub mod Moved
+pub mod Calls

@@ -14,23 +14,21 @@ use Rattle.heads.specs.Heads.{audioHead}
 use Rattle.heads.proofs.Meeting.{kind-code}
 use Rattle.heads.proofs.Putting.{grow, grow-header}
 use Rattle.entries.proofs.Speech.{Spoken, SpeechAt}
-use Rattle.records.specs.Fields.{amrIn}
+use Rattle.records.specs.Fields.{amrIn, amrRule}
 use Rattle.records.specs.Texts.{amrText}
-use Rattle.records.proofs.Fitting.{AmrFits}
+use Rattle.records.proofs.Fitting.{below-none, below-more}
 
 module _ (most kind : ℕ) (xs : List ℕ) (b : Bytes xs) (s : Spoken kind) (k : kindOf (word 4 xs 4) ≡ kind) (p : SpeechAt kind most xs) where
-  pub amr-read-fits : AmrFits most (amrIn kind xs)
-  amr-read-fits =
-      record {
-        reference = word-fits 2 xs 14 b;
-        scale = word-fits 2 xs 32 b;
-        vendor = word-fits 4 xs 44 b;
-        version = word-fits 1 xs 48 b;
-        modes = word-fits 2 xs 49 b;
-        period = word-fits 1 xs 51 b;
-        frames = word-fits 1 xs 52 b;
-        rule = p .frames;
-      }
+  pub amr-read-rule : amrRule most (amrIn kind xs) ≡ 1
+  unfolding amrRule
+  amr-read-rule =
+      below-more _ _ _ (word-fits 2 xs 14 b)
+      (below-more _ _ _ (word-fits 2 xs 32 b)
+      (below-more _ _ _ (word-fits 4 xs 44 b)
+      (below-more _ _ _ (word-fits 1 xs 48 b)
+      (below-more _ _ _ (word-fits 2 xs 49 b)
+      (below-more _ _ _ (word-fits 1 xs 51 b)
+      (below-more _ _ _ (word-fits 1 xs 52 b) (below-none _ (p .frames))))))))
 
   head : take 36 xs ≡ audioHead 53 (codeOf kind) (word 2 xs 14) (word 2 xs 32)
   head =

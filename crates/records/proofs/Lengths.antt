@@ -32,6 +32,6 @@ length-chosen m n xs ys = go (eqb m n)
     go true = refl
     go false = refl
 
-pub h263-length : (f : H263) → ifEq (f .rates) 1 117 101 ≡ length (h263Text f)
+pub h263-length : (f : H263) → ifEq (f .rates .given) 1 117 101 ≡ length (h263Text f)
 unfolding h263Text
-h263-length f = sym (length-chosen (f .rates) 1 (ratedText f) (plainText 101 15 f) ∙ rw (rated-length f, plain-length 101 15 f))
+h263-length f = sym (length-chosen (f .rates .given) 1 (ratedText f) (plainText 101 15 f) ∙ rw (rated-length f, plain-length 101 15 f))

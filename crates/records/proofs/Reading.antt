@@ -21,7 +21,7 @@ use Rattle.records.specs.declared.field.Record.the-variants.{Speech, Pic
 use Rattle.records.specs.Fields.{amrIn, h263In, recordIn, amrRule, h263Rule, speechRule, fieldsRule}
 use Rattle.records.specs.Texts.{amrText, plainText, ratedText, h263Text, textOf}
 use Rattle.records.specs.Records.{readOf}
-use Rattle.records.proofs.Fitting.{amr-fits, picture-fits, rates-met}
+use Rattle.records.proofs.Fitting.{below-rule, rates-met}
 use Rattle.records.proofs.Speaking.{amr-words, amr-at, amr-back}
 use Rattle.records.proofs.Showing.{plain-code, plain-at, plain-back, rated-code, rated-at, rated-back}
 
@@ -51,27 +51,25 @@ kind-s263 = refl
 read-speech : (most : ℕ) (f : Amr) → speechRule most f ≡ 1 → readOf most (amrText f) ≡ Speech f
 read-speech most f e =
     let s = speech-kind most f e in
-    let a = amr-fits most f (s .1) in
-    let k : kindOf (word 4 (amrText f) 4) ≡ f .kind = ap kindOf (amr-words most f (s .0) a .code) ∙ code-kind (f .kind) (⊎-elim (λ q. omega arith) (λ q. omega arith) (s .0)) in
-    sym (read-as most (f .kind) (amrText f) k (speech-is (f .kind) most (amrText f) (s .0) Alone (amr-at most f (s .0) a) refl))
-    ∙ sym (record-speech (f .kind) (amrText f) (s .0)) ∙ ap Speech (amr-back most f (s .0) a)
+    let k : kindOf (word 4 (amrText f) 4) ≡ f .kind = ap kindOf (amr-words most f (s .0) (s .1) .code) ∙ code-kind (f .kind) (⊎-elim (λ q. omega arith) (λ q. omega arith) (s .0)) in
+    sym (read-as most (f .kind) (amrText f) k (speech-is (f .kind) most (amrText f) (s .0) Alone (amr-at most f (s .0) (s .1)) refl))
+    ∙ sym (record-speech (f .kind) (amrText f) (s .0)) ∙ ap Speech (amr-back most f (s .0) (s .1))
 
 -- a picture's text that meets the rule and holds the fields
 read-text : (most : ℕ) (f : H263) (xs : List ℕ) → word 4 xs 4 ≡ S263 → ruleAs 5 Alone most xs ≡ 1 → h263In xs ≡ f → readOf most xs ≡ Picture f
 read-text most f xs c e g = sym (read-as most 5 xs (ap kindOf c ∙ kind-s263) e) ∙ sym (record-picture xs) ∙ ap Picture g
 
 read-picture : (most : ℕ) (f : H263) → h263Rule f ≡ 1 → readOf most (h263Text f) ≡ Picture f
-unfolding h263Text
+unfolding h263Text h263Rule
 read-picture most f e =
-    let a = picture-fits f e in
     ⊎-elim
     (λ r.
-    let t : ratedText f ≡ ifEq (f .rates) 1 (ratedText f) (plainText 101 15 f) = eq-yea _ _ _ _ _ (r .flag) refl in
-    rw (← t) (read-text most f (ratedText f) (rated-code f a r) (rated-is most (ratedText f) Alone refl (rated-at f a r)) (rated-back f a r)))
+    let t : ratedText f ≡ ifEq (f .rates .given) 1 (ratedText f) (plainText 101 15 f) = eq-yea _ _ _ _ _ (r .flag) refl in
+    rw (← t) (read-text most f (ratedText f) (rated-code f e r) (rated-is most (ratedText f) Alone refl (rated-at f e r)) (rated-back f e r)))
     (λ r.
-    let t : plainText 101 15 f ≡ ifEq (f .rates) 1 (ratedText f) (plainText 101 15 f) = eq-nay _ _ _ _ _ (λ z. omega (arith, r .flag)) refl in
-    rw (← t) (read-text most f (plainText 101 15 f) (plain-code f a r) (picture-is most (plainText 101 15 f) Alone refl (plain-at f a r)) (plain-back f a r)))
-    (rates-met f (a .rates))
+    let t : plainText 101 15 f ≡ ifEq (f .rates .given) 1 (ratedText f) (plainText 101 15 f) = eq-nay _ _ _ _ _ (λ z. omega (arith, r .flag)) refl in
+    rw (← t) (read-text most f (plainText 101 15 f) (plain-code f e r) (picture-is most (plainText 101 15 f) Alone refl (plain-at f e r)) (plain-back f e r)))
+    (rates-met (f .rates) (below-rule _ _ e))
 
 -- a record that the writer takes reads back as itself
 pub written-reads : (most : ℕ) (r : Record) → fieldsRule most r ≡ 1 → readOf most (textOf r) ≡ r

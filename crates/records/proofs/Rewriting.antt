@@ -17,8 +17,7 @@ use Rattle.records.specs.declared.field.Record.the-variants.{Speech, Pic
 use Rattle.records.specs.Fields.{amrIn, h263In, recordIn, speechRule, fieldsRule}
 use Rattle.records.specs.Texts.{textOf}
 use Rattle.records.specs.Records.{readOf}
-use Rattle.records.proofs.Fitting.{amr-rule, picture-rule}
-use Rattle.records.proofs.Hearing.{amr-read-fits, amr-again}
+use Rattle.records.proofs.Hearing.{amr-read-rule, amr-again}
 use Rattle.records.proofs.Seeing.{plain-again, rated-again}
 
 -- the writer takes a record, and its text is xs
@@ -31,7 +30,7 @@ module _ (most : ℕ) (xs : List ℕ) (b : Bytes xs) where
   unfolding speechRule
   speech-again kind s k e =
       let p = speech-met kind most xs s Alone e in
-      let a = amr-rule most (amrIn kind xs) (amr-read-fits most kind xs b s k p) in
+      let a = amr-read-rule most kind xs b s k p in
       record {
         rule = sym (⊎-elim (λ q. eq-yea _ _ _ _ _ q (sym a)) (λ q. eq-nay _ _ _ _ _ (λ z. omega arith) (eq-yea _ _ _ _ _ q (sym a))) s);
         text = amr-again most kind xs b s k p;
@@ -39,8 +38,8 @@ module _ (most : ℕ) (xs : List ℕ) (b : Bytes xs) where
 
   picture-again : kindOf (word 4 xs 4) ≡ 5 → ruleAs 5 Alone most xs ≡ 1 → Again most xs (Picture (h263In xs))
   picture-again k e =
-      ⊎-elim (λ p. let g = plain-again xs b k p in record { rule = picture-rule (h263In xs) (g .0); text = g .1 })
-      (λ p. let g = rated-again xs b k p in record { rule = picture-rule (h263In xs) (g .0); text = g .1 })
+      ⊎-elim (λ p. let g = plain-again xs b k p in record { rule = g .0; text = g .1 })
+      (λ p. let g = rated-again xs b k p in record { rule = g .0; text = g .1 })
       (picture-met most xs Alone e)
 
   kind-again : (kind : ℕ) (r : Record) → kindOf (word 4 xs 4) ≡ kind → ruleAs kind Alone most xs ≡ 1 → recordIn kind xs ≡ r → (r ≡ Broken → ⊥) → Again most xs r

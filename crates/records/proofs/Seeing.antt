@@ -3,7 +3,7 @@ use Prim.Native.Nat.{ℕ, _+_, _≤_}
 use native.Mathlib.Omega.{arith}
 use mathlib.Core.Path.{_≡_, refl, sym, _∙_}
 use mathlib.Core.List.{List}
-use lib.ListN.{length, take}
+use lib.ListN.{take}
 use lib.Seq.{take-all}
 use Rattle.wire.specs.Tests.{ifEq}
 use Rattle.wire.specs.Numbers.{Bytes, word}
@@ -14,27 +14,25 @@ use Rattle.heads.specs.Kinds.{kindOf, codeOf}
 use Rattle.heads.proofs.Meeting.{kind-code}
 use Rattle.heads.proofs.Putting.{grow, grow-header}
 use Rattle.entries.proofs.Picture.{PictureAt, RatedAt}
-use Rattle.records.specs.Fields.{h263In, ratesRule}
+use Rattle.records.specs.Fields.{ratesIn, h263In, ratesRule, h263Rule}
 use Rattle.records.specs.Texts.{plainText, ratedText, h263Text}
-use Rattle.records.proofs.Fitting.{PictureFits, Rated, Plain, rated-rule, plain-rule}
+use Rattle.records.proofs.Fitting.{below-none, below-more, Rated, Plain, rated-rule, plain-rule}
 
 s263 : codeOf 5 ≡ S263
 unfolding codeOf ifEq
 s263 = refl
 
 module _ (xs : List ℕ) (b : Bytes xs) where
-  fits : ratesRule (ifEq (length xs) 117 1 0) (word 4 xs 109) (word 4 xs 113) ≡ 1 → PictureFits (h263In xs)
-  fits r =
-      record {
-        reference = word-fits 2 xs 14 b;
-        width = word-fits 2 xs 32 b;
-        height = word-fits 2 xs 34 b;
-        vendor = word-fits 4 xs 94 b;
-        version = word-fits 1 xs 98 b;
-        level = word-fits 1 xs 99 b;
-        profile = word-fits 1 xs 100 b;
-        rates = r;
-      }
+  rule : ratesRule (ratesIn xs) ≡ 1 → h263Rule (h263In xs) ≡ 1
+  unfolding h263Rule
+  rule r =
+      below-more _ _ _ (word-fits 2 xs 14 b)
+      (below-more _ _ _ (word-fits 2 xs 32 b)
+      (below-more _ _ _ (word-fits 2 xs 34 b)
+      (below-more _ _ _ (word-fits 4 xs 94 b)
+      (below-more _ _ _ (word-fits 1 xs 98 b)
+      (below-more _ _ _ (word-fits 1 xs 99 b)
+      (below-more _ _ _ (word-fits 1 xs 100 b) (below-none _ r)))))))
 
   module _ (k : kindOf (word 4 xs 4) ≡ 5) where
     -- up to the profile
@@ -50,7 +48,7 @@ module _ (xs : List ℕ) (b : Bytes xs) where
         (grow-header xs b 86 n D263 (omega arith) (p .inner) (p .code) (rw (p .size, c) at (p .front))))))
 
     module _ (p : PictureAt 15 xs) where
-      plain : Plain (h263In xs)
+      plain : Plain (ratesIn xs)
       plain =
           let l = p .long in
           record {
@@ -59,23 +57,23 @@ module _ (xs : List ℕ) (b : Bytes xs) where
             maximum = word-out 4 xs 113 (omega arith);
           }
 
-      pub plain-again : (PictureFits (h263In xs)) × (h263Text (h263In xs) ≡ xs)
+      pub plain-again : (h263Rule (h263In xs) ≡ 1) × (h263Text (h263In xs) ≡ xs)
       unfolding h263Text
       plain-again =
           let l = p .long in (
-            fits (plain-rule (h263In xs) plain),
+            rule (plain-rule (ratesIn xs) plain),
             sym (eq-nay _ _ _ _ _ (λ e. omega (arith, plain .flag)) (sym (take-all 101 xs (omega arith)) ∙ start 15 (omega arith) p)),
           )
 
     module _ (p : RatedAt xs) where
-      rated : Rated (h263In xs)
+      rated : Rated (ratesIn xs)
       rated = record { flag = sym (eq-yea _ _ _ _ _ (p .start .long) refl); average = word-fits 4 xs 109 b; maximum = word-fits 4 xs 113 b }
 
-      pub rated-again : (PictureFits (h263In xs)) × (h263Text (h263In xs) ≡ xs)
+      pub rated-again : (h263Rule (h263In xs) ≡ 1) × (h263Text (h263In xs) ≡ xs)
       unfolding h263Text ratedText
       rated-again =
           let l = p .start .long in (
-            fits (rated-rule (h263In xs) rated),
+            rule (rated-rule (ratesIn xs) rated),
             sym
                 (eq-yea _ _ _ _ _ (rated .flag)
                 (sym (take-all 117 xs (omega arith))

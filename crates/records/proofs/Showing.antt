@@ -12,13 +12,13 @@ use Rattle.wire.proofs.Numbers.{word-bytes, word-out}
 use Rattle.heads.specs.Heads.{boxHeader, commonHead, visualStart, visualHead}
 use Rattle.entries.proofs.Picture.{PictureAt, RatedAt}
 use Rattle.records.specs.declared.field.H263.{H263}
-use Rattle.records.specs.Fields.{h263In}
+use Rattle.records.specs.Fields.{h263In, h263Rule}
 use Rattle.records.specs.Texts.{plainText, ratedText}
 use Rattle.records.proofs.Lengths.{plain-length, rated-length}
-use Rattle.records.proofs.Fitting.{PictureFits, Rated, Plain}
+use Rattle.records.proofs.Fitting.{Rated, Plain}
 use Rattle.records.proofs.Starting.{picture-words, picture-at}
 
-module _ (f : H263) (a : PictureFits f) (r : Plain f) where
+module _ (f : H263) (a : h263Rule f ≡ 1) (r : Plain (f .rates)) where
   all : take 101 (plainText 101 15 f) ≡ plainText 101 15 f
   all = take-all 101 _ (rw plain-length (omega arith))
 
@@ -32,19 +32,19 @@ module _ (f : H263) (a : PictureFits f) (r : Plain f) where
   plain-back =
       let w = picture-words f a 15 (omega arith) (plainText 101 15 f) all (plain-length 101 15 f) (omega arith) in
       let l = plain-length 101 15 f in
-      let c : ifEq (length (plainText 101 15 f)) 117 1 0 ≡ f .rates = sym (eq-nay _ _ _ _ _ (λ e. omega arith) (r .flag)) in
-      let v : word 4 (plainText 101 15 f) 109 ≡ f .average = word-out 4 _ 109 (omega arith) ∙ sym (r .average) in
-      let x : word 4 (plainText 101 15 f) 113 ≡ f .maximum = word-out 4 _ 113 (omega arith) ∙ sym (r .maximum) in
+      let c : ifEq (length (plainText 101 15 f)) 117 1 0 ≡ f .rates .given = sym (eq-nay _ _ _ _ _ (λ e. omega arith) (r .flag)) in
+      let v : word 4 (plainText 101 15 f) 109 ≡ f .rates .average = word-out 4 _ 109 (omega arith) ∙ sym (r .average) in
+      let x : word 4 (plainText 101 15 f) 113 ≡ f .rates .maximum = word-out 4 _ 113 (omega arith) ∙ sym (r .maximum) in
       rw (w .reference, w .width, w .height, w .vendor, w .version, w .level, w .profile, c, v, x)
 
-module _ (f : H263) (a : PictureFits f) (r : Rated f) where
+module _ (f : H263) (a : h263Rule f ≡ 1) (r : Rated (f .rates)) where
   start : take 101 (ratedText f) ≡ plainText 117 31 f
   unfolding ratedText plainText visualHead visualStart commonHead boxHeader bytes bytesOn
   start = refl
 
-  rates : (word 4 (ratedText f) 101 ≡ 16) × (word 4 (ratedText f) 105 ≡ BITR) × (word 4 (ratedText f) 109 ≡ f .average) × (word 4 (ratedText f) 113 ≡ f .maximum)
+  rates : (word 4 (ratedText f) 101 ≡ 16) × (word 4 (ratedText f) 105 ≡ BITR) × (word 4 (ratedText f) 109 ≡ f .rates .average) × (word 4 (ratedText f) 113 ≡ f .rates .maximum)
   unfolding ratedText plainText visualHead visualStart commonHead boxHeader bytes bytesOn word ifLe
-  rates = (refl, refl, word-bytes 4 (f .average) [] (r .average), word-bytes 4 (f .maximum) [] (r .maximum))
+  rates = (refl, refl, word-bytes 4 (f .rates .average) [] (r .average), word-bytes 4 (f .rates .maximum) [] (r .maximum))
 
   pub rated-code : word 4 (ratedText f) 4 ≡ S263
   rated-code = picture-words f a 31 (omega arith) (ratedText f) start (rated-length f) (omega arith) .code
@@ -55,5 +55,5 @@ module _ (f : H263) (a : PictureFits f) (r : Rated f) where
   pub rated-back : h263In (ratedText f) ≡ f
   rated-back =
       let w = picture-words f a 31 (omega arith) (ratedText f) start (rated-length f) (omega arith) in
-      let c : ifEq (length (ratedText f)) 117 1 0 ≡ f .rates = sym (eq-yea _ _ _ _ _ (rated-length f) (r .flag)) in
+      let c : ifEq (length (ratedText f)) 117 1 0 ≡ f .rates .given = sym (eq-yea _ _ _ _ _ (rated-length f) (r .flag)) in
       rw (w .reference, w .width, w .height, w .vendor, w .version, w .level, w .profile, c, rates .2, rates .3)

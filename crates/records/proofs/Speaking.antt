@@ -13,10 +13,10 @@ use Rattle.heads.specs.Kinds.{codeOf}
 use Rattle.heads.specs.Heads.{boxHeader, commonHead, audioHead}
 use Rattle.entries.proofs.Speech.{Spoken, SpeechAt}
 use Rattle.records.specs.declared.field.Amr.{Amr}
-use Rattle.records.specs.Fields.{amrIn}
+use Rattle.records.specs.Fields.{amrIn, amrRule}
 use Rattle.records.specs.Texts.{amrText}
 use Rattle.records.proofs.Lengths.{amr-length}
-use Rattle.records.proofs.Fitting.{AmrFits}
+use Rattle.records.proofs.Fitting.{below-at, below-rule}
 
 code-fits : (kind : ℕ) → Spoken kind → codeOf kind < 4294967296
 unfolding codeOf ifEq
@@ -36,22 +36,22 @@ pub record AmrWords (f : Amr) (xs : List ℕ) : Type 0 where
   pub period : word 1 xs 51 ≡ f .period
   pub frames : word 1 xs 52 ≡ f .frames
 
-module _ (most : ℕ) (f : Amr) (s : Spoken (f .kind)) (a : AmrFits most f) where
+module _ (most : ℕ) (f : Amr) (s : Spoken (f .kind)) (a : amrRule most f ≡ 1) where
   pub amr-words : AmrWords f (amrText f)
-  unfolding amrText audioHead commonHead boxHeader bytes bytesOn word ifLe
+  unfolding amrRule amrText audioHead commonHead boxHeader bytes bytesOn word ifLe
   amr-words =
       record {
         size = refl;
         code = word-bytes 4 (codeOf (f .kind)) [] (code-fits (f .kind) s);
-        reference = word-bytes 2 (f .reference) [] (a .reference);
-        scale = word-bytes 2 (f .scale) [] (a .scale);
+        reference = word-bytes 2 (f .reference) [] (below-at 0 _ _ a);
+        scale = word-bytes 2 (f .scale) [] (below-at 1 _ _ a);
         inner = refl;
         damr = refl;
-        vendor = word-bytes 4 (f .vendor) [] (a .vendor);
-        version = word-bytes 1 (f .version) [] (a .version);
-        modes = word-bytes 2 (f .modes) [] (a .modes);
-        period = word-bytes 1 (f .period) [] (a .period);
-        frames = word-bytes 1 (f .frames) [] (a .frames);
+        vendor = word-bytes 4 (f .vendor) [] (below-at 2 _ _ a);
+        version = word-bytes 1 (f .version) [] (below-at 3 _ _ a);
+        modes = word-bytes 2 (f .modes) [] (below-at 4 _ _ a);
+        period = word-bytes 1 (f .period) [] (below-at 5 _ _ a);
+        frames = word-bytes 1 (f .frames) [] (below-at 6 _ _ a);
       }
 
   amr-front : take 36 (amrText f) ≡ audioHead 53 (codeOf (f .kind)) (f .reference) (f .scale)
@@ -59,6 +59,7 @@ module _ (most : ℕ) (f : Amr) (s : Spoken (f .kind)) (a : AmrFits most f) wher
   amr-front = refl
 
   pub amr-at : SpeechAt (f .kind) most (amrText f)
+  unfolding amrRule
   amr-at =
       let w = amr-words in
       record {
@@ -67,7 +68,7 @@ module _ (most : ℕ) (f : Amr) (s : Spoken (f .kind)) (a : AmrFits most f) wher
         front = rw (w .size, w .code, w .reference, w .scale) amr-front;
         inner = w .inner;
         code = w .damr;
-        frames = rw (w .modes, w .period, w .frames) (a .rule);
+        frames = rw (w .modes, w .period, w .frames) (below-rule _ _ a);
       }
 
   pub amr-back : amrIn (f .kind) (amrText f) ≡ f

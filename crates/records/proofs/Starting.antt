@@ -14,7 +14,8 @@ use Rattle.entries.proofs.Replacing.{word-take}
 use Rattle.entries.proofs.Picture.{PictureAt}
 use Rattle.records.specs.declared.field.H263.{H263}
 use Rattle.records.specs.Texts.{plainText}
-use Rattle.records.proofs.Fitting.{PictureFits}
+use Rattle.records.specs.Fields.{h263Rule}
+use Rattle.records.proofs.Fitting.{below-at}
 
 -- what stands where up to the profile
 pub record PictureWords (n : ℕ) (f : H263) (xs : List ℕ) : Type 0 where
@@ -30,22 +31,22 @@ pub record PictureWords (n : ℕ) (f : H263) (xs : List ℕ) : Type 0 where
   pub level : word 1 xs 99 ≡ f .level
   pub profile : word 1 xs 100 ≡ f .profile
 
-module _ (f : H263) (a : PictureFits f) where
+module _ (f : H263) (a : h263Rule f ≡ 1) where
   plain-words : (n : ℕ) → n < 100 → PictureWords n f (plainText (86 + n) n f)
-  unfolding plainText visualHead visualStart commonHead boxHeader bytes bytesOn word ifLe
+  unfolding h263Rule plainText visualHead visualStart commonHead boxHeader bytes bytesOn word ifLe
   plain-words n h =
       record {
         size = word-bytes 4 (86 + n) [] (omega arith);
         code = refl;
-        reference = word-bytes 2 (f .reference) [] (a .reference);
-        width = word-bytes 2 (f .width) [] (a .width);
-        height = word-bytes 2 (f .height) [] (a .height);
+        reference = word-bytes 2 (f .reference) [] (below-at 0 _ _ a);
+        width = word-bytes 2 (f .width) [] (below-at 1 _ _ a);
+        height = word-bytes 2 (f .height) [] (below-at 2 _ _ a);
         inner = word-bytes 4 n [] (omega arith);
         d263 = refl;
-        vendor = word-bytes 4 (f .vendor) [] (a .vendor);
-        version = word-bytes 1 (f .version) [] (a .version);
-        level = word-bytes 1 (f .level) [] (a .level);
-        profile = word-bytes 1 (f .profile) [] (a .profile);
+        vendor = word-bytes 4 (f .vendor) [] (below-at 3 _ _ a);
+        version = word-bytes 1 (f .version) [] (below-at 4 _ _ a);
+        level = word-bytes 1 (f .level) [] (below-at 5 _ _ a);
+        profile = word-bytes 1 (f .profile) [] (below-at 6 _ _ a);
       }
 
   plain-front : (n : ℕ) → take 86 (plainText (86 + n) n f) ≡ visualHead (86 + n) S263 (f .reference) (f .width) (f .height) (bytes 32 0)

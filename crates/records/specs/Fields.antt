@@ -1,11 +1,12 @@
 -- The fields of a record, read from where they stand in an entry, and the rule that they meet: 1, or 0.
 use Prim.Native.Nat.{ℕ}
-use mathlib.Core.List.{List}
+use mathlib.Core.List.{List, [], _∷_}
 use lib.ListN.{length}
 use Rattle.wire.specs.Tests.{ifEq, ifLt}
 use Rattle.wire.specs.Numbers.{word}
 use Rattle.entries.specs.Decoders.{framesRule}
 use Rattle.records.specs.declared.field.Amr.{Amr}
+use Rattle.records.specs.declared.field.Rates.{Rates}
 use Rattle.records.specs.declared.field.H263.{H263}
 use Rattle.records.specs.declared.field.Record.{Record}
 use Rattle.records.specs.declared.field.Record.the-variants.{Speech, Picture, Broken}
@@ -25,7 +26,10 @@ amrIn kind xs =
       frames = word 1 xs 52;
     }
 
--- rates is 1 where a `bitr` follows; where none does, both rates are 0
+-- given is 1 where a `bitr` follows; where none does, both rates are 0
+abbrev pub ratesIn : List ℕ → Rates
+ratesIn xs = record { given = ifEq (length xs) 117 1 0; average = word 4 xs 109; maximum = word 4 xs 113 }
+
 abbrev pub h263In : List ℕ → H263
 h263In xs =
     record {
@@ -36,9 +40,7 @@ h263In xs =
       version = word 1 xs 98;
       level = word 1 xs 99;
       profile = word 1 xs 100;
-      rates = ifEq (length xs) 117 1 0;
-      average = word 4 xs 109;
-      maximum = word 4 xs 113;
+      rates = ratesIn xs;
     }
 
 -- the record of an entry of a kind: the other kinds have none
@@ -47,36 +49,31 @@ recordIn kind xs = ifEq kind 3 (Speech (amrIn kind xs)) (ifEq kind 4 (Speech (am
 
 -- ---- their rule
 
+-- r where each number is below its limit, else 0
+unfoldable pub below : List (ℕ × ℕ) → ℕ → ℕ
+below [] r = r
+below (p ∷ ps) r = ifLt (p .0) (p .1) (below ps r) 0
+
 -- every number fits its place, and the decoder record's own rule holds
 unfoldable pub amrRule : ℕ → Amr → ℕ
 amrRule most f =
-    ifLt (f .reference) 65536
-    (ifLt (f .scale) 65536
-    (ifLt (f .vendor) 4294967296
-    (ifLt (f .version) 256
-    (ifLt (f .modes) 65536
-    (ifLt (f .period) 256
-    (ifLt (f .frames) 256
+    below
+    ((f .reference, 65536) ∷ (f .scale, 65536) ∷ (f .vendor, 4294967296) ∷ (f .version, 256)
+    ∷ (f .modes, 65536) ∷ (f .period, 256) ∷ (f .frames, 256) ∷ [])
     (framesRule (f .kind) most (f .modes) (f .period) (f .frames))
-    0) 0) 0) 0) 0) 0) 0
 
 -- the rates of a `bitr` fit their places; without one they are 0
-unfoldable pub ratesRule : ℕ → ℕ → ℕ → ℕ
-ratesRule rates average maximum =
-    ifEq rates 1 (ifLt average 4294967296 (ifLt maximum 4294967296 1 0) 0)
-    (ifEq rates 0 (ifEq average 0 (ifEq maximum 0 1 0) 0) 0)
+unfoldable pub ratesRule : Rates → ℕ
+ratesRule r =
+    ifEq (r .given) 1 (below ((r .average, 4294967296) ∷ (r .maximum, 4294967296) ∷ []) 1)
+    (ifEq (r .given) 0 (ifEq (r .average) 0 (ifEq (r .maximum) 0 1 0) 0) 0)
 
 unfoldable pub h263Rule : H263 → ℕ
 h263Rule f =
-    ifLt (f .reference) 65536
-    (ifLt (f .width) 65536
-    (ifLt (f .height) 65536
-    (ifLt (f .vendor) 4294967296
-    (ifLt (f .version) 256
-    (ifLt (f .level) 256
-    (ifLt (f .profile) 256
-    (ratesRule (f .rates) (f .average) (f .maximum))
-    0) 0) 0) 0) 0) 0) 0
+    below
+    ((f .reference, 65536) ∷ (f .width, 65536) ∷ (f .height, 65536) ∷ (f .vendor, 4294967296)
+    ∷ (f .version, 256) ∷ (f .level, 256) ∷ (f .profile, 256) ∷ [])
+    (ratesRule (f .rates))
 
 -- speech is of kind 3 or 4
 unfoldable pub speechRule : ℕ → Amr → ℕ

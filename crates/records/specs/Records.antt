@@ -20,7 +20,8 @@ use Rattle.records.specs.Texts.{textOf}
 abbrev pub fieldsOf : Record → List ℕ
 fieldsOf (Speech f) = f .kind ∷ f .reference ∷ f .scale ∷ f .vendor ∷ f .version ∷ f .modes ∷ f .period ∷ f .frames ∷ []
 fieldsOf (Picture f) =
-    5 ∷ f .reference ∷ f .width ∷ f .height ∷ f .vendor ∷ f .version ∷ f .level ∷ f .profile ∷ f .rates ∷ f .average ∷ f .maximum ∷ []
+    5 ∷ f .reference ∷ f .width ∷ f .height ∷ f .vendor ∷ f .version ∷ f .level ∷ f .profile
+    ∷ f .rates .given ∷ f .rates .average ∷ f .rates .maximum ∷ []
 fieldsOf Broken = []
 
 -- 0 and how many fields there are, or the refusal and place 0

@@ -25,10 +25,10 @@ plainText size inner f =
 
 -- then nothing, or a `bitr`
 unfoldable pub ratedText : H263 → List ℕ
-ratedText f = plainText 117 31 f ++ boxHeader 16 BITR ++ bytes 4 (f .average) ++ bytes 4 (f .maximum)
+ratedText f = plainText 117 31 f ++ boxHeader 16 BITR ++ bytes 4 (f .rates .average) ++ bytes 4 (f .rates .maximum)
 
 unfoldable pub h263Text : H263 → List ℕ
-h263Text f = ifEq (f .rates) 1 (ratedText f) (plainText 101 15 f)
+h263Text f = ifEq (f .rates .given) 1 (ratedText f) (plainText 101 15 f)
 
 abbrev pub textOf : Record → List ℕ
 textOf (Speech f) = amrText f

@@ -4,7 +4,7 @@ use heads::lend;
 use heads::test;
 use wire::number;
 ghost use mathlib.Core.Path.{_≡_};
-ghost use Rattle.records.specs.Fields.{amrIn, h263In, recordIn, amrRule, ratesRule, h263Rule, speechRule, fieldsRule};
+ghost use Rattle.records.specs.Fields.{amrIn, ratesIn, h263In, recordIn, amrRule, ratesRule, h263Rule, speechRule, fieldsRule};
 
 // A `samr` or `sawb` entry: its kind is 3 or 4.
 pub struct Amr {
@@ -18,7 +18,14 @@ pub struct Amr {
     pub frames: usize,
 }
 
-// An `s263` entry: rates is 1 where a `bitr` follows, and else 0, and so are the two rates.
+// The rates of a `bitr`: given is 1 where one follows, and else 0, and so are the two rates.
+pub struct Rates {
+    pub given: usize,
+    pub average: usize,
+    pub maximum: usize,
+}
+
+// An `s263` entry.
 pub struct H263 {
     pub reference: usize,
     pub width: usize,
@@ -27,9 +34,7 @@ pub struct H263 {
     pub version: usize,
     pub level: usize,
     pub profile: usize,
-    pub rates: usize,
-    pub average: usize,
-    pub maximum: usize,
+    pub rates: Rates,
 }
 
 // A record, or none: what breaks the rule.
@@ -55,6 +60,17 @@ fn read_amr(kind: usize, entry: &[u8]) -> Amr
     }
 }
 
+// The rates in an `s263` entry.
+fn read_rates(entry: &[u8]) -> Rates
+    ensures { λ r. ⌜ r ≡ ratesIn (now (entry .entry)) ⌝ }
+{
+    Rates {
+        given: test::choose(entry.len(), 117, 1, 0),
+        average: number::word32(entry, 109),
+        maximum: number::word32(entry, 113),
+    }
+}
+
 // The fields of an `s263` entry.
 fn read_h263(entry: &[u8]) -> H263
     ensures { λ r. ⌜ r ≡ h263In (now (entry .entry)) ⌝ }
@@ -67,9 +83,7 @@ fn read_h263(entry: &[u8]) -> H263
         version: lend::word8(entry, 98),
         level: lend::word8(entry, 99),
         profile: lend::word8(entry, 100),
-        rates: test::choose(entry.len(), 117, 1, 0),
-        average: number::word32(entry, 109),
-        maximum: number::word32(entry, 113),
+        rates: read_rates(entry),
     }
 }
 
@@ -104,19 +118,20 @@ fn amr_rule(most: usize, f: Amr) -> usize
 }
 
 // 1 where rates fit their places, or are 0 where no `bitr` follows, else 0.
-fn rates_rule(rates: usize, average: usize, maximum: usize) -> usize
-    ensures { λ r. ⌜ r ≡ ratesRule rates average maximum ⌝ }
+fn rates_rule(rates: Rates) -> usize
+    ensures { λ r. ⌜ r ≡ ratesRule rates ⌝ }
 {
-    let zero = test::choose(average, 0, test::choose(maximum, 0, 1, 0), 0);
-    let fits = test::under(average, 4294967296, test::under(maximum, 4294967296, 1));
-    test::choose(rates, 1, fits, test::choose(rates, 0, zero, 0))
+    let zero = test::choose(rates.average, 0, test::choose(rates.maximum, 0, 1, 0), 0);
+    let fits = test::under(rates.maximum, 4294967296, 1);
+    let fits = test::under(rates.average, 4294967296, fits);
+    test::choose(rates.given, 1, fits, test::choose(rates.given, 0, zero, 0))
 }
 
 // 1 where each field of an `s263` fits its place, else 0.
 fn h263_rule(f: H263) -> usize
     ensures { λ r. ⌜ r ≡ h263Rule f ⌝ }
 {
-    let r = rates_rule(f.rates, f.average, f.maximum);
+    let r = rates_rule(f.rates);
     let r = test::under(f.profile, 256, r);
     let r = test::under(f.level, 256, r);
     let r = test::under(f.version, 256, r);

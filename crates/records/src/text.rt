@@ -51,15 +51,15 @@ fn put_rated(out: &mut [u8], f: H263) -> usize
 {
     let a = put_plain(out, 117, 31, f);
     let b = put::header(out, a, 16, codes::BITR);
-    let c = put::number(out, b, 4, f.average);
-    put::number(out, c, 4, f.maximum)
+    let c = put::number(out, b, 4, f.rates.average);
+    put::number(out, c, 4, f.rates.maximum)
 }
 
 // Writes an `s263` entry.
 fn put_h263(out: &mut [u8], f: H263) -> usize
     ensures { λ r. ⌜ Put (h263Text f) (now (out .entry)) 0 r (now (out .exit)) ⌝ }
 {
-    if f.rates == 1 {
+    if f.rates.given == 1 {
         return put_rated(out, f);
     }
     put_plain(out, 101, 15, f)
@@ -80,7 +80,7 @@ pub fn put_record(out: &mut [u8], fields: Record) -> usize
 fn h263_length(f: H263) -> usize
     ensures { λ r. ⌜ r ≡ length (h263Text f) ⌝ }
 {
-    test::choose(f.rates, 1, 117, 101)
+    test::choose(f.rates.given, 1, 117, 101)
 }
 
 // The length of the entry of a record.

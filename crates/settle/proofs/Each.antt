@@ -9,7 +9,7 @@ use borrow.Author.Tests.{eqb-true, eqb-false}
 use Rattle.wire.specs.Tests.{ifEq}
 use Rattle.wire.proofs.Tests.{both, eq-yea, eq-nay}
 use Rattle.boxes.specs.Box.{Box}
-use Rattle.boxes.specs.Boxes.{boxes}
+use Rattle.boxes.specs.Boxes.{boxes, after}
 use Rattle.boxes.specs.Containers.{kindIn}
 use Rattle.boxes.specs.Seek.{ANY, meant, count, nth, find}
 use Rattle.boxes.proofs.Seeking.{meant-yes, meant-no}
@@ -32,6 +32,11 @@ unfolding allList
 all-each p t [] q = none
 all-each p t (x ∷ l) q = let u = both (p x) (allList p t l) q in some (u .0) (all-each p t l (u .1))
 
+all-end : (p : Box → Bool) (t : Bool) (l : List Box) → allList p t l ≡ true → t ≡ true
+unfolding allList
+all-end p t [] q = q
+all-end p t (x ∷ l) q = all-end p t l (both (p x) (allList p t l) q .1)
+
 pub each-all : (p : Box → Bool) {l : List Box} → All (λ x. p x ≡ true) l → allList p true l ≡ true
 unfolding allList
 each-all p none = refl
@@ -43,6 +48,11 @@ module _ (r : Rule) (d k : ℕ) (xs : List ℕ) (q : allIn r (suc d) k xs ≡ tr
   pub rule-node : r .node k xs ≡ true
   unfolding allIn
   rule-node = both (r .node k xs) _ q .0
+
+  -- the bytes past its last whole box
+  pub rule-end : r .end (after xs) ≡ true
+  unfolding allIn
+  rule-end = all-end _ _ (boxes xs) (both (r .node k xs) _ q .1)
 
   rule-boxes : All (λ x. allBox r (allIn r d) k x ≡ true) (boxes xs)
   unfolding allIn
@@ -71,7 +81,7 @@ module _ (c : ℕ) (z : c ≡ ANY → ⊥) where
     unfolding nth
     find-hit = sym (eq-nay _ _ _ _ _ (λ y. omega (arith, meant-yes c (x .code) z e)) refl)
 
-    count-hit : count c (x ∷ l) ≡ 1 + count c l
+    pub count-hit : count c (x ∷ l) ≡ 1 + count c l
     unfolding count
     count-hit = rw (← meant-yes c (x .code) z e)
 
@@ -80,7 +90,7 @@ module _ (c : ℕ) (z : c ≡ ANY → ⊥) where
     unfolding nth
     find-miss = sym (eq-yea _ _ _ _ _ (sym (meant-no c (x .code) z e)) refl)
 
-    count-miss : count c (x ∷ l) ≡ count c l
+    pub count-miss : count c (x ∷ l) ≡ count c l
     unfolding count
     count-miss = rw (← meant-no c (x .code) z e) (omega arith)
 

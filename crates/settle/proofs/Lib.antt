@@ -4,3 +4,4 @@ pub mod Each
 pub mod Placed
 pub mod Agreement
 pub mod Settled
+pub mod Accepted

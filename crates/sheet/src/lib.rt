@@ -1,1 +1,153 @@
-// The sheet reader.
+// The sheet reader: the sheet of a file's own sample entries.
+use heads::kind;
+use heads::put;
+use judge::Judgement;
+use movie::entry;
+use movie::entry::EntryAt;
+use movie::entry::Named;
+use verdict::Answer;
+use wire::number;
+use wire::pen;
+ghost use mathlib.Core.Path.{_≡_};
+ghost use Prim.Native.Nat.{_+_, _*_, _^_, _≤_, _<_};
+ghost use lib.ListN.{length, take, drop};
+ghost use Rattle.wire.specs.Writing.{Put};
+ghost use Rattle.verdict.specs.Answers.{inRoom, outBy};
+ghost use Rattle.movie.specs.Entries.{entries};
+ghost use Rattle.movie.specs.Named.{entryAs};
+ghost use Rattle.sheet.specs.Sheet.{slot as slotText, slotOf, slots as slotsText, bodies as bodiesText};
+ghost use Rattle.sheet.specs.Fits.{Fits};
+ghost use Rattle.sheet.specs.Reader.{sheetOf, sheetAnswer, sheetOut};
+
+// How many slots a sheet has, and how long each is.
+const SLOTS: usize = 8;
+
+const SLOT: usize = 12;
+
+// Writes a slot.
+pub fn put_slot(
+    out: &mut [u8],
+    at: usize,
+    kind: usize,
+    track: usize,
+    place: usize,
+    size: usize,
+) -> usize
+    requires { ⌜ (at < 60000) × (kind < 256) × (track < 256) ⌝ }
+    ensures { λ r. ⌜ Put (slotText kind track place size) (now (out .entry)) at r (now (out .exit)) × (r ≡ at + 12) ⌝ }
+{
+    let a = put::number(out, at, 1, kind);
+    let b = put::number(out, a, 1, track);
+    let c = put::number(out, b, 2, 0);
+    let d = put::number(out, c, 4, place);
+    put::number(out, d, 4, size)
+}
+
+// Writes the slot of an entry that was looked up.
+fn put_slot_of(out: &mut [u8], at: usize, file: &[u8], e: EntryAt) -> usize
+    requires { ⌜ (at < 60000) × (e .track < 256) × (e .place + e .size ≤ length (now file)) ⌝ }
+    ensures { λ r. ⌜ Put (slotOf (entryAs (now (file .entry)) e)) (now (out .entry)) at r (now (out .exit)) × (r ≡ at + 12) ⌝ }
+{
+    let from = e.place;
+    let to = e.place + e.size;
+    let bytes = &file[from..to];
+    let kind = kind::of_code(number::word32(bytes, 4));
+    put_slot(out, at, kind, e.track, from, bytes.len())
+}
+
+// Writes the slot of entry i, where there is one.
+fn put_slot_at(out: &mut [u8], at: usize, file: &[u8], i: usize) -> usize
+    requires { ⌜ (at < 60000) × Fits (now file) ⌝ }
+    ensures { λ r. ⌜ Put (slotsText (take 1 (drop i (entries (now (file .entry)))))) (now (out .entry)) at r (now (out .exit)) × (r ≤ at + 12) ⌝ }
+{
+    match entry::entry(file, i) {
+        Named::At(e) => put_slot_of(out, at, file, e),
+        Named::Missing => at,
+    }
+}
+
+// Writes the slots of the first n entries.
+fn put_slots(out: &mut [u8], from: usize, file: &[u8], n: usize) -> usize
+    requires { ⌜ (from + 12 * n < 60000) × Fits (now file) ⌝ }
+    ensures { λ r. ⌜ Put (slotsText (take n (entries (now (file .entry))))) (now (out .entry)) from r (now (out .exit)) × (r ≤ from + 12 * n) ⌝ }
+{
+    let mut at = from;
+    let mut i = 0;
+    while i < n {
+        at = put_slot_at(out, at, file, i);
+        i += 1;
+    }
+    at
+}
+
+// Writes an entry that was looked up.
+fn put_body_of(out: &mut [u8], at: usize, file: &[u8], e: EntryAt) -> usize
+    requires { ⌜ (at < 2 ^ 62) × (e .place + e .size ≤ length (now file)) × (length (now file) ≤ 1048576) ⌝ }
+    ensures { λ r. ⌜ Put (take (e .size) (drop (e .place) (now (file .entry)))) (now (out .entry)) at r (now (out .exit)) × (r ≤ at + 1048576) ⌝ }
+{
+    let from = e.place;
+    let to = e.place + e.size;
+    pen::put_part(out, at, &file[from..to])
+}
+
+// Writes entry i, where there is one.
+fn put_body_at(out: &mut [u8], at: usize, file: &[u8], i: usize) -> usize
+    requires { ⌜ (at < 2 ^ 62) × Fits (now file) ⌝ }
+    ensures { λ r. ⌜ Put (bodiesText (take 1 (drop i (entries (now (file .entry)))))) (now (out .entry)) at r (now (out .exit)) × (r ≤ at + 1048576) ⌝ }
+{
+    match entry::entry(file, i) {
+        Named::At(e) => put_body_of(out, at, file, e),
+        Named::Missing => at,
+    }
+}
+
+// Writes the first n entries.
+fn put_bodies(out: &mut [u8], from: usize, file: &[u8], n: usize) -> usize
+    requires { ⌜ (from + 1048576 * n < 2 ^ 62) × Fits (now file) ⌝ }
+    ensures { λ r. ⌜ Put (bodiesText (take n (entries (now (file .entry))))) (now (out .entry)) from r (now (out .exit)) × (r ≤ from + 1048576 * n) ⌝ }
+{
+    let mut at = from;
+    let mut i = 0;
+    while i < n {
+        at = put_body_at(out, at, file, i);
+        i += 1;
+    }
+    at
+}
+
+// Writes the sheet of a file.
+fn put_sheet(out: &mut [u8], file: &[u8]) -> usize
+    requires { ⌜ Fits (now file) ⌝ }
+    ensures { λ r. ⌜ Put (sheetOf (now (file .entry))) (now (out .entry)) 0 r (now (out .exit)) ⌝ }
+{
+    let n = entry::entries(file);
+    let a = put::number(out, 0, 1, 1);
+    let b = put::number(out, a, 1, n);
+    let c = put::number(out, b, 2, 0);
+    let d = put_slots(out, c, file, n);
+    let e = put::number(out, d, SLOT * (SLOTS - n), 0);
+    put_bodies(out, e, file, n)
+}
+
+// The same of an accepted file, where there is room for it.
+fn sheet_of(file: &[u8], out: &mut [u8]) -> Answer
+    requires { ⌜ Fits (now file) ⌝ }
+    ensures { λ r. ⌜ (r ≡ inRoom (sheetOf (now (file .entry))) (now (out .entry))) × (now (out .exit) ≡ outBy (inRoom (sheetOf (now (file .entry))) (now (out .entry))) (sheetOf (now (file .entry))) (now (out .entry))) ⌝ }
+{
+    let mut none = [0u8; 1];
+    let size = put_sheet(&mut none, file);
+    if out.len() < size {
+        return Answer::Refused(25, 0);
+    }
+    Answer::Done(put_sheet(out, file))
+}
+
+// The sheet of a file, with its length.
+pub fn sheet(file: &[u8], out: &mut [u8]) -> Answer
+    ensures { λ r. ⌜ (r ≡ sheetAnswer (now (file .entry)) (now (out .entry))) × (now (out .exit) ≡ sheetOut (now (file .entry)) (now (out .entry))) ⌝ }
+{
+    match judge::judge(file) {
+        Judgement::Accepted => sheet_of(file, out),
+        Judgement::Refused(n, p) => Answer::Refused(n, p),
+    }
+}

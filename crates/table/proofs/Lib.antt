@@ -1,0 +1,11 @@
+pub mod Reading
+pub mod Slotting
+pub mod Comparing
+pub mod Judging
+pub mod Making
+pub mod Opening
+pub mod Forming
+pub mod Owning
+pub mod Answering
+pub mod RoundTrip
+pub mod Tracks

@@ -2,7 +2,7 @@
 use Prim.Native.Nat.{ℕ, zero, suc, _+_}
 use mathlib.Core.Bool.{Bool, true, false}
 use mathlib.Core.List.{List, [], _∷_}
-use lib.ListN.{length, take, drop, getD}
+use lib.ListN.{take, drop, getD}
 use Rattle.wire.specs.Tests.{pick}
 use Rattle.wire.specs.Clauses.{isEq, isLe, every}
 use Rattle.wire.specs.Numbers.{word}
@@ -19,19 +19,26 @@ FRAMES = 15
 abbrev pub TRACKS : ℕ
 TRACKS = 4
 
+-- the entry that the first of slots xs says, of bodies ys
+abbrev pub firstOf : List ℕ → List ℕ → Entry
+firstOf xs ys = record { track = getD xs 1 0; place = word 4 xs 4; bytes = take (word 4 xs 8) ys }
+
 -- the n entries that slots xs and bodies ys say
 unfoldable pub read : ℕ → List ℕ → List ℕ → List Entry
 read zero xs ys = []
-read (suc n) xs ys = record { track = getD xs 1 0; place = word 4 xs 4; bytes = take (word 4 xs 8) ys } ∷ read n (drop SLOT xs) (drop (word 4 xs 8) ys)
+read (suc n) xs ys = firstOf xs ys ∷ read n (drop SLOT xs) (drop (word 4 xs 8) ys)
 
 -- the entries of a sheet
 unfoldable pub unsheet : ℕ → List ℕ → List Entry
 unsheet k xs = read (getD xs 1 0) (drop 4 xs) (drop (bodiesAt k) xs)
 
--- "track numbers that start at 1 and never fall or skip, at most 4", after one of track t
+-- "track numbers that start at 1 and never fall or skip, at most 4": one of track u after one of track t
+unfoldable pub follows : ℕ → ℕ → Bool
+follows t u = every (isLe t u ∷ isLe u (t + 1) ∷ isLe 1 u ∷ isLe u TRACKS ∷ [])
+
 unfoldable pub steps : ℕ → List Entry → Bool
 steps t [] = true
-steps t (e ∷ es) = pick (every (isLe t (e .track) ∷ isLe (e .track) (t + 1) ∷ isLe 1 (e .track) ∷ isLe (e .track) TRACKS ∷ [])) (steps (e .track) es) false
+steps t (e ∷ es) = pick (follows t (e .track)) (steps (e .track) es) false
 
 -- "each body must be a box of its kind that meets its entry rule, apart from TimeScale, data reference and handler"
 unfoldable pub allMeet : List Entry → Bool

@@ -1,21 +1,26 @@
 -- The table writer: "takes a sheet and a track and gives one stsd box".
-use Prim.Native.Nat.{ℕ, _+_}
+use Prim.Native.Nat.{ℕ, _+_, max}
 use mathlib.Core.List.{List, [], _∷_, _++_}
 use lib.ListN.{length}
 use Rattle.wire.specs.Tests.{pick, ifEq, ifLt}
 use Rattle.wire.specs.Numbers.{bytes}
 use Rattle.wire.specs.Codes.{STSD}
 use Rattle.verdict.specs.declared.Answer.{Answer}
-use Rattle.verdict.specs.declared.Answer.the-variants.{Done, Refused}
+use Rattle.verdict.specs.declared.Answer.the-variants.{Refused}
 use Rattle.verdict.specs.Answers.{inRoom, outBy}
 use Rattle.movie.specs.Entries.{Entry}
-use Rattle.sheet.specs.Sheet.{SLOTS, bodies}
+use Rattle.sheet.specs.Sheet.{bodies}
 use Rattle.table.specs.Form.{unsheet, formed}
 
 -- the entries of track t
 unfoldable pub own : ℕ → List Entry → List Entry
 own t [] = []
 own t (e ∷ es) = ifEq (e .track) t (e ∷ own t es) (own t es)
+
+-- "the sheet's highest" track: in a sheet of the form a track has entries exactly from 1 to it
+unfoldable pub highest : List Entry → ℕ
+highest [] = 0
+highest (e ∷ es) = max (e .track) (highest es)
 
 -- "16 bytes, then that track's bodies": size, `stsd`, version and flags, count
 unfoldable pub table : List Entry → List ℕ

@@ -1,10 +1,10 @@
 use borrow.Author.Needs.{needs}
-use Rattle.records.specs.Fields.{ratesRule}
+use Rattle.records.specs.Fields.{below, ratesRule}
 use Rattle.records.proofs.field.rates_rule.Statement.{statement}
 use Rattle.records.proofs.field.rates_rule.Tie as tie
 
 pub rates-rule-spec : {M : Type 1} → statement M
-unfolding ratesRule
+unfolding ratesRule below
 rates-rule-spec = tie.close (tie.spec
     (λ c κs. search needs)
     (λ c κs. search needs)

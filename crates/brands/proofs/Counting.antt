@@ -1,0 +1,64 @@
+-- Laws of the counts over brands and over tracks. Assumes nothing.
+use Prim.Native.Nat.{ℕ, _+_, _-_, _*_, _/_, _≤_, _<_}
+use native.Mathlib.Omega.{arith}
+use mathlib.Core.Path.{_≡_, refl, sym, ap, _∙_}
+use mathlib.Core.Bool.{Bool, true, false}
+use mathlib.Core.List.{List}
+use lib.ListN.{length}
+use Rattle.wire.specs.Numbers.{word}
+use Rattle.wire.specs.Clauses.{isEq, oneIf}
+use Rattle.wire.proofs.Clauses.{was-yea}
+use Rattle.wire.proofs.Sums.{sum-none, sum-more, all-none, all-more, all-fails}
+use Rattle.tracks.proofs.Answers.{found-nay, found-yea}
+use Rattle.movie.specs.Movie.{track, handler}
+use Rattle.brands.specs.Brands.{timesTo, times, handledTo, single, singleTo, plain, plainTo}
+
+module _ (c : ℕ) (ftyp : List ℕ) where
+  pub times-none : 0 ≡ timesTo c ftyp 0
+  unfolding timesTo
+  times-none = sym (sum-none (λ i. oneIf (isEq (word 4 ftyp (8 + 4 * i)) c)))
+
+  pub times-more : (i : ℕ) {w r sum : ℕ} → sum ≡ timesTo c ftyp i → w ≡ word 4 ftyp (8 + 4 * i) → r ≡ oneIf (isEq w c) → sum + r ≡ timesTo c ftyp (i + 1)
+  unfolding timesTo
+  times-more i p q e = rw (e, q, p) (sym (sum-more (λ i. oneIf (isEq (word 4 ftyp (8 + 4 * i)) c)) i))
+
+  -- too short for a list
+  pub times-short : length ftyp < 8 → 0 ≡ times c ftyp
+  times-short h = let e : (length ftyp - 8) / 4 ≡ 0 = omega arith in rw e times-none
+
+module _ (h : ℕ) (xs : List ℕ) where
+  pub handled-none : 0 ≡ handledTo h xs 0
+  unfolding handledTo
+  handled-none = sym (sum-none (λ t. oneIf (isEq (handler (track xs t)) h)))
+
+  pub handled-more : (t : ℕ) {b : List ℕ} {k r sum : ℕ} → sum ≡ handledTo h xs t → b ≡ track xs t → k ≡ handler b → r ≡ oneIf (isEq k h) → sum + r ≡ handledTo h xs (t + 1)
+  unfolding handledTo
+  handled-more t p f q e = rw (e, q, f, p) (sym (sum-more (λ t. oneIf (isEq (handler (track xs t)) h)) t))
+
+-- ---- all tracks
+
+module _ (xs : List ℕ) where
+  pub single-none : singleTo xs 0 ≡ true
+  unfolding singleTo
+  single-none = all-none (λ t. single (track xs t))
+
+  pub plain-none : plainTo xs 0 ≡ true
+  unfolding plainTo
+  plain-none = all-none (λ t. plain (track xs t))
+
+  module _ (t : ℕ) {b : List ℕ} {r : ℕ} (f : b ≡ track xs t) where
+    pub single-more : r ≡ oneIf (single b) → (r ≡ 0 → ⊥) → singleTo xs t ≡ true → singleTo xs (t + 1) ≡ true
+    unfolding singleTo
+    single-more e z h = all-more (λ t. single (track xs t)) t h (found-yea single e (track xs t) f z)
+
+    pub single-fails : (n : ℕ) → t < n → r ≡ oneIf (single b) → r ≡ 0 → false ≡ singleTo xs n
+    unfolding singleTo
+    single-fails n h e z = sym (all-fails (λ t. single (track xs t)) n t h (found-nay single e (track xs t) f z))
+
+    pub plain-more : r ≡ oneIf (plain b) → (r ≡ 0 → ⊥) → plainTo xs t ≡ true → plainTo xs (t + 1) ≡ true
+    unfolding plainTo
+    plain-more e z h = all-more (λ t. plain (track xs t)) t h (found-yea plain e (track xs t) f z)
+
+    pub plain-fails : (n : ℕ) → t < n → r ≡ oneIf (plain b) → r ≡ 0 → false ≡ plainTo xs n
+    unfolding plainTo
+    plain-fails n h e z = sym (all-fails (λ t. plain (track xs t)) n t h (found-nay plain e (track xs t) f z))

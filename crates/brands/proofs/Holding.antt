@@ -1,0 +1,74 @@
+-- Laws of the brands' conditions. Assumes nothing.
+use Prim.Native.Nat.{ℕ, zero, suc, _+_, _≤_, _<_}
+use native.Mathlib.Omega.{arith}
+use mathlib.Core.Path.{_≡_, refl, sym, ap, _∙_}
+use mathlib.Core.Bool.{Bool, true, false}
+use mathlib.Core.List.{List, [], _∷_, _++_}
+use Rattle.wire.specs.Tests.{pick}
+use Rattle.wire.specs.Numbers.{word}
+use Rattle.wire.specs.Clauses.{isEq, isLt, every, oneIf}
+use Rattle.wire.specs.Codes.{FTYP, MOOV, STSD, AVC1, ISOM}
+use Rattle.wire.proofs.Clauses.{fails, is-lt, not-lt}
+use Rattle.boxes.specs.Box.{Box}
+use Rattle.boxes.specs.Boxes.{boxes}
+use Rattle.boxes.specs.Seek.{ANY, meant, count, find}
+use Rattle.boxes.proofs.Seeking.{meant-any}
+use Rattle.movie.specs.Movie.{table}
+use Rattle.movie.specs.Named.{listIn}
+use Rattle.brands.specs.Brands.{times, listed, oneEntry, plain, second, ready}
+
+-- ---- an answer over clauses
+
+-- the last of them
+pub last-is : (t : Bool) {r : ℕ} → r ≡ oneIf t → r ≡ oneIf (every (t ∷ []))
+unfolding every
+last-is true e = e
+last-is false e = e
+
+-- one that holds
+pub next-is : (t : Bool) (ts : List Bool) {r : ℕ} → t ≡ true → r ≡ oneIf (every ts) → r ≡ oneIf (every (t ∷ ts))
+unfolding every
+next-is t ts h e = rw h e
+
+-- ---- a brand that is listed, and one that isn't
+
+module _ (c : ℕ) (ftyp : List ℕ) {b : List ℕ} {r : ℕ} (f : b ≡ ftyp) (e : r ≡ times c b) where
+  pub listed-yea : (r ≡ 0 → ⊥) → listed c ftyp ≡ true
+  unfolding listed
+  listed-yea z = rw (← f) (is-lt _ _ (omega arith))
+
+  pub listed-nay : r ≡ 0 → listed c ftyp ≡ false
+  unfolding listed
+  listed-nay z = rw (← f) (not-lt _ _ (omega arith))
+
+-- ---- a track's entries
+
+pub one-is : (b : List ℕ) {stsd : List ℕ} {n r : ℕ} → stsd ≡ table STSD b → n ≡ word 4 stsd 4 → r ≡ oneIf (isEq n 1) → r ≡ oneIf (oneEntry b)
+unfolding oneEntry
+one-is b f g e = e ∙ rw (g, f)
+
+pub plain-is : (b : List ℕ) {list : List ℕ} {n r : ℕ} → list ≡ listIn b → n ≡ count AVC1 (boxes list) → r ≡ oneIf (isEq n 0) → r ≡ oneIf (plain b)
+unfolding plain
+plain-is b f g e = e ∙ rw (g, f)
+
+-- ---- the second box
+
+count-any : (l : List Box) (x : Box) → count ANY (x ∷ l) ≡ 1 + count ANY l
+unfolding count
+count-any l x = rw (← meant-any ANY (x .code) refl)
+
+pub second-is : (l p : List Box) (x : Box) (q : List Box) → l ≡ p ++ x ∷ q → count ANY p ≡ 1 → x .code ≡ second l
+unfolding second count
+second-is l [] x q e h = absurd (omega arith)
+second-is l (y ∷ []) x q e h = rw e
+second-is l (y ∷ z ∷ p) x q e h = absurd (omega (arith, count-any (z ∷ p) y, count-any p z))
+
+pub second-none : (l : List Box) → count ANY l ≤ 1 → 0 ≡ second l
+unfolding second
+second-none [] h = refl
+second-none (x ∷ []) h = refl
+second-none (x ∷ y ∷ l) h = absurd (omega (arith, count-any (y ∷ l) x, count-any l y))
+
+pub ready-is : (xs : List ℕ) {n r : ℕ} → n ≡ second (boxes xs) → r ≡ oneIf (isEq n MOOV) → r ≡ oneIf (ready xs)
+unfolding ready
+ready-is xs f e = e ∙ rw f

@@ -1,0 +1,17 @@
+use borrow.Author.Needs.{needs}
+use Rattle.brands.specs.Calls.{brandAnswer}
+use Rattle.judge.proofs.Calls.{when-accepted, when-refused}
+use Rattle.verdict.specs.declared.Answer.the-variants.{Done}
+use mathlib.Core.Path.{ap}
+use Rattle.brands.proofs.brand.Statement.{statement}
+use Rattle.brands.proofs.brand.Tie as tie
+
+pub brand-spec : {M : Type 1} → statement M
+unfolding brandAnswer
+brand-spec = tie.close (tie.spec
+    (λ c κs. search needs)
+    (λ c. search needs)
+    (λ c κs. search needs)
+    (λ c. search needs)
+    (λ c. when-accepted _ (c .before .before .before .judge .ensures) _ (c .before .enum-told .given .1) (ap Done (c .brand-holds .ensures)))
+    (λ c. when-refused _ (c .before .before .before .judge .ensures) _ (c .before .n .given .1)))

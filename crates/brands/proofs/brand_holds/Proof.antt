@@ -1,0 +1,19 @@
+use borrow.Author.Needs.{needs}
+use Rattle.brands.proofs.Holding.{last-is, next-is, listed-yea, listed-nay}
+use Rattle.brands.specs.Brands.{brandHolds}
+use Rattle.wire.proofs.Clauses.{nay, fails}
+use Rattle.brands.proofs.brand_holds.Statement.{statement}
+use Rattle.brands.proofs.brand_holds.Tie as tie
+
+pub brand-holds-spec : {M : Type 1} → statement M
+unfolding brandHolds
+brand-holds-spec = tie.close (tie.spec
+    (λ c κs. search needs)
+    (λ c κs. search needs)
+    (λ c. nay _ (fails 0 _ (listed-nay _ _ (c .before .before .payload .ensures) (c .before .times .ensures) (c .if1 .taken))))
+    (λ c κs. search needs)
+    (λ c. nay _ (fails 1 _ (listed-nay _ _ (c .before .before .before .before .payload .ensures) (c .before .times2 .ensures) (c .if2 .taken))))
+    (λ c κs. search needs)
+    (λ c.
+    let s = c .before .before .before .before in
+    next-is _ _ (listed-yea _ _ (s .before .payload .ensures) (s .times .ensures) (c .before .before .before .if1 .left)) (next-is _ _ (listed-yea _ _ (s .before .payload .ensures) (c .before .before .times2 .ensures) (c .before .if2 .left)) (last-is _ (c .own .ensures)))))

@@ -1,0 +1,11 @@
+use borrow.Author.Needs.{needs}
+use Rattle.brands.proofs.Holding.{one-is}
+use Rattle.brands.proofs.conditions.one_entry.Statement.{statement}
+use Rattle.brands.proofs.conditions.one_entry.Tie as tie
+
+pub one-entry-spec : {M : Type 1} → statement M
+one-entry-spec = tie.close (tie.spec
+    (λ c κs. search needs)
+    (λ c κs. search needs)
+    (λ c κs. search needs)
+    (λ c. one-is _ (c .before .before .table .ensures .0) (c .before .word32 .ensures .0) (c .equal .ensures .0)))

@@ -1,0 +1,11 @@
+use borrow.Author.Needs.{needs}
+use Rattle.brands.proofs.Holding.{plain-is}
+use Rattle.brands.proofs.conditions.plain.Statement.{statement}
+use Rattle.brands.proofs.conditions.plain.Tie as tie
+
+pub plain-spec : {M : Type 1} → statement M
+plain-spec = tie.close (tie.spec
+    (λ c κs. search needs)
+    (λ c κs. search needs)
+    (λ c κs. search needs)
+    (λ c. plain-is _ (c .before .before .list .ensures .0) (c .before .count .ensures .0) (c .equal .ensures .0)))

@@ -1,0 +1,81 @@
+-- "Brand answers": yes exactly if the code is listed, `isom` is listed, and the brand's own conditions hold.
+use Prim.Native.Nat.{ℕ, _+_, _-_, _*_, _/_}
+use mathlib.Core.Bool.{Bool, true, false}
+use mathlib.Core.List.{List, [], _∷_}
+use lib.ListN.{length}
+use Rattle.wire.specs.Tests.{ifEq}
+use Rattle.wire.specs.Numbers.{word}
+use Rattle.wire.specs.Clauses.{isEq, isLt, isLe, every, oneIf}
+use Rattle.wire.specs.Sums.{sumTo, allTo}
+use Rattle.wire.specs.Codes.{FTYP, MOOV, STSD, AVC1, VIDE, SOUN, TEXT, ISOM, GP4, GP5, GP6, GR6}
+use Rattle.boxes.specs.Box.{Box}
+use Rattle.boxes.specs.Boxes.{boxes}
+use Rattle.boxes.specs.Seek.{count, find}
+use Rattle.movie.specs.Movie.{tracks, track, table, handler}
+use Rattle.movie.specs.Named.{listIn}
+
+-- ---- the compatible list of an `ftyp` payload: after the major brand and the minor version
+
+-- how many of the first n brands are c, and how many of all
+unfoldable pub timesTo : ℕ → List ℕ → ℕ → ℕ
+timesTo c ftyp n = sumTo (λ i. oneIf (isEq (word 4 ftyp (8 + 4 * i)) c)) n
+
+abbrev pub times : ℕ → List ℕ → ℕ
+times c ftyp = timesTo c ftyp ((length ftyp - 8) / 4)
+
+unfoldable pub listed : ℕ → List ℕ → Bool
+listed c ftyp = isLt 0 (times c ftyp)
+
+-- ---- the tracks of a file
+
+-- how many of the first n have handler h, and how many of all
+unfoldable pub handledTo : ℕ → List ℕ → ℕ → ℕ
+handledTo h xs n = sumTo (λ t. oneIf (isEq (handler (track xs t)) h)) n
+
+abbrev pub handled : ℕ → List ℕ → ℕ
+handled h xs = handledTo h xs (tracks xs)
+
+-- the count that a track's `stsd` stores is 1: rule 5 makes it the number of its sample entries
+unfoldable pub oneEntry : List ℕ → Bool
+oneEntry b = isEq (word 4 (table STSD b) 4) 1
+
+-- "one sample entry in each vide and soun track"
+unfoldable pub single : List ℕ → Bool
+single b = ifEq (handler b) VIDE (oneEntry b) (ifEq (handler b) SOUN (oneEntry b) true)
+
+unfoldable pub singleTo : List ℕ → ℕ → Bool
+singleTo xs n = allTo (λ t. single (track xs t)) n
+
+-- "no avc1 entry"
+unfoldable pub plain : List ℕ → Bool
+plain b = isEq (count AVC1 (boxes (listIn b))) 0
+
+unfoldable pub plainTo : List ℕ → ℕ → Bool
+plainTo xs n = allTo (λ t. plain (track xs t)) n
+
+-- ---- the brands' own conditions
+
+-- "at most one track each with handler vide, soun, text; one sample entry in each vide and soun track"
+unfoldable pub few : List ℕ → Bool
+few xs = every (isLe (handled VIDE xs) 1 ∷ isLe (handled SOUN xs) 1 ∷ isLe (handled TEXT xs) 1 ∷ singleTo xs (tracks xs) ∷ [])
+
+-- "3gp4 and 3gp5 also need no avc1 entry"
+unfoldable pub early : List ℕ → Bool
+early xs = every (few xs ∷ plainTo xs (tracks xs) ∷ [])
+
+-- the code of the second box, 0 where there is none
+unfoldable pub second : List Box → ℕ
+second [] = 0
+second (x ∷ []) = 0
+second (x ∷ y ∷ l) = y .code
+
+-- "moov right after ftyp": the very next top-level box
+unfoldable pub ready : List ℕ → Bool
+ready xs = isEq (second (boxes xs)) MOOV
+
+-- no other code is a brand
+unfoldable pub own : ℕ → List ℕ → Bool
+own code xs = ifEq code GP4 (early xs) (ifEq code GP5 (early xs) (ifEq code GP6 (few xs) (ifEq code GR6 (ready xs) false)))
+
+unfoldable pub brandHolds : ℕ → List ℕ → Bool
+brandHolds code xs = every (listed code (find FTYP (boxes xs)) ∷ listed ISOM (find FTYP (boxes xs)) ∷ own code xs ∷ [])

@@ -1,0 +1,11 @@
+-- The brand answer of a file: 1 to 10, else 1 for yes and 0 for no.
+use Prim.Native.Nat.{ℕ}
+use mathlib.Core.List.{List}
+use Rattle.wire.specs.Clauses.{oneIf}
+use Rattle.verdict.specs.declared.Answer.{Answer}
+use Rattle.verdict.specs.declared.Answer.the-variants.{Done}
+use Rattle.judge.specs.Judgement.{judged, whenAccepted}
+use Rattle.brands.specs.Brands.{brandHolds}
+
+unfoldable pub brandAnswer : List ℕ → ℕ → Answer
+brandAnswer xs code = whenAccepted (judged xs) (Done (oneIf (brandHolds code xs)))

@@ -1,0 +1,2 @@
+pub mod Brands
+pub mod Calls

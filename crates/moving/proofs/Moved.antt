@@ -1,0 +1,89 @@
+-- What code writes is the file with its `moov` second, and every chunk offset as far into its payload as it was. Assumes nothing.
+use Prim.Native.Nat.{ℕ, _+_, _≤_, _<_}
+use native.Mathlib.Omega.{arith}
+use mathlib.Core.Path.{_≡_, refl, sym, ap, subst, _∙_}
+use mathlib.Core.Bool.{Bool, true}
+use mathlib.Core.List.{List, [], _∷_, _++_, append-nil}
+use lib.ListN.{length}
+use Rattle.wire.specs.Numbers.{Bytes}
+use Rattle.wire.specs.Codes.{FTYP, MOOV, MDAT}
+use Rattle.boxes.specs.declared.walk.BoxAt.{BoxAt}
+use Rattle.boxes.specs.Box.{Box, size, write}
+use Rattle.boxes.specs.Boxes.{boxes, after, total}
+use Rattle.boxes.specs.Containers.{FILE, DEPTH}
+use Rattle.boxes.specs.Rewrite.{editIn}
+use Rattle.boxes.specs.Walk.{boxAt}
+use Rattle.boxes.specs.Words.{rewordLeaf, moved}
+use Rattle.boxes.proofs.Whole.{Good, short-not}
+use Rattle.boxes.proofs.Reading.{All, parts, lengths, write-append, write-boxes, boxes-write}
+use Rattle.boxes.proofs.Reading.All.{none, some}
+use Rattle.boxes.proofs.Placing.{length-write}
+use Rattle.media.specs.Payloads.{mdats, inAt}
+use Rattle.media.specs.Relocate.{relocate}
+use Rattle.media.proofs.Payloads.{mdats-miss}
+use Rattle.media.proofs.Amounts.{Fronts, moved-front}
+use Rattle.verdict.specs.Rule.{allList}
+use Rattle.judge.specs.Acceptance.{Meets}
+use Rattle.settle.specs.Settle.{offsets, settled}
+use Rattle.settle.proofs.Each.{all-each, each-all}
+use Rattle.settle.proofs.Settled.{settled-list}
+use Rattle.settle.proofs.Accepted.{file-tiled}
+use Rattle.moving.specs.Moving.{moovSecond, moveOf}
+use Rattle.moving.specs.Arrange.{arranged, up, shifted}
+use Rattle.moving.proofs.Order.{second-length, all-head, all-tail, all-left, all-front}
+use Rattle.moving.proofs.Pieces.{pieces-are}
+use Rattle.moving.proofs.Parted.{Parted}
+
+module _ (xs : List ℕ) (v : Bytes xs) (m : Meets xs) {b : BoxAt} (p : Parted xs b) where
+  -- what holds of each box of the file holds of each in the new order
+  in-order : {P : Box → Type 0} → All P (boxes xs) → All P (moovSecond (boxes xs))
+  in-order a = rw (p .second) (let c = rw (p .list) at a in some (all-head c) (all-front (p .mid) (boxAt xs b) (p .end) (all-tail c)))
+
+  good : All Good (p .ftyp ∷ (boxAt xs b ∷ (p .mid ++ p .end)))
+  good = rw (p .second) at (in-order (parts xs v .good))
+
+  -- ---- the bytes
+
+  -- one box takes its size
+  takes : (x : Box) → Good x → length (write (x ∷ [])) ≡ size x
+  unfolding total
+  takes x g = length-write (some g none) ∙ omega arith
+
+  file-is : xs ≡ write (p .ftyp ∷ []) ++ (write (p .mid) ++ (write (boxAt xs b ∷ []) ++ write (p .end)))
+  file-is =
+      sym (write-boxes xs v) ∙ rw (file-tiled xs m, append-nil, p .list)
+      (write-append (p .ftyp ∷ []) (p .mid ++ boxAt xs b ∷ p .end) ∙ rw (write-append (p .mid) (boxAt xs b ∷ p .end)) (ap (λ (l : List ℕ). write (p .ftyp ∷ []) ++ (write (p .mid) ++ l)) (write-append (boxAt xs b ∷ []) (p .end))))
+
+  order-is : write (moovSecond (boxes xs)) ≡ write (p .ftyp ∷ []) ++ (write (boxAt xs b ∷ []) ++ (write (p .mid) ++ write (p .end)))
+  order-is =
+      ap write (p .second)
+      ∙ write-append (p .ftyp ∷ []) (boxAt xs b ∷ (p .mid ++ p .end)) ∙ ap (λ (l : List ℕ). write (p .ftyp ∷ []) ++ l) (write-append (boxAt xs b ∷ []) (p .mid ++ p .end))
+      ∙ ap (λ (l : List ℕ). write (p .ftyp ∷ []) ++ (write (boxAt xs b ∷ []) ++ l)) (write-append (p .mid) (p .end))
+
+  pub arranged-is : arranged (size (p .ftyp)) b xs ≡ write (moovSecond (boxes xs))
+  arranged-is =
+      ap (arranged (size (p .ftyp)) b) file-is
+      ∙ pieces-are (write (p .ftyp ∷ [])) (write (p .mid)) (write (boxAt xs b ∷ [])) (write (p .end)) (size (p .ftyp)) b
+      (takes (p .ftyp) (all-head good)) (p .at ∙ ap (λ (n : ℕ). size (p .ftyp) + n) (sym (length-write (all-left (p .mid) (p .end) (all-tail (all-tail good)))))) (p .size ∙ sym (takes (boxAt xs b) (all-head (all-tail good))))
+      ∙ sym order-is
+
+  -- ---- the chunk offsets
+
+  new-boxes : boxes (write (moovSecond (boxes xs))) ≡ moovSecond (boxes xs)
+  new-boxes = sym (ap boxes (append-nil (write (moovSecond (boxes xs))))) ∙ boxes-write [] (short-not [] (omega arith)) (in-order (parts xs v .good)) (omega (arith, second-length (boxes xs), lengths xs, m .most))
+
+  fronts : Fronts (p .ftyp ∷ []) (p .mid) (boxAt xs b) (up b)
+  unfolding total
+  fronts = record { limit = omega (arith, p .at, p .size); low = p .size; high = refl; less = refl }
+
+  relocates : (o n : ℕ) → inAt (boxes xs) o n ≡ true → moved (up b) o ≡ relocate (boxes xs) (boxes (write (moovSecond (boxes xs)))) o
+  unfolding mdats
+  relocates o n h =
+      rw (new-boxes, p .second, p .list)
+      (moved-front (p .ftyp ∷ []) (p .mid) (p .end) (boxAt xs b) (λ e. omega (arith, p .moov)) (mdats-miss (p .ftyp) (λ e. omega (arith, p .name)) []) (omega (arith, all-head (all-tail good) .head)) (up b) fronts o n (rw (p .list) at h))
+
+  pub shifted-is : shifted (size (p .ftyp)) b xs ≡ moveOf xs
+  unfolding shifted moveOf
+  shifted-is =
+      ap (editIn (rewordLeaf offsets (moved (up b))) DEPTH FILE) arranged-is
+      ∙ settled-list xs (write (moovSecond (boxes xs))) (moved (up b)) m relocates (λ t q. rw new-boxes (each-all t (in-order (all-each t true (boxes xs) q))))

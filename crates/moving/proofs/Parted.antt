@@ -1,0 +1,94 @@
+-- A file that meets the rules, as code parts it at its `moov`. Assumes nothing.
+use Prim.Native.Nat.{ℕ, zero, suc, _+_, _-_, _≤_, _<_}
+use native.Mathlib.Omega.{arith}
+use mathlib.Core.Path.{_≡_, refl, sym, ap, _∙_}
+use mathlib.Core.Bool.{Bool, true, false}
+use mathlib.Core.List.{List, [], _∷_, _++_, append-nil}
+use lib.ListN.{length, take, drop, length-take, length-drop}
+use lib.Seq.{length-take-le}
+use Rattle.wire.specs.Tests.{pick, ifEq}
+use Rattle.wire.specs.Numbers.{Bytes}
+use Rattle.wire.specs.Codes.{FTYP, MOOV}
+use Rattle.wire.proofs.Clauses.{eq-is}
+use Rattle.wire.proofs.Tests.{eq-nay}
+use Rattle.boxes.specs.declared.walk.BoxAt.{BoxAt}
+use Rattle.boxes.specs.Box.{Box, size, write}
+use Rattle.boxes.specs.Boxes.{boxes, after, total}
+use Rattle.boxes.specs.Containers.{FILE}
+use Rattle.boxes.specs.Walk.{payload, boxAt}
+use Rattle.boxes.specs.Seek.{ANY, meant, count, placeBy, placeIn, Cut}
+use Rattle.boxes.proofs.Whole.{Good}
+use Rattle.boxes.proofs.Reading.{All, parts}
+use Rattle.boxes.proofs.Reading.All.{none, some}
+use Rattle.boxes.proofs.Seeking.{meant-any, meant-is, count-append}
+use Rattle.boxes.proofs.Placing.{length-write}
+use Rattle.judge.specs.Acceptance.{Meets}
+use Rattle.settle.proofs.Accepted.{file-tiled, one-moov, ftyp-first}
+use Rattle.moving.specs.Moving.{moovSecond}
+use Rattle.moving.proofs.Order.{second-is, all-left}
+
+-- ---- places
+
+-- the first box of all starts where they do, and the second where the first ends
+starts : (l : List Box) → placeIn ANY 0 l ≡ 0
+unfolding placeIn placeBy
+starts [] = refl
+starts (x ∷ l) = sym (eq-nay _ _ _ _ _ (λ z. omega (arith, meant-any ANY (x .code) refl)) refl)
+
+pub second-place : (x : Box) (l : List Box) → placeIn ANY 1 (x ∷ l) ≡ size x
+unfolding placeIn placeBy
+second-place x l = sym (eq-nay _ _ _ _ _ (λ z. omega (arith, meant-any ANY (x .code) refl)) (omega (arith, starts l)))
+
+-- ---- the boxes before `moov`, itself, and those after it
+
+pub record Parted (xs : List ℕ) (b : BoxAt) : Type 0 where
+  pub ftyp : Box
+  pub mid : List Box
+  pub end : List Box
+  pub list : boxes xs ≡ ftyp ∷ (mid ++ boxAt xs b ∷ end)
+  pub second : moovSecond (boxes xs) ≡ ftyp ∷ (boxAt xs b ∷ (mid ++ end))
+  pub name : ftyp .code ≡ FTYP
+  pub moov : b .code ≡ MOOV
+  pub at : b .at ≡ size ftyp + total mid
+  pub size : b .size ≡ size (boxAt xs b)
+  pub inside : b .at + b .size ≤ length xs
+
+module _ (xs : List ℕ) (v : Bytes xs) (m : Meets xs) {b : BoxAt} (c : Cut xs MOOV 0 b) where
+  cut-moov : b .code ≡ MOOV
+  cut-moov = meant-is MOOV (b .code) (λ z. omega arith) (c .hit)
+
+  cut-size : b .size ≡ size (boxAt xs b)
+  cut-size = let e : length (payload xs b) ≡ b .size - b .head = rw (length-take, length-drop) (omega (arith, c .inside, c .least)) in omega (arith, e, c .least)
+
+  none-after : count MOOV (c .q) ≡ 0
+  unfolding count
+  none-after = omega (arith, one-moov xs m, ap (count MOOV) (c .list), count-append MOOV (c .p) (boxAt xs b ∷ c .q), c .hit, c .nth)
+
+  cut-at : b .at ≡ total (c .p)
+  cut-at =
+      let g : All Good (c .p ++ boxAt xs b ∷ c .q) = rw (c .list) at (parts xs v .good) in
+      sym (length-take-le (b .at) xs (omega (arith, c .inside))) ∙ ap length (c .before) ∙ length-write (all-left (c .p) _ g)
+
+  parted-by : (p : List Box) → c .p ≡ p → Parted xs b
+  unfolding total count
+  parted-by [] e =
+      let l : boxes xs ≡ boxAt xs b ∷ c .q = rw e at (c .list) in
+      absurd (omega (arith, cut-moov, ftyp-first xs m (boxAt xs b) (c .q) l))
+  parted-by (x ∷ p) e =
+      let l : boxes xs ≡ x ∷ (p ++ boxAt xs b ∷ c .q) = rw e at (c .list) in
+      let n : meant MOOV (x .code) + count MOOV p ≡ 0 = rw e at (c .nth) in
+      record {
+        ftyp = x;
+        mid = p;
+        end = c .q;
+        list = l;
+        second = ap moovSecond l ∙ second-is (boxAt xs b) (c .q) cut-moov none-after x p (omega arith);
+        name = ftyp-first xs m x (p ++ boxAt xs b ∷ c .q) l;
+        moov = cut-moov;
+        at = cut-at ∙ ap total e;
+        size = cut-size;
+        inside = c .inside;
+      }
+
+  pub parted : Parted xs b
+  parted = parted-by (c .p) refl

@@ -1,0 +1,4 @@
+pub mod Descent
+pub mod Accepted
+pub mod Reading
+pub mod Answering

@@ -1,0 +1,21 @@
+use borrow.Author.Needs.{needs}
+use Rattle.reads.proofs.Answering.{track-zero, track-past, track-short, track-done, track-readable}
+use Rattle.reads.proofs.Reading.{offsets-length, offsets-wrote, offsets-table}
+use native.Mathlib.Omega.{arith}
+use Rattle.reads.proofs.offsets_in.Statement.{statement}
+use Rattle.reads.proofs.offsets_in.Tie as tie
+
+pub offsets-in-spec : {M : Type 1} → statement M
+offsets-in-spec = tie.close (tie.spec
+    (λ c. track-zero _ _ _ _ (c .if1 .taken))
+    (λ c κs. search needs)
+    (λ c. track-past _ _ _ _ (omega arith) (c .before .tracks .ensures .0) (omega arith))
+    (λ c. search needs)
+    (λ c κs. search needs)
+    (λ c κs. search needs)
+    (λ c κs. search needs)
+    (λ c. track-short _ _ _ _ (omega arith) (c .before .before .before .before .before .tracks .ensures .0) (omega arith) (omega (arith, offsets-length _ (c .before .before .before .track .ensures .0) (c .before .before .table .ensures .0) (c .before .count .ensures .0))))
+    (λ c κs. (offsets-table (c .before .before .before .table .ensures .0) (track-readable _ _ (omega arith) (c .before .before .before .before .before .before .tracks .ensures .0) (omega arith) (c .before .before .before .before .before .before .before .before .before .before .pre) (c .before .before .before .before .track .ensures .0)), omega arith))
+    (λ c. search needs)
+    (λ c. let w = offsets-wrote _ (c .before .before .before .before .before .before .before .track .ensures .0) (c .before .before .before .before .before .before .table .ensures .0) (c .before .before .put-offsets .ensures) in
+    track-done _ _ _ _ (omega arith) (c .before .before .before .before .before .before .before .before .before .tracks .ensures .0) (omega arith) (omega (arith, offsets-length _ (c .before .before .before .before .before .before .before .track .ensures .0) (c .before .before .before .before .before .before .table .ensures .0) (c .before .before .before .before .before .count .ensures .0))) w))

@@ -1,0 +1,19 @@
+use borrow.Author.Needs.{needs}
+use Rattle.sheet.proofs.Writing.{sheet-put}
+use native.Mathlib.Omega.{arith}
+use Rattle.sheet.proofs.put_sheet.Statement.{statement}
+use Rattle.sheet.proofs.put_sheet.Tie as tie
+
+pub put-sheet-spec : {M : Type 1} → statement M
+put-sheet-spec = tie.close (tie.spec
+    (λ c κs. search needs)
+    (λ c κs. search needs)
+    (λ c κs. search needs)
+    (λ c κs. search needs)
+    (λ c κs. search needs)
+    (λ c. search needs)
+    (λ c. search needs)
+    (λ c κs. search needs)
+    (λ c κs. search needs)
+    (λ c. search needs)
+    (λ c. sheet-put _ (c .before .before .before .before .before .before .before .before .before .before .before .before .before .before .before .before .before .before .before .before .before .before .before .before .before .before .before .pre) (c .before .before .before .before .before .before .before .before .before .before .before .before .before .before .before .before .before .before .before .before .before .before .before .before .entries .ensures .0) (c .before .before .before .before .before .before .before .before .before .before .before .before .before .before .before .before .before .before .before .before .before .before .number .ensures .0) (c .before .before .before .before .before .before .before .before .before .before .before .before .before .before .before .before .before .before .number2 .ensures .0) (c .before .before .before .before .before .before .before .before .before .before .before .before .before .before .number3 .ensures .0) (c .before .before .before .before .before .before .before .before .before .before .put-slots .ensures .0) (c .before .before .before .before .before .before .number4 .ensures .0) (c .before .before .put-bodies .ensures .0)))

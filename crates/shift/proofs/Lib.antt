@@ -1,0 +1,4 @@
+pub mod Asking
+pub mod Passing
+pub mod Meaning
+pub mod Answering

@@ -1,0 +1,72 @@
+-- What code writes by a zone is what is meant by minutes. Assumes nothing.
+use Prim.Native.Nat.{ℕ, _+_, _-_, _≤_, _<_}
+use native.Mathlib.Omega.{arith}
+use mathlib.Core.Path.{_≡_, refl, sym, ap, _∙_}
+use mathlib.Core.Bool.{Bool, true, false}
+use mathlib.Core.List.{List, _++_}
+use lib.Dec.{eqb}
+use lib.IntN.{ℤ}
+use lib.ListN.{length, drop}
+use borrow.Author.Tests.{eqb-true, eqb-false}
+use Rattle.wire.specs.Tests.{pick, ifEq}
+use Rattle.wire.specs.Codes.{MOOV, MVHD, TRAK, TKHD, MDIA, MDHD}
+use Rattle.wire.specs.Numbers.{Bytes}
+use Rattle.wire.proofs.Tests.{eq-yea, eq-nay}
+use Rattle.wire.proofs.Clauses.{fails, holds, done}
+use Rattle.boxes.specs.Boxes.{boxes}
+use Rattle.boxes.specs.Box.{Box}
+use Rattle.boxes.specs.Kin.{All2, nil, cons}
+use Rattle.boxes.specs.Words.{moved}
+use Rattle.boxes.proofs.Wording.{moved-low, moved-high}
+use Rattle.media.specs.Relocate.{Alike}
+use Rattle.clocks.specs.declared.Zone.{Zone}
+use Rattle.clocks.specs.Clocks.{zoneFine, zoneOf, shiftTime, mayShift}
+use Rattle.clocks.specs.Zones.{leaves}
+use Rattle.clocks.proofs.Whole.{shift-is, may-is}
+use Rattle.settle.proofs.Settled.{settled-same, settled-length}
+use Rattle.shift.specs.Shift.{times, timesBy, allTimesBy, allTimes, shiftOf}
+use Rattle.shift.specs.Amount.{byZone, zoneText}
+use Rattle.shift.proofs.Passing.{times-length, times-bytes, times-alike}
+
+ext : {A : Type 0} (f g : ℕ → A) → ((n : ℕ) → f n ≡ g n) → f ≡ g
+ext f g h = λ i n. h n i
+
+-- a time of 0 is below the limit of 1
+moved-is : (z : Zone) (t : ℕ) → ifEq t 0 0 (t + z .behind - z .ahead) ≡ moved (byZone z) t
+unfolding ifEq
+moved-is z t = go (eqb t 0) refl
+  where
+    go : (s : Bool) → eqb t 0 ≡ s → pick s 0 (t + z .behind - z .ahead) ≡ moved (byZone z) t
+    go true e = let h = eqb-true t 0 e in moved-low (byZone z) t (omega arith) (omega arith)
+    go false e = let h = eqb-false t 0 e in moved-high (byZone z) t (omega arith) refl
+
+pub times-are : (z : ℤ) → moved (byZone (zoneOf z)) ≡ shiftTime z
+times-are z = ext _ _ (λ t. sym (shift-is z t ∙ moved-is (zoneOf z) t))
+
+pub leaves-are : (z : ℤ) → leaves (zoneOf z) ≡ mayShift z
+leaves-are z = ext _ _ (λ t. sym (may-is z t))
+
+-- ---- nothing moves
+
+alike-then : {l m n : List Box} → All2 Alike l m → All2 Alike m n → All2 Alike l n
+alike-then nil nil = nil
+alike-then (cons r a) (cons s b) = cons (record { head = r .head ∙ s .head; code = r .code ∙ s .code; long = r .long ∙ s .long }) (alike-then a b)
+
+module _ (f : ℕ → ℕ) (xs : List ℕ) (v : Bytes xs) (h : length xs < 4294967296) where
+  all-alike : All2 Alike (boxes xs) (boxes (allTimesBy f xs))
+  unfolding allTimesBy
+  all-alike =
+      let m = times-length (times MOOV MVHD) f xs in
+      let w = times-bytes (times MOOV MVHD) f xs v in
+      let n = times-length (times TRAK TKHD) f (timesBy (times MOOV MVHD) f xs) in
+      let u = times-bytes (times TRAK TKHD) f (timesBy (times MOOV MVHD) f xs) w in
+      alike-then (times-alike (times MOOV MVHD) f xs v h)
+      (alike-then (times-alike (times TRAK TKHD) f _ w (omega arith)) (times-alike (times MDIA MDHD) f _ u (omega arith)))
+
+  all-bytes : Bytes (allTimesBy f xs)
+  unfolding allTimesBy
+  all-bytes = times-bytes (times MDIA MDHD) f _ (times-bytes (times TRAK TKHD) f _ (times-bytes (times MOOV MVHD) f xs v))
+
+pub shift-text : (z : ℤ) (xs : List ℕ) → Bytes xs → length xs < 4294967296 → zoneText (zoneOf z) xs ≡ shiftOf z xs
+unfolding zoneText shiftOf
+shift-text z xs v h = rw (times-are z) (sym (settled-same xs (allTimesBy (shiftTime z) xs) (all-alike (shiftTime z) xs v h) (all-bytes (shiftTime z) xs v h)))

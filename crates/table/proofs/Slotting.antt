@@ -1,0 +1,61 @@
+-- Writing slots. Assumes nothing.
+use Prim.Native.Nat.{ℕ, _-_, _%_, _<_}
+use native.Mathlib.Omega.{arith}
+use mathlib.Core.Path.{_≡_}
+use mathlib.Core.Bool.{Bool, true, false}
+use mathlib.Core.List.{List, [], _∷_, _++_}
+use lib.Dec.{eqb}
+use lib.ListN.{length, take, getD}
+use Rattle.wire.specs.Tests.{pick, ifEq}
+use Rattle.wire.specs.Numbers.{bytes, bytesOn, word}
+use Rattle.wire.specs.Writing.{Put}
+use Rattle.wire.proofs.Writing.{pen-none, pen-then, pen-is}
+use Rattle.heads.specs.Kinds.{kindOf}
+use Rattle.sheet.specs.Sheet.{slot, slotOf, slots}
+use Rattle.table.specs.Form.{firstOf, read}
+use Rattle.table.proofs.Reading.{Past, read-none, read-more}
+
+-- ---- a slot
+
+either : (m n a b : ℕ) → a < 256 → b < 256 → ifEq m n a b < 256
+unfolding ifEq
+either m n a b k l = go (eqb m n)
+  where
+    go : (t : Bool) → pick t a b < 256
+    go true = k
+    go false = l
+
+pub kind-byte : (code : ℕ) → kindOf code < 256
+unfolding kindOf
+kind-byte code =
+    either _ _ _ _ (omega arith)
+    (either _ _ _ _ (omega arith)
+    (either _ _ _ _ (omega arith)
+    (either _ _ _ _ (omega arith) (either _ _ _ _ (omega arith) (either _ _ _ _ (omega arith) (omega arith))))))
+
+pub slot-is : (kind track place size : ℕ) → kind < 256 → track < 256 → bytes 1 kind ++ bytes 1 track ++ bytes 2 0 ++ bytes 4 place ++ bytes 4 size ≡ slot kind track place size
+unfolding slot bytes bytesOn
+slot-is kind track place size h k =
+    let e : kind % 256 ≡ kind = omega arith in
+    let f : track % 256 ≡ track = omega arith in
+    rw (e, f)
+
+-- edition, count, and two zeros
+pub start-is : (n : ℕ) → n < 256 → bytes 1 1 ++ bytes 1 n ++ bytes 2 0 ≡ 1 ∷ n ∷ 0 ∷ 0 ∷ []
+unfolding bytes bytesOn
+start-is n h = let e : n % 256 ≡ n = omega arith in rw e
+
+-- ---- writing slots
+
+pub slots-none : (n : ℕ) (xs ys out : List ℕ) (at : ℕ) → n ≡ 0 → Put (slots (read n xs ys)) out at at out
+unfolding slots
+slots-none n xs ys out at e = rw (read-none n xs ys e) (pen-none out at)
+
+module _ {n : ℕ} {xs ys rest past : List ℕ} (h : n ≡ 0 → ⊥) (p : Past xs ys rest past) where
+  pub slots-more : {out mid after : List ℕ} {at m r : ℕ} → Put (slotOf (firstOf xs ys)) out at m mid → Put (slots (read (n - 1) rest past)) mid m r after → Put (slots (read n xs ys)) out at r after
+  unfolding slots
+  slots-more a b = rw (read-more h p) (pen-then a b)
+
+-- the first slot as it should be
+pub first-put : (xs ys : List ℕ) {first out after : List ℕ} {kind code track place at r : ℕ} → kind ≡ kindOf code → code ≡ word 4 first 4 → first ≡ take (word 4 xs 8) ys → track ≡ getD xs 1 0 → place ≡ word 4 xs 4 → Put (slot kind track place (length first)) out at r after → Put (slotOf (firstOf xs ys)) out at r after
+first-put xs ys k o f t p w = pen-is (rw (k, o, f, t, p)) w

@@ -1,0 +1,67 @@
+-- "track 0 or above the sheet's highest": the tracks that have no entry in a sheet of the form. Assumes nothing.
+use Prim.Native.Nat.{ℕ, _+_, _≤_, _<_}
+use native.Mathlib.Omega.{arith}
+use mathlib.Core.Path.{_≡_, refl, sym, _∙_}
+use mathlib.Core.Bool.{Bool, true, false}
+use mathlib.Core.List.{List, [], _∷_}
+use lib.Dec.{eqb}
+use lib.ListN.{length}
+use borrow.Author.Tests.{eqb-true, eqb-false}
+use Rattle.wire.proofs.Tests.{both, eq-yea, eq-nay}
+use Rattle.wire.proofs.Clauses.{le-is, clause}
+use Rattle.movie.specs.Entries.{Entry}
+use Rattle.table.specs.Form.{follows, steps}
+use Rattle.table.specs.Table.{own, highest}
+
+-- what a slot's track tells that follows one of track p
+record Follows (p u : ℕ) : Type 0 where
+  falls : p ≤ u
+  skips : u ≤ p + 1
+  first : 1 ≤ u
+
+follows-is : (p u : ℕ) → follows p u ≡ true → Follows p u
+unfolding follows
+follows-is p u f = record { falls = le-is _ _ (clause 0 _ f); skips = le-is _ _ (clause 1 _ f); first = le-is _ _ (clause 2 _ f) }
+
+steps-first : (p : ℕ) (e : Entry) (es : List Entry) → steps p (e ∷ es) ≡ true → Follows p (e .track) × (steps (e .track) es ≡ true)
+unfolding steps
+steps-first p e es s = let b = both (follows p (e .track)) (steps (e .track) es) s in (follows-is p (e .track) (b .0), b .1)
+
+own-other : (t : ℕ) (e : Entry) (es : List Entry) → (e .track ≡ t → ⊥) → own t (e ∷ es) ≡ own t es
+unfolding own
+own-other t e es h = sym (eq-nay _ _ _ _ _ h refl)
+
+own-first : (t : ℕ) (e : Entry) (es : List Entry) → e .track ≡ t → own t (e ∷ es) ≡ e ∷ own t es
+unfolding own
+own-first t e es h = sym (eq-yea _ _ _ _ _ h refl)
+
+-- ---- no entry
+
+pub track-none : (p : ℕ) (es : List Entry) → steps p es ≡ true → own 0 es ≡ []
+unfolding own
+track-none p [] s = refl
+track-none p (e ∷ es) s =
+    let f = steps-first p e es s in
+    own-other 0 e es (λ z. omega (arith, f .0 .first)) ∙ track-none (e .track) es (f .1)
+
+pub track-above : (t : ℕ) (es : List Entry) → highest es < t → own t es ≡ []
+unfolding own highest
+track-above t [] h = refl
+track-above t (e ∷ es) h = own-other t e es (λ z. omega arith) ∙ track-above t es (omega arith)
+
+-- ---- some entry
+
+pub track-some : (p t : ℕ) (es : List Entry) → steps p es ≡ true → p < t → t ≤ highest es → 1 ≤ length (own t es)
+unfolding highest
+track-some p t [] s l h = absurd (omega arith)
+track-some p t (e ∷ es) s l h = go (eqb (e .track) t) refl (track-some (e .track) t es (f .1))
+  where
+    f : Follows p (e .track) × (steps (e .track) es ≡ true)
+    f = steps-first p e es s
+
+    go : (b : Bool) → eqb (e .track) t ≡ b → (e .track < t → t ≤ highest es → 1 ≤ length (own t es)) → 1 ≤ length (own t (e ∷ es))
+    go true d ih = rw (own-first t e es (eqb-true _ _ d)) (omega arith)
+    go false d ih =
+        let n = eqb-false (e .track) t d in
+        let u : e .track < t = omega (arith, f .0 .skips, n) in
+        rw (own-other t e es n) (ih u (omega arith))

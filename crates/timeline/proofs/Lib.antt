@@ -1,0 +1,5 @@
+pub mod Ways
+pub mod Ticks
+pub mod Clocks
+pub mod Walks
+pub mod Steps

@@ -1,0 +1,3 @@
+// The walk by chunk with ticks.
+pub mod clock;
+pub mod walk;
