@@ -12,13 +12,11 @@ use Rattle.boxes.specs.Kin.All2.{nil, cons}
 use Rattle.boxes.proofs.Reading.{lengths, length-cons}
 use Rattle.media.proofs.Keeping.{tiled}
 use Rattle.judge.specs.Acceptance.{Meets}
-use Rattle.moving.specs.Moving.{moveOf}
 use Rattle.settle.specs.Settle.{settled}
 use Rattle.keeping.specs.Kept.{Kept}
-use Rattle.keeping.proofs.Content.{Content, content-same}
+use Rattle.keeping.proofs.Content.{Content}
 use Rattle.keeping.proofs.Arranges.{Arranges, stay}
 use Rattle.keeping.proofs.Arranging.{arranged-length, arranged-bytes}
-use Rattle.keeping.proofs.Second.{second}
 use Rattle.keeping.proofs.Settling.{xs-tiled, new, new-bytes, new-tiled, new-small, new-length, edit-kin, settled-is, ys-tiled}
 use Rattle.keeping.proofs.Accepting.{edit-plain, edit-meets}
 use Rattle.keeping.proofs.Sampling.{edit-tracks, edit-samples}
@@ -84,8 +82,3 @@ module _ {A : List Box → List Box} (a : Arranges A) (xs ys : List ℕ) (w : By
 -- the same of an edit that leaves the boxes in their order
 pub keeps-stay : (xs ys : List ℕ) → Bytes xs → Meets xs → Content xs ys → Kept xs (settled xs ys)
 keeps-stay xs ys w m c = subst (λ (zs : List ℕ). Kept xs (settled xs zs)) (tiled ys (c .bytes) (ys-tiled stay xs ys w m c)) (keeps stay xs ys w m c)
-
--- "Move: moov goes right after ftyp": it keeps a file
-pub keeps-move : (xs : List ℕ) → Bytes xs → Meets xs → Kept xs (moveOf xs)
-unfolding moveOf
-keeps-move xs w m = keeps second xs xs w m (content-same xs w (m .most))

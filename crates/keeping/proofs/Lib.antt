@@ -22,3 +22,4 @@ pub mod Keeping
 pub mod Entry
 pub mod Changed
 pub mod Once
+pub mod Edits

@@ -18,6 +18,7 @@ use Rattle.boxes.proofs.Kin.{Made, kin-edit}
 use Rattle.boxes.proofs.Editing.{edit-length, edit-bytes}
 use Rattle.boxes.proofs.Wording.{reword-length, leaf-length, leaf-bytes}
 use Rattle.judge.specs.Judgement.{LONGEST}
+use Rattle.shift.specs.Shift.{times, timesBy, allTimesBy}
 use Rattle.keeping.proofs.Words.{byte-before, word-behind}
 use Rattle.keeping.proofs.Sound.{sound-less}
 use Rattle.keeping.proofs.Content.{Content, content-then}
@@ -25,12 +26,8 @@ use Rattle.keeping.proofs.Clocked.{Untimed, Clocked, clocked-same, in-s
 
 -- ---- one kind of header
 
--- the times of the boxes of a code in a kind of container
-abbrev pub timesIn : ℕ → ℕ → Target
-timesIn K C = record { kind = K; code = C; from = 4; span = 8 }
-
 module _ (K C : ℕ) (timed : Untimed K C → ⊥) (f : ℕ → ℕ) where
-  clocked-made : (k c : ℕ) (b : List ℕ) → Clocked k c b (rewordLeaf (timesIn K C) f k c b)
+  clocked-made : (k c : ℕ) (b : List ℕ) → Clocked k c b (rewordLeaf (times K C) f k c b)
   unfolding rewordLeaf ifEq
   clocked-made k c b = go (eqb k K) (eqb c C) refl refl
     where
@@ -46,15 +43,15 @@ module _ (K C : ℕ) (timed : Untimed K C → ⊥) (f : ℕ → ℕ) where
       go false t e g = clocked-same k c b
 
   -- its times by any function
-  times-content : (xs : List ℕ) → Bytes xs → length xs ≤ LONGEST → Content xs (editIn (rewordLeaf (timesIn K C) f) DEPTH FILE xs)
+  times-content : (xs : List ℕ) → Bytes xs → length xs ≤ LONGEST → Content xs (timesBy (times K C) f xs)
   times-content xs w n =
-      let l = edit-length (rewordLeaf (timesIn K C) f) (leaf-length (timesIn K C) f) DEPTH FILE xs in
+      let l = edit-length (rewordLeaf (times K C) f) (leaf-length (times K C) f) DEPTH FILE xs in
       record {
-        leaf = Made (rewordLeaf (timesIn K C) f);
-        kin = kin-edit (rewordLeaf (timesIn K C) f) DEPTH FILE xs w (omega arith);
+        leaf = Made (rewordLeaf (times K C) f);
+        kin = kin-edit (rewordLeaf (times K C) f) DEPTH FILE xs w (omega arith);
         sound = sound-less (λ k c b b′ r. rw (r .0) (clocked-made k c b)) clocked-sound;
         stco = λ b b′ r. in-stbl STCO b b′ (rw (r .0) (clocked-made STBL STCO b));
-        bytes = edit-bytes (rewordLeaf (timesIn K C) f) (leaf-bytes (timesIn K C) f) DEPTH FILE xs w;
+        bytes = edit-bytes (rewordLeaf (times K C) f) (leaf-bytes (times K C) f) DEPTH FILE xs w;
         small = omega arith;
       }
 
@@ -62,13 +59,14 @@ module _ (K C : ℕ) (timed : Untimed K C → ⊥) (f : ℕ → ℕ) where
 
 module _ (f : ℕ → ℕ) (xs : List ℕ) (w : Bytes xs) (n : length xs ≤ LONGEST) where
   abbrev first : List ℕ
-  first = editIn (rewordLeaf (timesIn MOOV MVHD) f) DEPTH FILE xs
+  first = timesBy (times MOOV MVHD) f xs
 
   abbrev second : List ℕ
-  second = editIn (rewordLeaf (timesIn TRAK TKHD) f) DEPTH FILE (editIn (rewordLeaf (timesIn MOOV MVHD) f) DEPTH FILE xs)
+  second = timesBy (times TRAK TKHD) f (timesBy (times MOOV MVHD) f xs)
 
   -- the times of every header, one kind of header after the other
-  pub shift-content : Content xs (editIn (rewordLeaf (timesIn MDIA MDHD) f) DEPTH FILE (editIn (rewordLeaf (timesIn TRAK TKHD) f) DEPTH FILE (editIn (rewordLeaf (timesIn MOOV MVHD) f) DEPTH FILE xs)))
+  pub shift-content : Content xs (allTimesBy f xs)
+  unfolding allTimesBy
   shift-content =
       let a : Content xs first = times-content MOOV MVHD (λ u. u .0 refl refl) f xs w n in
       let b : Content first second = times-content TRAK TKHD (λ u. u .1 refl refl) f first (a .bytes) (a .small) in
