@@ -1,3 +1,4 @@
+-- The invariant: t tracks before the walk's place, and entry i is number `left` from there on.
 use borrow.Author.Needs.{needs}
 use Prim.Native.Nat.{_-_}
 use Rattle.boxes.proofs.Walking.{ran, ended, broke}
