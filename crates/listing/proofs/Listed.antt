@@ -1,8 +1,8 @@
 -- Laws of the lines of a file. Assumes nothing.
-use Prim.Native.Nat.{ℕ, zero, suc, _+_, _-_, _≤_, _<_}
+use Prim.Native.Nat.{ℕ, _+_, _-_, _≤_, _<_}
 use native.Mathlib.Omega.{arith}
 use native.Mathlib.Numerals.{add-one}
-use mathlib.Core.Path.{_≡_, refl, sym, ap, _∙_}
+use mathlib.Core.Path.{_≡_, refl, sym, _∙_}
 use mathlib.Core.List.{List, [], _∷_, _++_}
 use lib.ListN.{length, take, drop, length-take, length-drop, drop-of-length-le}
 use lib.Seq.{drop-drop}
@@ -17,7 +17,7 @@ use Rattle.movie.specs.declared.entry.Named.{Named}
 use Rattle.movie.specs.declared.entry.Named.the-variants.{At, Missing}
 use Rattle.movie.specs.Movie.{tracks, track, table, handler, scale}
 use Rattle.movie.specs.Entries.{Entry, entries}
-use Rattle.movie.specs.Named.{entryAs, EntryIs, NamedAs}
+use Rattle.movie.specs.Named.{entryAs, NamedAs}
 use Rattle.movie.proofs.Asking.{named-at, named-none}
 use Rattle.judge.specs.Acceptance.{Meets}
 use Rattle.brands.specs.Brands.{brandHolds}

@@ -5,7 +5,6 @@ pub mod lines;
 use judge::Judgement;
 use verdict::Answer;
 ghost use mathlib.Core.Path.{_≡_};
-ghost use Rattle.wire.specs.Writing.{Put};
 ghost use Rattle.verdict.specs.Answers.{inRoom, outBy};
 ghost use Rattle.judge.specs.Acceptance.{Meets};
 ghost use Rattle.listing.specs.Lines.{refusedLine};

@@ -14,4 +14,8 @@ list-accepted-spec = tie.close (tie.spec
     (λ c. too-short _ (c .before .before .before .before .before .before .before .args .out .now) (c .before .before .before .put-accepted .ensures) (omega arith))
     (λ c κs. search needs)
     (λ c. search needs)
-    (λ c. all-written _ (c .before .before .before .before .before .before .before .before .before .before .before .args .out .now) (c .before .before .before .before .before .before .before .put-accepted .ensures) (c .before .before .put-accepted2 .ensures) (omega arith)))
+    (λ c.
+    let p = c .before .before in
+    let q = p .before .before .before .before .before in
+    let s = q .before .before .before .before in
+    all-written _ (s .args .out .now) (q .put-accepted .ensures) (p .put-accepted2 .ensures) (omega arith)))

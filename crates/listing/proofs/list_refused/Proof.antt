@@ -14,4 +14,8 @@ list-refused-spec = tie.close (tie.spec
     (λ c. too-short _ (c .before .before .before .before .before .before .args .out .now) (c .before .before .before .put-refused .ensures) (omega arith))
     (λ c κs. search needs)
     (λ c. search needs)
-    (λ c. all-written _ (c .before .before .before .before .before .before .before .before .before .before .args .out .now) (c .before .before .before .before .before .before .before .put-refused .ensures) (c .before .before .put-refused2 .ensures) (omega arith)))
+    (λ c.
+    let p = c .before .before in
+    let q = p .before .before .before .before .before in
+    let s = q .before .before .before in
+    all-written _ (s .args .out .now) (q .put-refused .ensures) (p .put-refused2 .ensures) (omega arith)))

@@ -16,4 +16,9 @@ put-named-spec = tie.close (tie.spec
     (λ c κs. search needs)
     (λ c κs. search needs)
     (λ c. search needs)
-    (λ c. (pen-then (pen-then (pen-then (c .before .before .before .before .before .before .before .before .before .before .before .before .before .before .before .before .put-labelled .ensures .0) (c .before .before .before .before .before .before .before .before .before .before .before .put-labelled2 .ensures .0)) (c .before .before .before .before .before .before .put-part .ensures)) (c .before .before .put-code .ensures .0), omega arith)))
+    (λ c.
+    let p = c .before .before in
+    let q = p .before .before .before .before in
+    let s = q .before .before .before .before .before in
+    let u = s .before .before .before .before .before in
+    (pen-then (pen-then (pen-then (u .put-labelled .ensures .0) (s .put-labelled2 .ensures .0)) (q .put-part .ensures)) (p .put-code .ensures .0), omega arith)))

@@ -15,4 +15,8 @@ put-placed-spec = tie.close (tie.spec
     (λ c. search needs)
     (λ c κs. search needs)
     (λ c. search needs)
-    (λ c. (pen-then (pen-then (c .before .before .before .before .before .before .before .before .before .before .before .before .put-labelled .ensures .0) (c .before .before .before .before .before .before .before .put-labelled2 .ensures .0)) (c .before .before .put-part .ensures), omega arith)))
+    (λ c.
+    let p = c .before .before in
+    let q = p .before .before .before .before .before in
+    let s = q .before .before .before .before .before in
+    (pen-then (pen-then (s .put-labelled .ensures .0) (q .put-labelled2 .ensures .0)) (p .put-part .ensures), omega arith)))

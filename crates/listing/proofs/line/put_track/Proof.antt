@@ -20,4 +20,11 @@ put-track-spec = tie.close (tie.spec
     (λ c. search needs)
     (λ c κs. search needs)
     (λ c. search needs)
-    (λ c. (pen-then (pen-then (pen-then (pen-then (pen-then (c .before .before .before .before .before .before .before .before .before .before .before .before .before .before .before .before .before .before .before .before .before .before .before .before .before .before .put-labelled .ensures .0) (c .before .before .before .before .before .before .before .before .before .before .before .before .before .before .before .before .before .before .before .before .before .put-part .ensures)) (c .before .before .before .before .before .before .before .before .before .before .before .before .before .before .before .before .before .put-handler .ensures .0)) (c .before .before .before .before .before .before .before .before .before .before .before .before .put-labelled2 .ensures .0)) (c .before .before .before .before .before .before .before .put-labelled3 .ensures .0)) (c .before .before .put-part2 .ensures), omega arith)))
+    (λ c.
+    let p = c .before .before in
+    let q = p .before .before .before .before .before in
+    let s = q .before .before .before .before .before in
+    let u = s .before .before .before .before .before in
+    let v = u .before .before .before .before in
+    let w = v .before .before .before .before .before in
+    (pen-then (pen-then (pen-then (pen-then (pen-then (w .put-labelled .ensures .0) (v .put-part .ensures)) (u .put-handler .ensures .0)) (s .put-labelled2 .ensures .0)) (q .put-labelled3 .ensures .0)) (p .put-part2 .ensures), omega arith)))

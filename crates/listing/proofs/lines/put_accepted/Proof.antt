@@ -13,4 +13,9 @@ put-accepted-spec = tie.close (tie.spec
     (λ c κs. search needs)
     (λ c κs. search needs)
     (λ c. search needs)
-    (λ c. pen-then (pen-then (pen-then (c .before .before .before .before .before .before .before .before .before .before .before .before .before .before .put-part .ensures) (c .before .before .before .before .before .before .before .before .before .before .put-tracks .ensures .0)) (c .before .before .before .before .before .before .put-entries .ensures .0)) (c .before .before .put-brands .ensures)))
+    (λ c.
+    let p = c .before .before in
+    let q = p .before .before .before .before in
+    let s = q .before .before .before .before in
+    let u = s .before .before .before .before in
+    pen-then (pen-then (pen-then (u .put-part .ensures) (s .put-tracks .ensures .0)) (q .put-entries .ensures .0)) (p .put-brands .ensures)))

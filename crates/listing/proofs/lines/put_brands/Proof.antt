@@ -12,4 +12,9 @@ put-brands-spec = tie.close (tie.spec
     (λ c κs. search needs)
     (λ c κs. search needs)
     (λ c. search needs)
-    (λ c. pen-then (pen-then (pen-then (c .before .before .before .before .before .before .before .before .before .before .before .before .before .before .put-brand .ensures .0) (c .before .before .before .before .before .before .before .before .before .before .put-brand2 .ensures .0)) (c .before .before .before .before .before .before .put-brand3 .ensures .0)) (c .before .before .put-brand4 .ensures .0)))
+    (λ c.
+    let p = c .before .before in
+    let q = p .before .before .before .before in
+    let s = q .before .before .before .before in
+    let u = s .before .before .before .before in
+    pen-then (pen-then (pen-then (u .put-brand .ensures .0) (s .put-brand2 .ensures .0)) (q .put-brand3 .ensures .0)) (p .put-brand4 .ensures .0)))

@@ -15,4 +15,9 @@ put-found-spec = tie.close (tie.spec
     (λ c κs. search needs)
     (λ c κs. search needs)
     (λ c. search needs)
-    (λ c. (found-line _ _ _ _ _ (c .before .before .before .before .before .before .before .before .before .before .before .before .pre .0) refl (c .before .before .before .before .before .before .before .before .word32 .ensures .0) (c .before .before .before .before .before .before .put-named .ensures .0) (c .before .before .put-placed .ensures .0), omega arith)))
+    (λ c.
+    let p = c .before .before in
+    let q = p .before .before .before .before in
+    let s = q .before .before in
+    let u = s .before .before .before .before in
+    (found-line _ _ _ _ _ (u .pre .0) refl (s .word32 .ensures .0) (q .put-named .ensures .0) (p .put-placed .ensures .0), omega arith)))

@@ -1,7 +1,6 @@
 use borrow.Author.Needs.{needs}
 use Rattle.reads.proofs.Reading.{times-table}
 use Rattle.listing.proofs.Listed.{line-of}
-use native.Mathlib.Omega.{arith}
 use Rattle.listing.proofs.lines.put_track.Statement.{statement}
 use Rattle.listing.proofs.lines.put_track.Tie as tie
 
