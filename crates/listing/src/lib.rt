@@ -1,6 +1,6 @@
 // The printed listing of a file.
-pub mod line;
-pub mod lines;
+mod line;
+mod lines;
 
 use judge::Judgement;
 use verdict::Answer;
