@@ -26,3 +26,4 @@ pub mod Spot
 pub mod Named
 pub mod Replacing
 pub mod Edits
+pub mod Done
