@@ -15,6 +15,9 @@ ghost use Rattle.shift.specs.Shift.{shiftAnswer, shiftOut};
 ghost use Rattle.replace.specs.Replace.{replaceAnswer, replaceOut};
 ghost use Rattle.moving.specs.Moving.{moveAnswer, moveOut};
 ghost use Rattle.newer.specs.Newer.{newestOf};
+ghost use Rattle.fields.specs.Numbers.{readAnswer, readOut, writeAnswer, writeOut};
+ghost use Rattle.verdict.specs.Answers.{inRoom, outBy};
+ghost use Rattle.listing.specs.Listing.{listing as listingOf};
 ghost use Rattle.threegp.specs.Answers.{pair as pairOf, packed, judgeAnswer, newerAnswer, newerOut};
 ghost use Rattle.newer.specs.declared.Outcome.the-variants.{Found};
 
@@ -115,6 +118,30 @@ pub extern "C" fn threegp_move(file: &[u8], out: &mut [u8]) -> u64
     ensures { λ r. ⌜ (r ≡ packed (moveAnswer (now (file .entry)) (now (out .entry)))) × (now (out .exit) ≡ moveOut (now (file .entry)) (now (out .entry))) ⌝ }
 {
     pack(moving::move_moov(file, out))
+}
+
+// The fields of a record as numbers.
+#[no_mangle]
+pub extern "C" fn threegp_record_read(entry: &[u8], out: &mut [u64]) -> u64
+    ensures { λ r. ⌜ (r ≡ packed (readAnswer (now (entry .entry)) (now (out .entry)))) × (now (out .exit) ≡ readOut (now (entry .entry)) (now (out .entry))) ⌝ }
+{
+    pack(fields::read(entry, out))
+}
+
+// The record of numbers.
+#[no_mangle]
+pub extern "C" fn threegp_record_write(numbers: &[u64], out: &mut [u8]) -> u64
+    ensures { λ r. ⌜ (r ≡ packed (writeAnswer (now (numbers .entry)) (now (out .entry)))) × (now (out .exit) ≡ writeOut (now (numbers .entry)) (now (out .entry))) ⌝ }
+{
+    pack(fields::write(numbers, out))
+}
+
+// The printed listing of a file.
+#[no_mangle]
+pub extern "C" fn threegp_listing(file: &[u8], out: &mut [u8]) -> u64
+    ensures { λ r. ⌜ (r ≡ packed (inRoom (listingOf (now (file .entry))) (now (out .entry)))) × (now (out .exit) ≡ outBy (inRoom (listingOf (now (file .entry))) (now (out .entry))) (listingOf (now (file .entry))) (now (out .entry))) ⌝ }
+{
+    pack(listing::listing(file, out))
 }
 
 // The four numbers of an entry of the later file.
