@@ -6,3 +6,5 @@ pub mod Spotting
 pub mod Naming
 pub mod Asking
 pub mod Spots
+pub mod Parted
+pub mod Entered
