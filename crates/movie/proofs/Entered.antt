@@ -1,26 +1,25 @@
 -- The entry of a spot is the box of its number in its track. Assumes nothing.
-use Prim.Native.Nat.{ℕ, zero, suc, _+_, _-_, _≤_, _<_}
+use Prim.Native.Nat.{ℕ, _+_, _-_, _≤_, _<_}
 use native.Mathlib.Omega.{arith}
 use mathlib.Core.Path.{_≡_, refl, sym, ap, _∙_}
 use mathlib.Core.Bool.{Bool, true, false}
 use mathlib.Core.List.{List, [], _∷_, _++_}
 use lib.Dec.{ltb}
 use borrow.Author.Tests.{ltb-true, ltb-false}
-use Rattle.wire.specs.Tests.{pick, ifEq, ifLt}
+use Rattle.wire.specs.Tests.{pick, ifLt}
 use Rattle.wire.specs.Codes.{MOOV, TRAK}
-use Rattle.wire.proofs.Tests.{eq-yea, eq-nay}
+use Rattle.wire.proofs.Tests.{eq-nay}
 use Rattle.boxes.specs.Box.{Box, size, header}
 use Rattle.boxes.specs.Boxes.{boxes}
-use Rattle.boxes.specs.Seek.{ANY, meant, count, byNumber, nth, startIn}
-use Rattle.boxes.proofs.Seeking.{meant-yes, meant-most}
-use Rattle.movie.specs.declared.entry.Spot.{Spot}
-use Rattle.movie.specs.declared.entry.Spot.the-variants.{In, Past}
+use Rattle.boxes.specs.Seek.{ANY, meant, count, nth, startIn}
+use Rattle.boxes.proofs.Seeking.{meant-yes}
+use Rattle.movie.specs.declared.entry.Spot.the-variants.{In}
 use Rattle.movie.specs.Movie.{movie, track}
 use Rattle.movie.specs.Entries.{entriesOf, entriesAfter, entries}
 use Rattle.movie.specs.Named.{listIn, held, spotIn, bytesAt}
 use Rattle.movie.proofs.Spotting.{after-past, after-in}
 use Rattle.movie.proofs.Spots.{at-front}
-use Rattle.movie.proofs.Parted.{split, from-split}
+use Rattle.movie.proofs.Parted.{split, from-split, track-past}
 
 -- ---- the entry of a spot
 
@@ -34,19 +33,6 @@ pub record Entered (l : List Box) (i u t n : ℕ) : Type 0 where
   pub list : boxes (listIn (nth TRAK k l)) ≡ p ++ x ∷ q
   pub nth : count ANY p ≡ n
   pub bytes : (o : ℕ) → bytesAt i (entriesAfter u l o) ≡ header x ++ x .body
-
--- one box of `moov` more before them
-track-past : (x : Box) (l : List Box) (k : ℕ) → nth TRAK (meant TRAK (x .code) + k) (x ∷ l) ≡ nth TRAK k l
-unfolding nth
-track-past x l k = go (meant TRAK (x .code)) refl (meant-most TRAK (x .code))
-  where
-    go : (m : ℕ) → meant TRAK (x .code) ≡ m → m ≤ 1 → ifEq (meant TRAK (x .code)) 0 (nth TRAK (m + k) l) (byNumber (m + k) (x .body) (λ j. nth TRAK j l)) ≡ nth TRAK k l
-    go zero e h = let z : 0 + k ≡ k = omega arith in sym (eq-yea _ _ _ _ _ e (rw z))
-    go (suc zero) e h = let z : 1 + k ≡ suc k = omega arith in rw z (sym (eq-nay _ _ _ _ _ (λ y. omega arith) refl))
-    go (suc (suc m)) e h = absurd (omega arith)
-
-spot-in : {u i t n : ℕ} → In u i ≡ In t n → (u ≡ t) × (i ≡ n)
-spot-in e = (cc, cc)
 
 module _ (x : Box) (l : List Box) (i u : ℕ) where
   -- in the first of them
@@ -91,7 +77,7 @@ entered (x ∷ l) i u t n = go (ltb i (held (x .code) (x .body))) refl (entered 
   where
     go : (b : Bool) → ltb i (held (x .code) (x .body)) ≡ b → (spotIn (u + meant TRAK (x .code)) l (i - held (x .code) (x .body)) ≡ In t n → Entered l (i - held (x .code) (x .body)) (u + meant TRAK (x .code)) t n)
         → pick b (In u i) (spotIn (u + meant TRAK (x .code)) l (i - held (x .code) (x .body))) ≡ In t n → Entered (x ∷ l) i u t n
-    go true r ih e = let d = spot-in e in entered-here x l i u (d .0) (d .1) (ltb-true _ _ r)
+    go true r ih e = entered-here x l i u (cc) (cc) (ltb-true _ _ r)
     go false r ih e = entered-past x l i u (ltb-false _ _ r) (ih e)
 
 -- ---- of a file

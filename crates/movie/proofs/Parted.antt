@@ -1,12 +1,15 @@
 -- The n-th of a list of boxes, and its entry. Assumes nothing.
-use Prim.Native.Nat.{ℕ, zero, suc, _<_}
+use Prim.Native.Nat.{ℕ, zero, suc, _+_, _≤_, _<_}
 use native.Mathlib.Omega.{arith}
 use mathlib.Core.Path.{_≡_, refl, sym, ap, _∙_}
 use mathlib.Core.List.{List, [], _∷_, _++_}
 use lib.ListN.{length, drop}
+use Rattle.wire.specs.Tests.{ifEq}
+use Rattle.wire.specs.Codes.{TRAK}
+use Rattle.wire.proofs.Tests.{eq-yea, eq-nay}
 use Rattle.boxes.specs.Box.{Box, header}
-use Rattle.boxes.specs.Seek.{ANY, count}
-use Rattle.boxes.proofs.Seeking.{meant-any}
+use Rattle.boxes.specs.Seek.{ANY, meant, count, byNumber, nth}
+use Rattle.boxes.proofs.Seeking.{meant-any, meant-most}
 use Rattle.movie.specs.Entries.{Entry, entriesFrom}
 use Rattle.movie.specs.Named.{bytesAt}
 use Rattle.movie.proofs.Boxed.{count-any, from-past}
@@ -33,3 +36,13 @@ unfolding entriesFrom bytesAt
 from-split t s o es =
     let e : length (s .p) ≡ _ = sym (count-any (s .p)) ∙ s .nth in
     rw (s .list, ← e, from-past t (s .p) (s .x ∷ s .q) o)
+
+-- ---- with one box more before them
+pub track-past : (x : Box) (l : List Box) (k : ℕ) → nth TRAK (meant TRAK (x .code) + k) (x ∷ l) ≡ nth TRAK k l
+unfolding nth
+track-past x l k = go (meant TRAK (x .code)) refl (meant-most TRAK (x .code))
+  where
+    go : (m : ℕ) → meant TRAK (x .code) ≡ m → m ≤ 1 → ifEq (meant TRAK (x .code)) 0 (nth TRAK (m + k) l) (byNumber (m + k) (x .body) (λ j. nth TRAK j l)) ≡ nth TRAK k l
+    go zero e h = let z : 0 + k ≡ k = omega arith in sym (eq-yea _ _ _ _ _ e (rw z))
+    go (suc zero) e h = let z : 1 + k ≡ suc k = omega arith in rw z (sym (eq-nay _ _ _ _ _ (λ y. omega arith) refl))
+    go (suc (suc m)) e h = absurd (omega arith)

@@ -1,9 +1,9 @@
 -- An entry with another record is a box again, and still meets rule 10. Assumes nothing.
-use Prim.Native.Nat.{ℕ, _+_, _-_, _≤_, _<_}
+use Prim.Native.Nat.{ℕ, _+_, _-_, _≤_}
 use native.Mathlib.Omega.{arith}
-use mathlib.Core.Path.{_≡_, refl, sym, ap, _∙_}
+use mathlib.Core.Path.{_≡_, sym, ap, _∙_}
 use mathlib.Core.Bool.{true}
-use mathlib.Core.List.{List, _++_, append-assoc}
+use mathlib.Core.List.{List, [], _∷_, _++_, append-assoc}
 use lib.ListN.{length, take, drop, length-append, length-drop}
 use lib.Seq.{length-take-le, drop-at}
 use Rattle.wire.specs.Numbers.{bytes, word}
@@ -14,6 +14,8 @@ use Rattle.boxes.specs.Box.{Box, size, header, remade}
 use Rattle.boxes.specs.Boxes.{HEAD}
 use Rattle.boxes.specs.Way.{tailBy}
 use Rattle.boxes.proofs.Whole.{Good, length-header}
+use Rattle.boxes.proofs.Reading.{All}
+use Rattle.boxes.proofs.Reading.All.{some}
 use Rattle.heads.specs.Kinds.{kindOf}
 use Rattle.heads.specs.Heads.{headSize}
 use Rattle.entries.specs.declared.rule.Around.{Around}
@@ -24,6 +26,15 @@ use Rattle.entries.proofs.Kept.{entry-kept}
 use Rattle.descriptions.specs.Ten.{MOST, meets, entryFine}
 use Rattle.replace.proofs.Taking.{record-short}
 use Rattle.replace.proofs.Written.{head-least}
+
+-- what holds of each box of a list, and of the one that takes the place of x
+pub all-changed : {P : Box → Type 0} (p : List Box) (x y : Box) (q : List Box) → (P x → P y) → All P (p ++ x ∷ q) → All P (p ++ y ∷ q)
+all-changed [] x y q h (some k a) = some {x = y} (h k) a
+all-changed (z ∷ p) x y q h (some k a) = some k (all-changed p x y q h a)
+
+pub all-at : {P : Box → Type 0} (p : List Box) (x : Box) (q : List Box) → All P (p ++ x ∷ q) → P x
+all-at [] x q (some k a) = k
+all-at (z ∷ p) x q (some k a) = all-at p x q a
 
 -- the code of a box that was written
 pub code-word : (x : Box) (r : List ℕ) → Good x → word 4 (header x ++ r) 4 ≡ x .code

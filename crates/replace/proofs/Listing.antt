@@ -2,9 +2,9 @@
 use Prim.Native.Nat.{ℕ, _+_, _-_, _≤_, _<_}
 use native.Mathlib.Omega.{arith}
 use mathlib.Core.Path.{_≡_, refl, sym, ap, _∙_}
-use mathlib.Core.Bool.{Bool, true}
-use mathlib.Core.List.{List, [], _∷_, _++_}
-use lib.ListN.{length, take, drop, length-append, length-take, length-drop}
+use mathlib.Core.Bool.{true}
+use mathlib.Core.List.{List, _∷_, _++_}
+use lib.ListN.{length, take, drop, length-append, length-drop}
 use lib.Seq.{length-take-le, drop-at}
 use Rattle.wire.specs.Numbers.{Bytes, word}
 use Rattle.wire.proofs.Clauses.{is-eq, is-le, holds, done}
@@ -14,8 +14,7 @@ use Rattle.boxes.specs.Boxes.{HEAD, boxes, after}
 use Rattle.boxes.specs.Seek.{ANY, count}
 use Rattle.boxes.specs.Way.{nthBy, overNth, overTurn, editWay, tailBy}
 use Rattle.boxes.proofs.Whole.{Good}
-use Rattle.boxes.proofs.Reading.{All, parts, lengths, write-append, length-cons}
-use Rattle.boxes.proofs.Reading.All.{none, some}
+use Rattle.boxes.proofs.Reading.{parts, lengths, write-append, length-cons}
 use Rattle.boxes.proofs.Seeking.{meant-any, count-append}
 use Rattle.boxes.proofs.Turning.{way-length}
 use Rattle.heads.specs.Kinds.{kindOf}
@@ -23,23 +22,13 @@ use Rattle.heads.specs.Heads.{headSize}
 use Rattle.entries.specs.declared.rule.Around.{Around}
 use Rattle.entries.specs.Decoders.{recordRule}
 use Rattle.entries.proofs.Replacing.{word-take}
-use Rattle.verdict.specs.Rule.{allList}
 use Rattle.lists.specs.Forms.{FRONT, stored, listForm, Listed}
 use Rattle.lists.proofs.Forms.{form-is}
 use Rattle.descriptions.specs.Ten.{MOST, entryFine, entriesFine}
 use Rattle.settle.proofs.Each.{all-each, each-all}
 use Rattle.replace.proofs.Nth.{nth-by, boxes-nth, after-nth}
 use Rattle.replace.proofs.Changing.{toEntry}
-use Rattle.replace.proofs.Entering.{fine-kept}
-
--- what holds of each box of a list, and of the one that takes the place of x
-all-changed : {P : Box → Type 0} (p : List Box) (x y : Box) (q : List Box) → (P x → P y) → All P (p ++ x ∷ q) → All P (p ++ y ∷ q)
-all-changed [] x y q h (some k a) = some {x = y} (h k) a
-all-changed (z ∷ p) x y q h (some k a) = some k (all-changed p x y q h a)
-
-all-at : {P : Box → Type 0} (p : List Box) (x : Box) (q : List Box) → All P (p ++ x ∷ q) → P x
-all-at [] x q (some k a) = k
-all-at (z ∷ p) x q (some k a) = all-at p x q a
+use Rattle.replace.proofs.Entering.{all-changed, all-at, fine-kept}
 
 -- the n-th box of the list b is x, and its body keeps its first `keep` bytes
 module _ (b : List ℕ) (v : Bytes b) (n keep : ℕ) (new : List ℕ) (s : length b + length new < 4294967296) (p : List Box) (x : Box) (q : List Box) (e : boxes (drop FRONT b) ≡ p ++ x ∷ q) (c : count ANY p ≡ n) where
@@ -80,10 +69,6 @@ module _ (b : List ℕ) (v : Bytes b) (n keep : ℕ) (new : List ℕ) (s : lengt
   unfolding rest
   after-changed = ap after drop-changed ∙ after-nth ANY n (tailBy keep new) (drop FRONT b) (bytes-drop FRONT b v) rest-small
 
-  count-changed : count ANY (boxes (drop FRONT changed)) ≡ count ANY (boxes (drop FRONT b))
-  unfolding count
-  count-changed = rw (boxes-changed, e, count-append, count-append)
-
   word-changed : (at : ℕ) → at + 4 ≤ FRONT → word 4 changed at ≡ word 4 b at
   word-changed at i =
       let l = length-take-le FRONT b room in
@@ -95,7 +80,7 @@ module _ (b : List ℕ) (v : Bytes b) (n keep : ℕ) (new : List ℕ) (s : lengt
 
   -- its form
   pub form-kept : listForm b ≡ true → listForm changed ≡ true
-  unfolding listForm
+  unfolding listForm count
   form-kept f =
       let l : Listed b = form-is b f in
       sym
@@ -103,7 +88,7 @@ module _ (b : List ℕ) (v : Bytes b) (n keep : ℕ) (new : List ℕ) (s : lengt
       (holds _ _ (is-eq _ _ (word-changed 0 (omega arith) ∙ l .plain))
       (holds _ _ (is-le _ _ (rw (← stored-kept) (l .some)))
       (holds _ _ (is-eq _ _ (ap length after-changed ∙ l .tiled))
-      (holds _ _ (is-eq _ _ (count-changed ∙ l .counted ∙ stored-kept)) done)))))
+      (holds _ _ (is-eq _ _ (rw (boxes-changed, count-append) (rw (e, count-append) at (l .counted)) ∙ stored-kept)) done)))))
 
   -- rule 10, around whichever track
   pub fine-list : (kind : ℕ) → kindOf (x .code) ≡ kind → recordRule kind MOST new ≡ 1 → keep ≡ headSize kind - HEAD → (a : Around) → entriesFine a (drop FRONT b) ≡ true → entriesFine a (drop FRONT changed) ≡ true
