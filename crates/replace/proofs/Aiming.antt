@@ -60,7 +60,7 @@ module _ (xs : List ℕ) (i : ℕ) (new : List ℕ) (v : Bytes xs) (w : Bytes ne
   replaced-is = ap (λ (s : Spot). recordAt s keep new xs) (a .spot)
 
   pub replaced-short : length (replaced xs i new) ≤ length xs + 31
-  replaced-short = rw replaced-is (omega (arith, way-length (wayTo (a .t) (a .n)) keep new xs, record-short (kindAt xs i) MOST new r .3))
+  replaced-short = rw replaced-is (omega (arith, way-length (wayTo (a .t) (a .n)) keep new xs, record-short (kindAt xs i) MOST new r .1))
 
   pub replaced-kin : Kin (Changed xs i new (a .t) (a .n)) DEPTH FILE xs (replaced xs i new)
   unfolding endOf track table

@@ -24,7 +24,7 @@ use Rattle.entries.specs.Entries.{entryRule, replaced}
 use Rattle.entries.proofs.Judging.{rule-met, inside-record}
 use Rattle.entries.proofs.Kept.{entry-kept}
 use Rattle.descriptions.specs.Ten.{MOST, meets, entryFine}
-use Rattle.replace.proofs.Taking.{record-short}
+use Rattle.replace.proofs.Taking.{record-short, record-long}
 use Rattle.replace.proofs.Written.{head-least}
 
 -- what holds of each box of a list, and of the one that takes the place of x
@@ -47,7 +47,7 @@ unfolding entryRule
 head-inside a kind most xs k h i e =
     let m = rule-met kind a most xs (rw k at e) in
     let r : recordRule kind most (drop (headSize kind) xs) ≡ 1 = sym (inside-record kind most (drop (headSize kind) xs) h i) ∙ m .inside in
-    omega (arith, record-short kind most (drop (headSize kind) xs) r .2, length-drop (headSize kind) xs)
+    omega (arith, record-long kind most (drop (headSize kind) xs) r .1, length-drop (headSize kind) xs)
 
 -- the entry, as the way writes it
 as-written : (x : Box) (head : ℕ) (new : List ℕ) → x .head ≡ HEAD → 8 ≤ head → head ≤ length (header x ++ x .body)
@@ -72,5 +72,5 @@ module _ (a : Around) (x : Box) (g : Good x) (kind : ℕ) (new : List ℕ) (k : 
       let q : entryRule a MOST (header x ++ x .body) ≡ 1 = eq-is _ _ e in
       let c : kindOf (word 4 (header x ++ x .body) 4) ≡ kind = ap kindOf (code-word x (x .body) g) ∙ k in
       let s = record-short kind MOST new r in
-      let l = head-inside a kind MOST (header x ++ x .body) c (s .0) (s .1) q in
+      let l = head-inside a kind MOST (header x ++ x .body) c (s .0) (record-long kind MOST new r .0) q in
       is-eq _ _ (ap (entryRule a MOST) (sym (as-written x (headSize kind) new (g .head) (head-least kind) l)) ∙ entry-kept a MOST kind (header x ++ x .body) new c q r)

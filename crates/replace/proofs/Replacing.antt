@@ -46,7 +46,7 @@ module _ (xs : List ℕ) (i : ℕ) (new : List ℕ) (v : Bytes xs) (m : length x
       (bytes-lies s v, omega (arith, s .inside))
 
   small : length (stsdOf xs (a .t)) + length new < 4294967296
-  small = omega (arith, stsd-part .1, record-short (kindAt xs i) MOST new r .3)
+  small = omega (arith, stsd-part .1, record-short (kindAt xs i) MOST new r .1)
 
   listed : boxes (drop FRONT (stsdOf xs (a .t))) ≡ box .p ++ box .x ∷ box .q
   unfolding listIn

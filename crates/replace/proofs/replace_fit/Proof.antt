@@ -18,7 +18,7 @@ replace-fit-spec = tie.close (tie.spec
     (λ c. search needs)
     (λ c κs. search needs)
     (λ c. omega (arith, c .size .ensures, head-least (c .before .before .before .before .before .before .before .before .before .before .before .args .kind)))
-    (λ c κs. let s = c .before .before .before .before .before .before .before .before .before .before .before .before .pre in (s .0, record-short _ _ _ (s .2) .3))
+    (λ c κs. let s = c .before .before .before .before .before .before .before .before .before .before .before .before .pre in (s .0, record-short _ _ _ (s .2) .1))
     (λ c. search needs)
     (λ c. search needs)
     (λ c. let z = c .before .before .before .before in let t = z .before .before in let f = t .before .before in let s = f .before .before .before .before .before .before .before in
