@@ -61,7 +61,7 @@ unfolding entriesFrom
 length-from t [] p = refl
 length-from t (x ∷ l) p = ap suc (length-from t l (p + size x))
 
-pub from-past : (t : ℕ) (l m : List Box) (p : ℕ) → drop (length l) (entriesFrom t (l ++ m) p) ≡ entriesFrom t m (p + total l)
+from-past : (t : ℕ) (l m : List Box) (p : ℕ) → drop (length l) (entriesFrom t (l ++ m) p) ≡ entriesFrom t m (p + total l)
 unfolding entriesFrom total
 from-past t [] m p = ap (entriesFrom t m) (omega arith)
 from-past t (x ∷ l) m p = from-past t l m (p + size x) ∙ ap (entriesFrom t m) (add-assoc p (size x) (total l))

@@ -6,5 +6,3 @@ pub mod Spotting
 pub mod Naming
 pub mod Asking
 pub mod Spots
-pub mod Parted
-pub mod Entered

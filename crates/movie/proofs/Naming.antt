@@ -24,7 +24,7 @@ use Rattle.movie.proofs.Boxed.{length-box, lies-box, from-cut}
 
 -- ---- where the entries of a track lie
 
-pub lies-stsd : (b : List ℕ) → Bytes b → Lies (table STSD b) b (startIn MDIA 0 (boxes b) + startIn MINF 0 (mdia b) + startIn STBL 0 (minf b) + startIn STSD 0 (stbl b))
+lies-stsd : (b : List ℕ) → Bytes b → Lies (table STSD b) b (startIn MDIA 0 (boxes b) + startIn MINF 0 (mdia b) + startIn STBL 0 (minf b) + startIn STSD 0 (stbl b))
 unfolding table
 lies-stsd b v =
     let m = lies-found MDIA 0 b v in

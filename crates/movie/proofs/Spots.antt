@@ -2,26 +2,21 @@
 use Prim.Native.Nat.{ℕ, zero, suc, _+_, _-_, _≤_, _<_}
 use native.Mathlib.Omega.{arith}
 use mathlib.Core.Path.{_≡_, refl, sym, ap, _∙_}
-use mathlib.Core.Bool.{Bool, true, false}
 use mathlib.Core.List.{List, [], _∷_, _++_}
-use lib.Dec.{ltb}
 use lib.ListN.{length, drop}
-use borrow.Author.Tests.{ltb-false}
-use Rattle.wire.specs.Tests.{pick, ifLt}
 use Rattle.wire.specs.Codes.{MOOV, TRAK}
 use Rattle.wire.specs.Numbers.{Bytes}
 use Rattle.wire.proofs.Tests.{lt-yea, lt-nay}
 use Rattle.boxes.specs.declared.walk.Walk.{Walk}
 use Rattle.boxes.specs.declared.walk.BoxAt.{BoxAt}
-use Rattle.boxes.specs.Box.{Box, header}
+use Rattle.boxes.specs.Box.{header}
 use Rattle.boxes.specs.Boxes.{boxes}
 use Rattle.boxes.specs.Walk.{payload, boxAt, Ran, Over}
-use Rattle.boxes.specs.Seek.{ANY, meant, find, startIn, Cut}
+use Rattle.boxes.specs.Seek.{ANY, meant, find, Cut}
 use Rattle.movie.specs.declared.entry.Spot.the-variants.{In, Past}
-use Rattle.movie.specs.Movie.{movie, track}
+use Rattle.movie.specs.Movie.{track}
 use Rattle.movie.specs.Entries.{Entry, entries}
-use Rattle.movie.specs.Named.{listIn, held, heldIn, InTrack, SpotAs, spotIn, bytesAt}
-use Rattle.movie.proofs.Counting.{length-after}
+use Rattle.movie.specs.Named.{listIn, held, InTrack, SpotAs, spotIn, bytesAt}
 use Rattle.movie.proofs.Spotting.{Gone, gone-none, gone-more, gone-in, gone-past}
 use Rattle.movie.proofs.Naming.{cut-is}
 
@@ -56,7 +51,7 @@ module _ {ys : List ℕ} {i t left at : ℕ} (g : Spotted ys i t left at) where
 -- ---- its bytes
 
 -- by the list from its number on
-pub at-front : (i : ℕ) (es : List Entry) → bytesAt i es ≡ bytesAt 0 (drop i es)
+at-front : (i : ℕ) (es : List Entry) → bytesAt i es ≡ bytesAt 0 (drop i es)
 unfolding bytesAt
 at-front zero es = refl
 at-front (suc i) [] = refl
@@ -76,19 +71,3 @@ bytes-none (suc i) (x ∷ es) h = bytes-none i es (omega arith)
 pub spot-bytes : (xs : List ℕ) → Bytes xs → {i t n : ℕ} → InTrack (find MOOV (boxes xs)) i t n → {b : BoxAt} → Cut (listIn (track xs t)) ANY n b
     → bytesAt i (entries xs) ≡ header (boxAt (listIn (track xs t)) b) ++ payload (listIn (track xs t)) b
 spot-bytes xs v {i} s c = bytes-at i (entries xs) (cut-is xs v s c)
-
--- ---- no such entry
-
-pub past-held : (l : List Box) (u i : ℕ) → spotIn u l i ≡ Past → heldIn l ≤ i
-unfolding spotIn heldIn ifLt
-past-held [] u i = λ e. omega arith
-past-held (x ∷ l) u i = go (ltb i (held (x .code) (x .body))) refl (past-held l (u + meant TRAK (x .code)) (i - held (x .code) (x .body)))
-  where
-    go : (b : Bool) → ltb i (held (x .code) (x .body)) ≡ b → (spotIn (u + meant TRAK (x .code)) l (i - held (x .code) (x .body)) ≡ Past → heldIn l ≤ i - held (x .code) (x .body))
-        → pick b (In u i) (spotIn (u + meant TRAK (x .code)) l (i - held (x .code) (x .body))) ≡ Past → held (x .code) (x .body) + heldIn l ≤ i
-    go true r ih e = let z : _≡_ {A = ℕ} 0 1 = cc in absurd (omega arith)
-    go false r ih e = let h : held (x .code) (x .body) ≤ i = ltb-false _ _ r in omega (arith, ih e)
-
-pub spot-missing : (xs : List ℕ) (i : ℕ) → spotIn 0 (movie xs) i ≡ Past → length (entries xs) ≤ i
-unfolding entries
-spot-missing xs i e = omega (arith, past-held (movie xs) 0 i e, length-after 0 (movie xs) (startIn MOOV 0 (boxes xs)))

@@ -29,7 +29,7 @@ use Rattle.movie.proofs.Counting.{length-of, length-after}
 
 module _ (t : ℕ) (x : Box) (l : List Box) (p n : ℕ) where
   -- the entry is past it
-  pub after-past : held (x .code) (x .body) ≤ n → drop n (entriesAfter t (x ∷ l) p) ≡ drop (n - held (x .code) (x .body)) (entriesAfter (t + meant TRAK (x .code)) l (p + size x))
+  after-past : held (x .code) (x .body) ≤ n → drop n (entriesAfter t (x ∷ l) p) ≡ drop (n - held (x .code) (x .body)) (entriesAfter (t + meant TRAK (x .code)) l (p + size x))
   unfolding entriesAfter held ifEq
   after-past h = go (eqb (x .code) TRAK) refl h
     where
@@ -47,7 +47,7 @@ module _ (t : ℕ) (x : Box) (l : List Box) (p n : ℕ) where
           rw (← o, z, m)
 
   -- it is in it
-  pub after-in : n < held (x .code) (x .body) → (x .code ≡ TRAK) × (n < count ANY (boxes (listIn (x .body)))) × (drop n (entriesAfter t (x ∷ l) p) ≡ drop n (entriesOf (t + 1) (x .body) (p + x .head)) ++ entriesAfter (t + 1) l (p + size x))
+  after-in : n < held (x .code) (x .body) → (x .code ≡ TRAK) × (n < count ANY (boxes (listIn (x .body)))) × (drop n (entriesAfter t (x ∷ l) p) ≡ drop n (entriesOf (t + 1) (x .body) (p + x .head)) ++ entriesAfter (t + 1) l (p + size x))
   unfolding entriesAfter held ifEq
   after-in h = go (eqb (x .code) TRAK) refl h
     where

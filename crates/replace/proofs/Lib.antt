@@ -5,7 +5,3 @@ pub mod Settling
 pub mod Taking
 pub mod Written
 pub mod Answering
-pub mod Entering
-pub mod Listing
-pub mod Aiming
-pub mod Replacing

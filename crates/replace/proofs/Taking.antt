@@ -49,30 +49,22 @@ module _ (xs : List ℕ) (i : ℕ) where
 
 -- ---- a record that meets its rule
 
--- its length, and the kinds that have one
-record-kinds : (kind most : ℕ) (new : List ℕ) → recordRule kind most new ≡ 1 → (3 ≤ kind) × (kind ≤ 5) × (15 ≤ length new) × (length new ≤ 31)
+-- is short, and its kind is editable
+pub record-short : (kind most : ℕ) (new : List ℕ) → recordRule kind most new ≡ 1 → (3 ≤ kind) × (length new ≤ 31)
 unfolding recordRule damrRule d263Rule
-record-kinds kind most new e =
-    ⊎-elim (λ u. let n = damr (u .1) in (omega (arith, u .0), omega (arith, u .0), omega (arith, n), omega (arith, n)))
+record-short kind most new e =
+    ⊎-elim (λ u. (omega (arith, u .0), damr (u .1)))
     (λ u.
-    ⊎-elim (λ x. let n = damr (x .1) in (omega (arith, x .0), omega (arith, x .0), omega (arith, n), omega (arith, n)))
-    (λ x. let y = eq-met _ _ _ (x .1) in let n = d263 (y .1) in (omega (arith, y .0), omega (arith, y .0), n .0, n .1))
+    ⊎-elim (λ x. (omega (arith, x .0), damr (x .1)))
+    (λ x. let y = eq-met _ _ _ (x .1) in (omega (arith, y .0), d263 (y .1)))
     (eq-ways _ _ _ _ _ (u .1)))
     (eq-ways _ _ _ _ _ e)
   where
-    damr : damrRule kind most new ≡ 1 → length new ≡ 17
-    damr q = eq-met _ _ _ (eq-met _ _ _ q .1) .0
+    damr : damrRule kind most new ≡ 1 → length new ≤ 31
+    damr q = omega (arith, eq-met _ _ _ (eq-met _ _ _ q .1) .0)
 
-    d263 : d263Rule new ≡ 1 → (15 ≤ length new) × (length new ≤ 31)
-    d263 q =
-        ⊎-elim (λ u. (omega (arith, u .0), omega (arith, u .0))) (λ u. let z = eq-met _ _ _ (u .1) in (omega (arith, z .0), omega (arith, z .0)))
-        (eq-ways _ _ _ _ _ (eq-met _ _ _ q .1))
-
-pub record-short : (kind most : ℕ) (new : List ℕ) → recordRule kind most new ≡ 1 → (3 ≤ kind) × (length new ≤ 31)
-record-short kind most new e = let k = record-kinds kind most new e in (k .0, k .3)
-
-pub record-long : (kind most : ℕ) (new : List ℕ) → recordRule kind most new ≡ 1 → (kind ≤ 5) × (15 ≤ length new)
-record-long kind most new e = let k = record-kinds kind most new e in (k .1, k .2)
+    d263 : d263Rule new ≡ 1 → length new ≤ 31
+    d263 q = ⊎-elim (λ u. omega (arith, u .0)) (λ u. omega (arith, eq-met _ _ _ (u .1) .0)) (eq-ways _ _ _ _ _ (eq-met _ _ _ q .1))
 
 -- so there is such an entry
 pub record-first : (xs : List ℕ) (i most kind : ℕ) (new : List ℕ) → kind ≡ kindAt xs i → recordRule kind most new ≡ 1 → 1 ≤ i
