@@ -1,0 +1,22 @@
+// Makes the calls of tests/calls.py, and writes what each answers and leaves; the answers that are right stand in stdout.
+mod call;
+mod feed;
+mod room;
+
+fn main() {
+    feed::run(b"pack01");
+    feed::run(b"pack02");
+    feed::run(b"pack03");
+    feed::run(b"pack04");
+    feed::run(b"pack05");
+    feed::run(b"pack06");
+    feed::run(b"pack07");
+    feed::run(b"pack08");
+    feed::run(b"pack09");
+    feed::run(b"pack10");
+    feed::run(b"pack11");
+    feed::run(b"pack12");
+    feed::run(b"pack13");
+    feed::run(b"pack14");
+    feed::run(b"pack15");
+}

@@ -1,0 +1,67 @@
+// What is written of an answer, and of a room after it.
+use verdict::Answer;
+ghost use Prim.Native.Nat.{_<_};
+
+fn text(words: &[u8], n: u64) {
+    io::write_all(1, words);
+    io::print_decimal(1, n);
+}
+
+pub fn say(answer: Answer) {
+    match answer {
+        Answer::Done(n) => {
+            text(b": done ", n as u64);
+        }
+        Answer::Refused(n, p) => {
+            text(b": ", n as u64);
+            text(b" at ", p as u64);
+        }
+    }
+}
+
+// A running sum with one number more.
+fn mix(sum: u64, n: u64) -> u64
+    requires { ⌜ sum < 2147483648 ⌝ }
+    ensures { λ r. ⌜ r < 2147483648 ⌝ }
+{
+    (sum * 31 + n % 2147483648) % 2147483648
+}
+
+fn byte(x: u8) -> u64 {
+    x as u64
+}
+
+fn number(x: u32) -> u64 {
+    x as u64
+}
+
+// All bytes of a room in one number.
+pub fn sum_bytes(room: &[u8]) {
+    let mut sum = 7;
+    let mut at = 0;
+    while at < room.len() {
+        sum = mix(sum, byte(room[at]));
+        at = at + 1;
+    }
+    text(b" sum ", sum);
+}
+
+// Every number of a room.
+pub fn say_all(room: &[u64]) {
+    let mut at = 0;
+    while at < room.len() {
+        text(b" ", room[at]);
+        at = at + 1;
+    }
+}
+
+// All numbers of a list in one.
+pub fn sum_list(list: &[u32]) {
+    let mut sum = 7;
+    let mut at = 0;
+    while at < list.len() {
+        sum = mix(sum, number(list[at]));
+        at = at + 1;
+    }
+    text(b" sum ", sum);
+}
