@@ -40,7 +40,7 @@ module _ {xs : List ℕ} {c n : ℕ} {b : BoxAt} (v : Bytes xs) (s : Cut xs c n 
   length-before = sym (ap length (s .before)) ∙ length-take-le (b .at) xs (omega (arith, s .inside))
 
   -- the boxes before it end where it starts
-  total-before : total (s .p) ≡ b .at
+  pub total-before : total (s .p) ≡ b .at
   total-before = sym (length-write (good-front (s .p) (boxAt xs b ∷ s .q) (rw (s .list) at (parts xs v .good)))) ∙ length-before
 
   pub length-box : length (header (boxAt xs b) ++ payload xs b) ≡ b .size

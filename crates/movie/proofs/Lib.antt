@@ -5,3 +5,4 @@ pub mod Counting
 pub mod Spotting
 pub mod Naming
 pub mod Asking
+pub mod Spots

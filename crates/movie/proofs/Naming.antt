@@ -55,7 +55,7 @@ next-is l i {a} {m} e = e ∙ ap (λ (k : List _). a ∷ k) (sym (ap (drop 1) e)
 
 module _ (xs : List ℕ) (v : Bytes xs) {i t n : ℕ} (s : InTrack (find MOOV (boxes xs)) i t n) where
   module _ {b : BoxAt} (c : Cut (listIn (track xs t)) ANY n b) where
-    cut-is : drop i (entries xs) ≡ record { track = t + 1; place = listStart xs t + b .at; bytes = header (boxAt (listIn (track xs t)) b) ++ payload (listIn (track xs t)) b } ∷ drop (i + 1) (entries xs)
+    pub cut-is : drop i (entries xs) ≡ record { track = t + 1; place = listStart xs t + b .at; bytes = header (boxAt (listIn (track xs t)) b) ++ payload (listIn (track xs t)) b } ∷ drop (i + 1) (entries xs)
     unfolding entries entriesOf listIn listStart track
     cut-is =
         let p = startIn MOOV 0 (boxes xs) in

@@ -42,8 +42,7 @@ module _ (t : ℕ) (x : Box) (l : List Box) (p n : ℕ) where
           rw (← o) (ap (λ (j : ℕ). drop j (entriesOf (t + 1) (x .body) (p + x .head) ++ entriesAfter (t + 1) l (p + size x))) m ∙ drop-past (entriesOf (t + 1) (x .body) (p + x .head)) (entriesAfter (t + 1) l (p + size x)) k (n - k) (length-of (t + 1) (x .body) (p + x .head)))
       go false e h =
           let o = meant-no TRAK (x .code) (λ z. omega arith) (eqb-false (x .code) TRAK e) in
-          let z : t + 0 ≡ t = omega arith in
-          let m : n - 0 ≡ n = omega arith in
+          let z : t + 0 ≡ t = omega arith in let m : n - 0 ≡ n = omega arith in
           rw (← o, z, m)
 
   -- it is in it

@@ -15,7 +15,7 @@ ghost use Rattle.boxes.specs.Seek.{meant};
 ghost use Rattle.wire.specs.Codes.{TRAK};
 ghost use Rattle.movie.specs.Movie.{track as trackOf};
 ghost use Rattle.movie.specs.Entries.{entries as entriesIn, entriesStart};
-ghost use Rattle.movie.specs.Named.{listIn, held as heldBy, heldIn, listStart, SpotAs, PlacedAs, NamedAs};
+ghost use Rattle.movie.specs.Named.{listIn, held as heldBy, heldIn, listStart, SpotAs, PlacedAs, NamedAs, spotIn};
 
 // What stands before the entries of an `stsd`.
 pub const FRONT: usize = 8;
@@ -92,8 +92,8 @@ fn one_track(code: usize) -> usize
 }
 
 // In which track of a `moov` the entry i is, and its number there.
-fn find_spot(moov: &[u8], i: usize) -> Spot
-    ensures { λ r. ⌜ SpotAs (now (moov .entry)) i r ⌝ }
+pub fn find_spot(moov: &[u8], i: usize) -> Spot
+    ensures { λ r. ⌜ (SpotAs (now (moov .entry)) i r) × (r ≡ spotIn 0 (boxes (now (moov .entry))) i) ⌝ }
 {
     let mut w = Walk { at: 0 };
     let mut t = 0;

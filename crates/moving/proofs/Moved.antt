@@ -1,15 +1,14 @@
 -- What code writes is the file with its `moov` second, and every chunk offset as far into its payload as it was. Assumes nothing.
-use Prim.Native.Nat.{ℕ, _+_, _≤_, _<_}
+use Prim.Native.Nat.{ℕ, _+_}
 use native.Mathlib.Omega.{arith}
-use mathlib.Core.Path.{_≡_, refl, sym, ap, subst, _∙_}
-use mathlib.Core.Bool.{Bool, true}
+use mathlib.Core.Path.{_≡_, refl, sym, ap, _∙_}
+use mathlib.Core.Bool.{true}
 use mathlib.Core.List.{List, [], _∷_, _++_, append-nil}
 use lib.ListN.{length}
 use Rattle.wire.specs.Numbers.{Bytes}
-use Rattle.wire.specs.Codes.{FTYP, MOOV, MDAT}
 use Rattle.boxes.specs.declared.walk.BoxAt.{BoxAt}
 use Rattle.boxes.specs.Box.{Box, size, write}
-use Rattle.boxes.specs.Boxes.{boxes, after, total}
+use Rattle.boxes.specs.Boxes.{boxes, total}
 use Rattle.boxes.specs.Containers.{FILE, DEPTH}
 use Rattle.boxes.specs.Rewrite.{editIn}
 use Rattle.boxes.specs.Walk.{boxAt}
@@ -22,9 +21,8 @@ use Rattle.media.specs.Payloads.{mdats, inAt}
 use Rattle.media.specs.Relocate.{relocate}
 use Rattle.media.proofs.Payloads.{mdats-miss}
 use Rattle.media.proofs.Amounts.{Fronts, moved-front}
-use Rattle.verdict.specs.Rule.{allList}
 use Rattle.judge.specs.Acceptance.{Meets}
-use Rattle.settle.specs.Settle.{offsets, settled}
+use Rattle.settle.specs.Settle.{offsets}
 use Rattle.settle.proofs.Each.{all-each, each-all}
 use Rattle.settle.proofs.Settled.{settled-list}
 use Rattle.settle.proofs.Accepted.{file-tiled}

@@ -13,7 +13,7 @@ use Rattle.boxes.specs.Box.{Box, write}
 use Rattle.boxes.specs.Seek.{count}
 use Rattle.boxes.proofs.Reading.{All, length-cons, write-append}
 use Rattle.boxes.proofs.Reading.All.{none, some}
-use Rattle.settle.proofs.Each.{count-hit, count-miss}
+use Rattle.settle.proofs.One.{count-hit, count-miss}
 use Rattle.moving.specs.Moving.{just, others, moovSecond}
 
 -- ---- a list without a `moov`

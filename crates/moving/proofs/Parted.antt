@@ -1,29 +1,24 @@
 -- A file that meets the rules, as code parts it at its `moov`. Assumes nothing.
-use Prim.Native.Nat.{ℕ, zero, suc, _+_, _-_, _≤_, _<_}
+use Prim.Native.Nat.{ℕ, _+_, _-_, _≤_}
 use native.Mathlib.Omega.{arith}
 use mathlib.Core.Path.{_≡_, refl, sym, ap, _∙_}
-use mathlib.Core.Bool.{Bool, true, false}
-use mathlib.Core.List.{List, [], _∷_, _++_, append-nil}
-use lib.ListN.{length, take, drop, length-take, length-drop}
+use mathlib.Core.List.{List, [], _∷_, _++_}
+use lib.ListN.{length, length-take, length-drop}
 use lib.Seq.{length-take-le}
-use Rattle.wire.specs.Tests.{pick, ifEq}
 use Rattle.wire.specs.Numbers.{Bytes}
 use Rattle.wire.specs.Codes.{FTYP, MOOV}
-use Rattle.wire.proofs.Clauses.{eq-is}
 use Rattle.wire.proofs.Tests.{eq-nay}
 use Rattle.boxes.specs.declared.walk.BoxAt.{BoxAt}
-use Rattle.boxes.specs.Box.{Box, size, write}
-use Rattle.boxes.specs.Boxes.{boxes, after, total}
-use Rattle.boxes.specs.Containers.{FILE}
+use Rattle.boxes.specs.Box.{Box, size}
+use Rattle.boxes.specs.Boxes.{boxes, total}
 use Rattle.boxes.specs.Walk.{payload, boxAt}
 use Rattle.boxes.specs.Seek.{ANY, meant, count, placeBy, placeIn, Cut}
 use Rattle.boxes.proofs.Whole.{Good}
 use Rattle.boxes.proofs.Reading.{All, parts}
-use Rattle.boxes.proofs.Reading.All.{none, some}
 use Rattle.boxes.proofs.Seeking.{meant-any, meant-is, count-append}
 use Rattle.boxes.proofs.Placing.{length-write}
 use Rattle.judge.specs.Acceptance.{Meets}
-use Rattle.settle.proofs.Accepted.{file-tiled, one-moov, ftyp-first}
+use Rattle.settle.proofs.Accepted.{one-moov, ftyp-first}
 use Rattle.moving.specs.Moving.{moovSecond}
 use Rattle.moving.proofs.Order.{second-is, all-left}
 

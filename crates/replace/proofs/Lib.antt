@@ -1,0 +1,7 @@
+pub mod Nth
+pub mod Kinship
+pub mod Changing
+pub mod Settling
+pub mod Taking
+pub mod Written
+pub mod Answering

@@ -64,18 +64,24 @@ replaceOf xs i new = settled xs (replaced xs i new)
 unfoldable pub takes : ℕ → List ℕ → Bool
 takes kind new = every (isLt 0 (recordCode kind) ∷ ifLt (length new) HEAD true (isEq (word 4 new 4) (recordCode kind)) ∷ [])
 
+-- 24, 25
+unfoldable pub roomAnswer : List ℕ → List ℕ → Answer
+roomAnswer new out = ifLt LONGEST (length new) (Refused 24 0) (inRoom new out)
+
 -- 23, 24, 25
 unfoldable pub settledAnswer : List ℕ → List ℕ → List ℕ → Answer
-settledAnswer xs new out =
-    pick (plain xs) (ifLt LONGEST (length new) (Refused 24 0) (inRoom new out)) (Refused 23 0)
+settledAnswer xs new out = pick (plain xs) (roomAnswer new out) (Refused 23 0)
 
--- 20, 21, 23, 24, 25
-unfoldable pub replaceAnswer : List ℕ → ℕ → List ℕ → List ℕ → Answer
-replaceAnswer xs i new out =
-    whenAccepted (judged xs)
-    (pick (takes (kindAt xs i) new)
+-- 20, 21, and then those
+unfoldable pub takenAnswer : List ℕ → ℕ → List ℕ → List ℕ → Answer
+takenAnswer xs i new out =
+    pick (takes (kindAt xs i) new)
     (ifEq (recordRule (kindAt xs i) MOST new) 1 (settledAnswer xs (replaceOf xs i new) out) (Refused 21 0))
-    (Refused 20 0))
+    (Refused 20 0)
+
+-- "20, 21, 23, 24, 25; all after 1 to 10"
+unfoldable pub replaceAnswer : List ℕ → ℕ → List ℕ → List ℕ → Answer
+replaceAnswer xs i new out = whenAccepted (judged xs) (takenAnswer xs i new out)
 
 abbrev pub replaceOut : List ℕ → ℕ → List ℕ → List ℕ → List ℕ
 replaceOut xs i new out = outBy (replaceAnswer xs i new out) (replaceOf xs i new) out

@@ -1,7 +1,7 @@
 -- Functions that agree wherever a payload of the file is agree on every chunk offset of it, and of what has the same tables. Assumes nothing.
 use Prim.Native.Nat.{ℕ, zero, suc}
 use mathlib.Core.Path.{_≡_, refl, sym, ap, subst, _∙_}
-use mathlib.Core.Bool.{Bool, true, false}
+use mathlib.Core.Bool.{Bool, true}
 use mathlib.Core.List.{List}
 use Rattle.wire.specs.Codes.{STBL, STCO}
 use Rattle.wire.proofs.Tests.{eq-yea, eq-nay}
@@ -18,7 +18,8 @@ use Rattle.shape.specs.Rules.{threeRule}
 use Rattle.tracks.specs.Six.{sixRule}
 use Rattle.tracks.specs.Seven.{sevenRule}
 use Rattle.tracks.specs.Eight.{eightRule}
-use Rattle.settle.proofs.Each.{all-with, all-four, each-all, rule-leaves, rule-inside, code-or}
+use Rattle.settle.proofs.Each.{all-with, all-four, each-all, rule-leaves, rule-inside}
+use Rattle.settle.proofs.One.{code-or}
 use Rattle.settle.proofs.Offsets.{agreeOn, agreeIn, agree}
 use Rattle.settle.proofs.Placed.{Chunked, all-agree}
 

@@ -1,6 +1,7 @@
 pub mod Agreeing
 pub mod Offsets
 pub mod Each
+pub mod One
 pub mod Placed
 pub mod Agreement
 pub mod Settled

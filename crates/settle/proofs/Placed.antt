@@ -1,8 +1,8 @@
 -- In a file that meets the rules every chunk offset lies in a payload, so functions that agree there agree on all. Assumes nothing.
-use Prim.Native.Nat.{ℕ, zero, suc, _+_, _≤_, _<_}
+use Prim.Native.Nat.{ℕ, suc, _<_}
 use native.Mathlib.Omega.{arith}
 use mathlib.Core.Path.{_≡_, refl, sym, ap, _∙_}
-use mathlib.Core.Bool.{Bool, true, false}
+use mathlib.Core.Bool.{Bool, true}
 use mathlib.Core.List.{List}
 use lib.ListN.{length, getD}
 use Rattle.wire.specs.Tests.{pick, ifEq}
@@ -15,7 +15,7 @@ use Rattle.boxes.specs.Boxes.{boxes}
 use Rattle.boxes.specs.Containers.{kindIn, parent}
 use Rattle.boxes.specs.Seek.{count, find}
 use Rattle.boxes.proofs.Reading.{All}
-use Rattle.tables.specs.Tables.{Table, tableForm}
+use Rattle.tables.specs.Tables.{Table}
 use Rattle.tables.specs.Tables as table
 use Rattle.tables.specs.Chunks.{offsetAt, extentAt}
 use Rattle.tables.proofs.Tables.{form-is}
@@ -24,13 +24,14 @@ use Rattle.media.specs.Payloads.{inAt}
 use Rattle.media.specs.Rules.{chunkIn, eight as lie}
 use Rattle.media.proofs.Eight.{eight-at}
 use Rattle.verdict.specs.Rule.{allIn}
-use Rattle.shape.specs.Shape.{needed, shape}
+use Rattle.shape.specs.Shape.{needed}
 use Rattle.shape.specs.Rules.{threeRule}
 use Rattle.shape.proofs.Shape.{shape-one}
 use Rattle.tracks.specs.Six.{tableOf, tableIn, sixRule, sixHolds}
 use Rattle.tracks.specs.Seven.{sevenIn, sevenHolds, sevenRule}
 use Rattle.tracks.specs.Eight.{eightIn, eightHolds, eightRule}
-use Rattle.settle.proofs.Each.{all-with, rule-node, rule-leaves, rule-inside, each-found, found-each}
+use Rattle.settle.proofs.Each.{all-with, rule-node, rule-leaves}
+use Rattle.settle.proofs.One.{each-found, found-each}
 use Rattle.settle.proofs.Offsets.{agreeOn}
 
 -- rules 3, 6, 7 and 8 hold of a part of a file with the boxes l

@@ -1,3 +1,4 @@
+-- The invariant: the slots of the first i entries are written.
 use borrow.Author.Needs.{needs}
 use Prim.Native.Nat.{_+_, _-_, _*_, _≤_}
 use Rattle.movie.specs.Entries.{entries}

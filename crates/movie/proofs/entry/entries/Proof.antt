@@ -1,3 +1,4 @@
+-- The invariant: n entries before the walk's place.
 use borrow.Author.Needs.{needs}
 use Prim.Native.Nat.{_-_}
 use Rattle.boxes.proofs.Walking.{ran, ended, broke}

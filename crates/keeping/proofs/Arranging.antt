@@ -1,0 +1,85 @@
+-- Laws of a file whose boxes were put in an order. Assumes nothing.
+use Prim.Native.Nat.{ℕ, suc, _<_}
+use native.Mathlib.Omega.{arith}
+use mathlib.Core.Path.{_≡_, refl, sym, ap, _∙_}
+use mathlib.Core.Bool.{true, false}
+use mathlib.Core.List.{List, [], _∷_, map, append-nil}
+use lib.ListN.{length}
+use Rattle.wire.specs.Numbers.{Bytes}
+use Rattle.wire.proofs.Tests.{both}
+use Rattle.boxes.specs.Box.{Box, write}
+use Rattle.boxes.specs.Boxes.{whole, boxes, after}
+use Rattle.boxes.specs.Rewrite.{Bodies, Leaves, over, editBox, editIn}
+use Rattle.boxes.specs.Kin.{All2}
+use Rattle.boxes.specs.Kin.All2.{nil, cons}
+use Rattle.boxes.proofs.Whole.{Good, short-not}
+use Rattle.boxes.proofs.Reading.{All, parts, lengths, boxes-write, after-write}
+use Rattle.boxes.proofs.Rewriting.{open-over, boxes-over, length-over, bytes-write}
+use Rattle.boxes.proofs.Editing.{box-length}
+use Rattle.media.specs.Relocate.{Alike}
+use Rattle.verdict.specs.Rule.{Rule, allIn}
+use Rattle.keeping.proofs.Arranges.{Arranges}
+
+-- bodies of the same length leave the layout
+alike-over : (f : Bodies) → ((c : ℕ) (b : List ℕ) → length (f c b) ≡ length b) → (l : List Box) → All2 Alike l (map (over f) l)
+alike-over f h [] = nil
+alike-over f h (x ∷ l) = cons (record { head = refl; code = refl; long = sym (h (x .code) (x .body)) }) (alike-over f h l)
+
+-- ---- a file that boxes tile, in the order A
+
+module _ {A : List Box → List Box} (a : Arranges A) (ys : List ℕ) (w : Bytes ys) (e : after ys ≡ []) (n : length ys < 4294967296) where
+  abbrev pub arrange : List ℕ
+  arrange = write (A (boxes ys))
+
+  good : All Good (A (boxes ys))
+  good = a .each (parts ys w .good)
+
+  -- as long as it was
+  pub arranged-length : length (write (A (boxes ys))) ≡ length ys
+  arranged-length = let z = ap length e in omega (arith, a .size (boxes ys), lengths ys)
+
+  small : length (write (A (boxes ys))) < 4294967296
+  small = omega (arith, arranged-length)
+
+  none : whole [] ≡ false
+  none = short-not [] (omega arith)
+
+  -- its boxes
+  pub arranged-boxes : boxes (write (A (boxes ys))) ≡ A (boxes ys)
+  arranged-boxes = ap boxes (sym (append-nil (write (A (boxes ys))))) ∙ boxes-write [] none good small
+
+  -- boxes tile it
+  pub arranged-after : after (write (A (boxes ys))) ≡ []
+  arranged-after = ap after (sym (append-nil (write (A (boxes ys))))) ∙ after-write [] none good small
+
+  -- it holds bytes
+  pub arranged-bytes : Bytes (write (A (boxes ys)))
+  arranged-bytes = bytes-write (a .each (parts ys w .filled))
+
+  -- a rule that is kept of the file itself is kept of all
+  pub arranged-rule : (r : Rule) (d k : ℕ) → (r .node k ys ≡ true → r .node k (write (A (boxes ys))) ≡ true) → allIn r (suc d) k ys ≡ true → allIn r (suc d) k (write (A (boxes ys))) ≡ true
+  unfolding allIn
+  arranged-rule r d k h q =
+      let u = both (r .node k ys) _ q in
+      rw (h (u .0), arranged-boxes, arranged-after, a .all) (rw e at (u .1))
+
+  -- ---- opaque boxes by g, before or after
+
+  module _ (g : Leaves) (keeps : (k c : ℕ) (b : List ℕ) → length (g k c b) ≡ length b) (d k : ℕ) where
+    abbrev bodies : Bodies
+    bodies = editBox g (editIn g d) k
+
+    edit-boxes : boxes (editIn g (suc d) k ys) ≡ map (over bodies) (boxes ys)
+    unfolding editIn
+    edit-boxes = boxes-over bodies ys w (rw (length-over bodies (box-length g keeps d k) ys) n)
+
+    -- to rewrite bodies and then to arrange is to arrange and then to rewrite
+    pub arranged-edit : editIn g (suc d) k (write (A (boxes ys))) ≡ write (A (boxes (editIn g (suc d) k ys)))
+    unfolding editIn
+    arranged-edit =
+        open-over bodies (write (A (boxes ys)))
+        ∙ rw (arranged-boxes, arranged-after, append-nil) (ap write (sym (a .maps bodies (boxes ys)) ∙ ap A (sym edit-boxes)))
+
+    -- the layout is the same
+    pub arranged-alike : All2 Alike (A (boxes ys)) (A (boxes (editIn g (suc d) k ys)))
+    arranged-alike = rw (edit-boxes, a .maps bodies (boxes ys)) (alike-over bodies (box-length g keeps d k) (A (boxes ys)))

@@ -1,0 +1,71 @@
+-- A rule that holds of a file holds of the boxes that an edit relates. Assumes nothing.
+use Prim.Native.Nat.{ℕ, zero, suc, _≤_}
+use native.Mathlib.Omega.{arith}
+use mathlib.Core.Path.{_≡_, refl}
+use mathlib.Core.Bool.{Bool, true, false}
+use mathlib.Core.List.{List, [], _∷_}
+use lib.Dec.{eqb}
+use lib.ListN.{length}
+use Rattle.wire.specs.Tests.{pick, ifEq}
+use Rattle.wire.specs.Clauses.{isLe}
+use Rattle.wire.proofs.Clauses.{is-le}
+use Rattle.boxes.specs.Box.{Box, write}
+use Rattle.boxes.specs.Boxes.{boxes}
+use Rattle.boxes.specs.Containers.{kindIn}
+use Rattle.boxes.specs.Kin.{All2, Leaf, Kin}
+use Rattle.boxes.specs.Kin.All2.{nil, cons}
+use Rattle.boxes.proofs.Reading.{lengths, length-cons}
+use Rattle.boxes.proofs.Reading.{All}
+use Rattle.boxes.proofs.Reading.All.{none, some}
+use Rattle.settle.proofs.Each.{rule-leaves, rule-inside}
+use Rattle.verdict.specs.Rule.{Rule, allList, allBox, allIn}
+
+-- ---- with the rule known of every opaque box of the first file
+
+-- G, and the rule of the first body
+abbrev pub With : Rule → Leaf → Leaf
+With r G k c b b′ = G k c b b′ × (r .leaf k c b ≡ true)
+
+list-with : {R S : Box → Box → Type 0} {P Q : Box → Type 0} → ((x y : Box) → R x y → P x → Q x → S x y) → {l m : List Box} → All2 R l m → All P l → All Q l → All2 S l m
+list-with h nil none none = nil
+list-with h (cons {x} {y} r a) (some p b) (some q c) = cons (h x y r p q) (list-with h a b c)
+
+module _ (r : Rule) (G : Leaf) where
+  -- an edit of a file of which a rule holds
+  pub kin-with : (d k : ℕ) (xs ys : List ℕ) → Kin G d k xs ys → allIn r d k xs ≡ true → Kin (With r G) d k xs ys
+  kin-with zero k xs ys e q = e
+  kin-with (suc d) k xs ys (a, e) q = (
+    list-with (λ x y s f g. record {
+      head = s .head;
+      code = s .code;
+      leaf = λ z. (s .leaf z, f z);
+      node = λ z. kin-with d (kindIn k (x .code)) (x .body) (y .body) (s .node z) (g z);
+    }) a (rule-leaves r d k xs q) (rule-inside r d k xs q),
+    e,
+  )
+
+-- ---- no box is longer than the file
+
+-- the rule that no opaque box is longer than n
+abbrev pub short : ℕ → Rule
+short n = record { leaf = λ k c b. isLe (length b) n; node = λ k xs. true; end = λ xs. true }
+
+module _ (n : ℕ) where
+  short-list : (f : Box → Bool) → ((x : Box) → length (x .body) ≤ n → f x ≡ true) → (l : List Box) → length (write l) ≤ n → allList f true l ≡ true
+  unfolding allList
+  short-list f h [] k = refl
+  short-list f h (x ∷ l) k = let e = length-cons x l in rw (h x (omega arith)) (short-list f h l (omega arith))
+
+  short-box : (d k : ℕ) → ((j : ℕ) (ys : List ℕ) → length ys ≤ n → allIn (short n) d j ys ≡ true) → (x : Box) → length (x .body) ≤ n → allBox (short n) (allIn (short n) d) k x ≡ true
+  unfolding allBox ifEq
+  short-box d k ih x h = go (eqb (kindIn k (x .code)) 0)
+    where
+      go : (t : Bool) → pick t (isLe (length (x .body)) n) (allIn (short n) d (kindIn k (x .code)) (x .body)) ≡ true
+      go true = is-le _ _ h
+      go false = ih (kindIn k (x .code)) (x .body) h
+
+  -- it holds of a file of n bytes at most
+  pub short-all : (d k : ℕ) (xs : List ℕ) → length xs ≤ n → allIn (short n) d k xs ≡ true
+  unfolding allIn
+  short-all zero k xs h = refl
+  short-all (suc d) k xs h = short-list _ (short-box d k (λ j ys. short-all d j ys)) (boxes xs) (omega (arith, lengths xs))

@@ -1,0 +1,64 @@
+-- `moov` right after the first box is an order that no rule sees. Assumes nothing.
+use Prim.Native.Nat.{ℕ}
+use native.Mathlib.Omega.{arith}
+use mathlib.Core.Path.{_≡_, refl}
+use mathlib.Core.Bool.{Bool, true, false}
+use mathlib.Core.List.{List, [], _∷_}
+use lib.ListN.{length}
+use Rattle.wire.specs.Tests.{pick, ifEq}
+use Rattle.wire.specs.Codes.{MOOV, MDAT}
+use Rattle.boxes.specs.Box.{Box, write}
+use Rattle.boxes.specs.Seek.{count, nth, find}
+use Rattle.boxes.proofs.Reading.{length-cons}
+use Rattle.boxes.proofs.Seeking.{meant-no}
+use Rattle.media.specs.Payloads.{mdats}
+use Rattle.media.proofs.Payloads.{mdat-or, mdats-hit, mdats-miss}
+use Rattle.verdict.specs.Rule.{allList}
+use Rattle.shape.specs.Shape.{first}
+use Rattle.moving.specs.Moving.{moovSecond}
+use Rattle.keeping.proofs.Arranges.{Arranges}
+use Rattle.keeping.proofs.Sifting.{seconded, each-second}
+use Rattle.keeping.proofs.Mapping.{second-maps}
+
+-- ---- what the rules read
+
+pick-swap : (s t r : Bool) → pick s (pick t r false) false ≡ pick t (pick s r false) false
+pick-swap true t r = refl
+pick-swap false true r = refl
+pick-swap false false r = refl
+
+second-all : (f : Box → Bool) (t : Bool) (l : List Box) → allList f t (moovSecond l) ≡ allList f t l
+unfolding allList
+second-all f t = seconded (allList f t) (λ y l m e. rw e) (λ x y l h n. pick-swap (f x) (f y) (allList f t l))
+
+second-counts : (c : ℕ) (l : List Box) → count c (moovSecond l) ≡ count c l
+unfolding count
+second-counts c = seconded (count c) (λ y l m e. rw e) (λ x y l h n. omega arith)
+
+second-movie : (l : List Box) → find MOOV (moovSecond l) ≡ find MOOV l
+unfolding nth ifEq
+second-movie = seconded (find MOOV) (λ y l m e. rw e) (λ x y l h n. rw (← meant-no MOOV (y .code) (λ z. omega arith) n))
+
+second-size : (l : List Box) → length (write (moovSecond l)) ≡ length (write l)
+second-size =
+    seconded (λ l. length (write l)) (λ y l m e. omega (arith, length-cons y l, length-cons y m))
+    (λ x y l h n. omega (arith, length-cons x (y ∷ l), length-cons y l, length-cons y (x ∷ l), length-cons x l))
+
+second-payloads : (l : List Box) → mdats (moovSecond l) ≡ mdats l
+second-payloads =
+    seconded mdats
+    (λ y l m e. mdat-or y (λ c. rw (mdats-hit y c l, mdats-hit y c m, e)) (λ c. rw (mdats-miss y c l, mdats-miss y c m, e)))
+    (λ x y l h n.
+    let nx : x .code ≡ MDAT → ⊥ = λ z. omega arith in
+    mdat-or y
+    (λ c. rw (mdats-miss x nx (y ∷ l), mdats-hit y c l, mdats-hit y c (x ∷ l), mdats-miss x nx l))
+    (λ c. rw (mdats-miss x nx (y ∷ l), mdats-miss y c l, mdats-miss y c (x ∷ l), mdats-miss x nx l)))
+
+second-first : (l : List Box) → first (moovSecond l) ≡ first l
+unfolding first moovSecond
+second-first [] = refl
+second-first (x ∷ l) = refl
+
+-- the order of a move
+pub second : Arranges moovSecond
+second = record { each = each-second; size = second-size; payloads = second-payloads; counts = second-counts; first = second-first; movie = second-movie; all = second-all; maps = second-maps }

@@ -1,0 +1,1 @@
+// What every edit keeps of a file: laws and definitions, no code of its own.

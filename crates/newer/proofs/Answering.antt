@@ -1,0 +1,61 @@
+-- What the answer says at each step. Assumes nothing.
+use Prim.Native.Nat.{ℕ, _+_}
+use mathlib.Core.Path.{_≡_, refl, sym, ap, _∙_}
+use mathlib.Core.Bool.{Bool, true, false}
+use mathlib.Core.List.{List, [], _∷_}
+use lib.IntN.{ℤ}
+use Rattle.wire.specs.Tests.{pick}
+use Rattle.wire.specs.Clauses.{every}
+use Rattle.wire.proofs.Clauses.{fails, holds, done}
+use Rattle.clocks.specs.declared.Zone.{Zone}
+use Rattle.clocks.specs.declared.Zoned.{Zoned}
+use Rattle.clocks.specs.declared.Zoned.the-variants.{Seconds, NoZone}
+use Rattle.clocks.specs.declared.Order.{Order}
+use Rattle.clocks.specs.Clocks as clocks
+use Rattle.clocks.specs.Clocks.{zoneFine}
+use Rattle.clocks.specs.Zones.{compared}
+use Rattle.clocks.proofs.Signed.{zone-found, zone-missing}
+use Rattle.clocks.proofs.Whole.{compared-is}
+use Rattle.judge.specs.declared.Judgement.{Judgement}
+use Rattle.judge.specs.declared.Judgement.the-variants as judgement
+use Rattle.judge.specs.Judgement.{judged}
+use Rattle.newer.specs.declared.Outcome.{Outcome}
+use Rattle.newer.specs.declared.Outcome.the-variants.{Refused}
+use Rattle.newer.specs.Newer.{modified, orderOf, entryOf, zonedOf, whenAccepted, newestOf}
+
+-- the order that was found is that of the modification times
+pub order-entry : (xs ys : List ℕ) (i : ℕ) (y z : Zone) {m n : ℕ} {o p : Order} → m ≡ modified xs → n ≡ modified ys → o ≡ compared m y n z → o ≡ p
+    → entryOf p xs ys i ≡ entryOf (compared (modified xs) y (modified ys) z) xs ys i
+order-entry xs ys i y z e f g h = rw (← h, g, e, f)
+
+module _ (xs : List ℕ) (y : ℤ) (ys : List ℕ) (z : ℤ) (i : ℕ) where
+  pub zone-first : {w : Zoned} → w ≡ clocks.zonedOf y → w ≡ NoZone → Refused 22 0 ≡ zonedOf xs y ys z i
+  unfolding zonedOf
+  zone-first e h = let q : false ≡ every (zoneFine y ∷ zoneFine z ∷ []) = fails 0 _ (zone-missing y e h) in rw (← q)
+
+  pub zone-second : {w : Zoned} → w ≡ clocks.zonedOf z → w ≡ NoZone → Refused 22 0 ≡ zonedOf xs y ys z i
+  unfolding zonedOf
+  zone-second e h = let q : false ≡ every (zoneFine y ∷ zoneFine z ∷ []) = fails 1 _ (zone-missing z e h) in rw (← q)
+
+  pub zone-both : {v w : Zoned} {a b : Zone} {r : Outcome} → v ≡ clocks.zonedOf y → v ≡ Seconds a → w ≡ clocks.zonedOf z → w ≡ Seconds b
+      → r ≡ entryOf (compared (modified xs) a (modified ys) b) xs ys i → r ≡ zonedOf xs y ys z i
+  unfolding zonedOf orderOf
+  zone-both {a = a} {b = b} e h f k q =
+      let s = zone-found y e a h in
+      let t = zone-found z f b k in
+      let c : true ≡ every (zoneFine y ∷ zoneFine z ∷ []) = holds _ _ (s .0) (holds _ _ (t .0) done) in
+      q ∙ rw (← c, s .1, t .1, compared-is (modified xs) y (modified ys) z)
+
+  module _ {j : Judgement} (e : j ≡ judged xs) where
+    pub file-first : {n p : ℕ} → j ≡ judgement.Refused n p → Refused (256 + n) p ≡ newestOf xs y ys z i
+    unfolding newestOf whenAccepted
+    file-first h = rw (← e, h)
+
+    module _ (g : j ≡ judgement.Accepted) {k : Judgement} (f : k ≡ judged ys) where
+      pub file-second : {n p : ℕ} → k ≡ judgement.Refused n p → Refused (512 + n) p ≡ newestOf xs y ys z i
+      unfolding newestOf whenAccepted
+      file-second h = rw (← e, g, ← f, h)
+
+      pub file-both : k ≡ judgement.Accepted → {r : Outcome} → r ≡ zonedOf xs y ys z i → r ≡ newestOf xs y ys z i
+      unfolding newestOf whenAccepted
+      file-both h q = rw (← e, g, ← f, h) q

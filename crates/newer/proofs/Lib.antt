@@ -1,0 +1,4 @@
+pub mod Numbers
+pub mod Asking
+pub mod Answering
+pub mod Parts

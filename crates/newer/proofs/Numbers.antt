@@ -1,0 +1,37 @@
+-- A refusal's number is small. Assumes nothing.
+use Prim.Native.Nat.{ℕ, zero, suc, _+_, _≤_}
+use native.Mathlib.Omega.{arith}
+use mathlib.Core.Path.{_≡_, ap}
+use mathlib.Core.Bool.{Bool, true, false}
+use mathlib.Core.List.{List}
+use lib.Dec.{ltb}
+use lib.ListN.{length}
+use Rattle.wire.specs.Tests.{pick, ifLt}
+use Rattle.verdict.specs.declared.Verdict.{Verdict}
+use Rattle.verdict.specs.declared.Verdict.the-variants.{Fine, Bad}
+use Rattle.judge.specs.declared.Judgement.{Judgement}
+use Rattle.judge.specs.declared.Judgement.the-variants.{Accepted, Refused}
+use Rattle.judge.specs.Rules.{verdictOf}
+use Rattle.judge.specs.Judgement.{number, LONGEST, next, judgedFrom, judged}
+
+next-most : (m n : ℕ) (v : Verdict) (j : Judgement) → n ≤ m → number j ≤ m → number (next n v j) ≤ m
+unfolding next
+next-most m n Fine j h g = g
+next-most m n (Bad p) j h g = h
+
+from-most : (k n : ℕ) (xs : List ℕ) → number (judgedFrom k n xs) ≤ n + k
+unfolding judgedFrom
+from-most zero n xs = omega arith
+from-most (suc k) n xs = next-most (n + suc k) n (verdictOf n xs) (judgedFrom k (n + 1) xs) (omega arith) (omega (arith, from-most k (n + 1) xs))
+
+judged-most : (xs : List ℕ) → number (judged xs) ≤ 11
+unfolding judged ifLt
+judged-most xs = go (ltb (length xs) 8) (ltb LONGEST (length xs))
+  where
+    go : (s t : Bool) → number (pick s (Refused 1 0) (pick t (Refused 1 0) (judgedFrom 9 2 xs))) ≤ 11
+    go true t = omega arith
+    go false true = omega arith
+    go false false = from-most 9 2 xs
+
+pub refused-small : (xs : List ℕ) {j : Judgement} → j ≡ judged xs → (n p : ℕ) → j ≡ Refused n p → n ≤ 11
+refused-small xs {j} e n p q = let h : number j ≤ 11 = rw e (judged-most xs) in let m : number j ≡ n = ap number q in omega arith
