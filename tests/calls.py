@@ -119,7 +119,7 @@ def replace(label, file, entry, what, record, room):
 def newest(label, first, y, second, z, entry):
     line = line_newest(lambda: answers.newest(first, y, second, z, entry))
     numbers = (MINUTES.index(y), MINUTES.index(z), entry)
-    return "newest", "newest %s %d %d entry %d" % (label, y, z, entry), 0, numbers, second, line
+    return "newest", "newest %s %d %d entry %d" % (label, y, z, entry), len(first), numbers, b"", line
 
 
 # ---- Files. A chunk's offset is counted from the payload of its own mdat.
@@ -676,6 +676,8 @@ def dated(time, *tracks_given):
 
 
 def newest_groups():
+    """The two files stand one after the other, and the room says where the first ends."""
+
     def two(time):
         return dated(time, files.trak(1), files.visual_track(avc1(), visual("s263", d263()), number=2))
 
@@ -689,8 +691,8 @@ def newest_groups():
         calls = [newest(label, one_file, y, other_file, z, n) for y, z in zones for n in (1, 2)]
         calls += [newest(label, one_file, 0, other_file, 0, n) for n in (0, 3, 4, *HUGE)]
         calls += [newest(label, one_file, 841, other_file, 0, 0), newest(label, one_file, 0, other_file, 60, 3)]
-        yield one_file, calls
-        yield other_file, [newest("back-" + label, other_file, y, one_file, z, n) for y, z in zones[:10] for n in (1, 3)]
+        yield one_file + other_file, calls
+        yield other_file + one_file, [newest("back-" + label, other_file, y, one_file, z, n) for y, z in zones[:10] for n in (1, 3)]
     good = two(10**9)
     bad = {}
     for name, parts, _ in files.cases():
@@ -698,11 +700,11 @@ def newest_groups():
         if name[:2] != "0-" and len(file) < 1500:
             bad.setdefault(name.split("-")[0], (name, file))
     for name, file in bad.values():
-        yield good, [newest("good-and-" + name, good, y, file, 0, n) for y in (0, 841) for n in (0, 1)]
-        yield file, [newest(name + "-and-good", file, y, good, 0, n) for y in (0, 841) for n in (0, 1)]
+        yield good + file, [newest("good-and-" + name, good, y, file, 0, n) for y in (0, 841) for n in (0, 1)]
+        yield file + good, [newest(name + "-and-good", file, y, good, 0, n) for y in (0, 841) for n in (0, 1)]
     values = list(bad.values())
     for (a, first), (b, second) in zip(values, values[1:] + values[:1]):
-        yield first, [newest("%s-and-%s" % (a, b), first, 0, second, 841, 0)]
+        yield first + second, [newest("%s-and-%s" % (a, b), first, 0, second, 841, 0)]
 
 
 # ---- Single files

@@ -20,6 +20,10 @@ const SHIFT: usize = 7;
 
 const MOVE: usize = 8;
 
+const REPLACE: usize = 10;
+
+const NEWEST: usize = 11;
+
 fn asked(call: &[u8]) -> usize {
     number::word32(call, 1)
 }
@@ -79,6 +83,9 @@ fn answer_bytes(kind: usize, file: &[u8], call: &[u8], out: &mut [u8]) -> Answer
     if kind == MOVE {
         return moving::move_moov(file, out);
     }
+    if kind == REPLACE {
+        return replace::replace(file, wide(call, 5), more(call), out);
+    }
     Answer::Refused(0, 0)
 }
 
@@ -100,9 +107,22 @@ fn make_list(file: &[u8], call: &[u8], all: &mut [u32]) {
     room::sum_list(all);
 }
 
+// Of two files that stand one after the other.
+fn make_newest(files: &[u8], call: &[u8]) {
+    let first = lend::front(files, asked(call));
+    let second = lend::rest(files, asked(call));
+    let y = minutes(wide(call, 5));
+    let z = minutes(wide(call, 13));
+    room::say_newest(newer::newest(first, y, second, z, wide(call, 21)));
+}
+
 fn make_kind(kind: usize, file: &[u8], call: &[u8]) {
     if kind == BRAND {
         room::say(brands::brand(file, wide(call, 5)));
+        return;
+    }
+    if kind == NEWEST {
+        make_newest(file, call);
         return;
     }
     if kind == TRACKS {

@@ -19,4 +19,11 @@ fn main() {
     feed::run(b"pack13");
     feed::run(b"pack14");
     feed::run(b"pack15");
+    feed::run(b"pack16");
+    feed::run(b"pack17");
+    feed::run(b"pack18");
+    feed::run(b"pack19");
+    feed::run(b"pack20");
+    feed::run(b"pack21");
+    feed::run(b"pack22");
 }

@@ -1,4 +1,6 @@
 // What is written of an answer, and of a room after it.
+use newer::Outcome;
+use newer::Part;
 use verdict::Answer;
 ghost use Prim.Native.Nat.{_<_};
 
@@ -7,14 +9,36 @@ fn text(words: &[u8], n: u64) {
     io::print_decimal(1, n);
 }
 
+fn say_refusal(n: usize, p: usize) {
+    text(b": ", n as u64);
+    text(b" at ", p as u64);
+}
+
+fn say_part(part: Part) {
+    text(b": order ", part.order as u64);
+    text(b" file ", part.file as u64);
+    text(b" place ", part.place as u64);
+    text(b" size ", part.size as u64);
+}
+
 pub fn say(answer: Answer) {
     match answer {
         Answer::Done(n) => {
             text(b": done ", n as u64);
         }
         Answer::Refused(n, p) => {
-            text(b": ", n as u64);
-            text(b" at ", p as u64);
+            say_refusal(n, p);
+        }
+    }
+}
+
+pub fn say_newest(answer: Outcome) {
+    match answer {
+        Outcome::Found(part) => {
+            say_part(part);
+        }
+        Outcome::Refused(n, p) => {
+            say_refusal(n, p);
         }
     }
 }
