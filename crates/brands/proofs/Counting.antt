@@ -1,13 +1,12 @@
 -- Laws of the counts over brands and over tracks. Assumes nothing.
-use Prim.Native.Nat.{ℕ, _+_, _-_, _*_, _/_, _≤_, _<_}
+use Prim.Native.Nat.{ℕ, _+_, _-_, _*_, _/_, _<_}
 use native.Mathlib.Omega.{arith}
-use mathlib.Core.Path.{_≡_, refl, sym, ap, _∙_}
-use mathlib.Core.Bool.{Bool, true, false}
+use mathlib.Core.Path.{_≡_, sym}
+use mathlib.Core.Bool.{true, false}
 use mathlib.Core.List.{List}
 use lib.ListN.{length}
 use Rattle.wire.specs.Numbers.{word}
 use Rattle.wire.specs.Clauses.{isEq, oneIf}
-use Rattle.wire.proofs.Clauses.{was-yea}
 use Rattle.wire.proofs.Sums.{sum-none, sum-more, all-none, all-more, all-fails}
 use Rattle.tracks.proofs.Answers.{found-nay, found-yea}
 use Rattle.movie.specs.Movie.{track, handler}

@@ -1,17 +1,16 @@
 -- Laws of the brands' conditions. Assumes nothing.
-use Prim.Native.Nat.{ℕ, zero, suc, _+_, _≤_, _<_}
+use Prim.Native.Nat.{ℕ, _+_, _≤_}
 use native.Mathlib.Omega.{arith}
-use mathlib.Core.Path.{_≡_, refl, sym, ap, _∙_}
+use mathlib.Core.Path.{_≡_, refl, _∙_}
 use mathlib.Core.Bool.{Bool, true, false}
 use mathlib.Core.List.{List, [], _∷_, _++_}
-use Rattle.wire.specs.Tests.{pick}
 use Rattle.wire.specs.Numbers.{word}
-use Rattle.wire.specs.Clauses.{isEq, isLt, every, oneIf}
-use Rattle.wire.specs.Codes.{FTYP, MOOV, STSD, AVC1, ISOM}
-use Rattle.wire.proofs.Clauses.{fails, is-lt, not-lt}
+use Rattle.wire.specs.Clauses.{isEq, every, oneIf}
+use Rattle.wire.specs.Codes.{MOOV, STSD, AVC1}
+use Rattle.wire.proofs.Clauses.{is-lt, not-lt}
 use Rattle.boxes.specs.Box.{Box}
 use Rattle.boxes.specs.Boxes.{boxes}
-use Rattle.boxes.specs.Seek.{ANY, meant, count, find}
+use Rattle.boxes.specs.Seek.{ANY, count}
 use Rattle.boxes.proofs.Seeking.{meant-any}
 use Rattle.movie.specs.Movie.{table}
 use Rattle.movie.specs.Named.{listIn}

@@ -1,6 +1,6 @@
 // The brands that a file answers to.
-pub mod compatible;
-pub mod conditions;
+mod compatible;
+mod conditions;
 
 use judge::Judgement;
 use verdict::Answer;

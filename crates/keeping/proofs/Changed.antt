@@ -1,7 +1,7 @@
 -- An `stsd` in which one entry has another decoder record. Assumes nothing.
 use Prim.Native.Nat.{ℕ, _+_, _-_, _≤_}
 use native.Mathlib.Omega.{arith}
-use mathlib.Core.Path.{_≡_, refl, sym, ap, _∙_}
+use mathlib.Core.Path.{_≡_, sym, ap, _∙_}
 use mathlib.Core.Bool.{Bool, true}
 use mathlib.Core.List.{List, [], _∷_, _++_}
 use lib.ListN.{length, take, drop, length-take, take-append-drop}
@@ -9,7 +9,7 @@ use lib.Seq.{length-take-le}
 use Rattle.wire.specs.Numbers.{word}
 use Rattle.wire.proofs.Tests.{both}
 use Rattle.wire.proofs.Numbers.{word-left}
-use Rattle.wire.proofs.Clauses.{is-le, le-is, is-eq, eq-is, clause, holds, done}
+use Rattle.wire.proofs.Clauses.{is-le, clause, holds, done}
 use Rattle.boxes.specs.Box.{Box, remade}
 use Rattle.boxes.specs.Boxes.{HEAD, boxes, after}
 use Rattle.boxes.specs.Seek.{ANY, count}

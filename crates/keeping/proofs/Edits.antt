@@ -1,16 +1,31 @@
 -- Demand 3 of each edit: what it makes of an accepted file is accepted, edits take it again, and every track has the same samples. Assumes nothing.
-use lib.IntN.{ℤ}
+use Prim.Native.Nat.{ℕ, _-_, _≤_}
+use mathlib.Core.Path.{_≡_, refl}
 use mathlib.Core.List.{List}
-use Prim.Native.Nat.{ℕ}
+use lib.IntN.{ℤ}
+use lib.ListN.{length}
 use Rattle.wire.specs.Numbers.{Bytes}
 use Rattle.clocks.specs.Clocks.{shiftTime}
+use Rattle.boxes.specs.Boxes.{HEAD}
+use Rattle.heads.specs.Heads.{headSize}
+use Rattle.entries.specs.Decoders.{recordRule}
+use Rattle.movie.specs.declared.entry.Spot.{Spot}
+use Rattle.movie.specs.declared.entry.Spot.the-variants.{In, Past}
+use Rattle.movie.specs.Movie.{movie}
+use Rattle.movie.specs.Named.{spotIn}
+use Rattle.descriptions.specs.Ten.{MOST}
+use Rattle.judge.specs.Judgement.{LONGEST}
 use Rattle.judge.specs.Acceptance.{Meets}
+use Rattle.settle.specs.Settle.{settled}
+use Rattle.settle.proofs.Settled.{settled-length}
+use Rattle.replace.specs.Replace.{kindAt, recordAt, replaced, replaceOf}
 use Rattle.moving.specs.Moving.{moveOf}
 use Rattle.shift.specs.Shift.{shiftOf}
 use Rattle.keeping.specs.Kept.{Kept}
 use Rattle.keeping.proofs.Content.{content-same}
 use Rattle.keeping.proofs.Second.{second}
 use Rattle.keeping.proofs.Times.{shift-content}
+use Rattle.keeping.proofs.Replacing.{record-content}
 use Rattle.keeping.proofs.Keeping.{keeps, keeps-stay}
 
 -- "Move: moov goes right after ftyp"
@@ -22,3 +37,12 @@ keeps-move xs w m = keeps second xs xs w m (content-same xs w (m .most))
 pub keeps-shift : (z : ℤ) (xs : List ℕ) → Bytes xs → Meets xs → Kept xs (shiftOf z xs)
 unfolding shiftOf
 keeps-shift z xs w m = keeps-stay xs _ w m (shift-content (shiftTime z) xs w (m .most))
+
+-- "Replace decoder record of entry i": one that meets its rule, where the result is not too long
+pub keeps-replace : (xs : List ℕ) (i : ℕ) (new : List ℕ) → Bytes xs → Bytes new → Meets xs → recordRule (kindAt xs i) MOST new ≡ 1 → length (replaceOf xs i new) ≤ LONGEST → Kept xs (replaceOf xs i new)
+unfolding replaceOf replaced
+keeps-replace xs i new w v m r h = go (spotIn 0 (movie xs) (i - 1)) refl (rw settled-length at h)
+  where
+    go : (s : Spot) → spotIn 0 (movie xs) (i - 1) ≡ s → length (recordAt s (headSize (kindAt xs i) - HEAD) new xs) ≤ LONGEST → Kept xs (settled xs (recordAt s (headSize (kindAt xs i) - HEAD) new xs))
+    go (In t n) e k = keeps-stay xs _ w m (record-content xs i new w (m .most) r t n e v k)
+    go Past e k = keeps-stay xs xs w m (content-same xs w (m .most))

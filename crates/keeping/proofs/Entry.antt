@@ -1,13 +1,12 @@
 -- An entry box with another decoder record behind its head still meets its rule. Assumes nothing.
-use Prim.Native.Nat.{ℕ, _+_, _-_, _≤_, _<_}
+use Prim.Native.Nat.{ℕ, _+_, _-_, _≤_}
 use native.Mathlib.Omega.{arith}
-use mathlib.Core.Path.{_≡_, refl, sym, ap, _∙_}
+use mathlib.Core.Path.{_≡_, ap, _∙_}
 use mathlib.Core.Bool.{true}
 use mathlib.Core.List.{List, _++_, append-assoc}
 use mathlib.Core.Logic.{_⊎_, inl, inr, ⊎-elim}
 use lib.ListN.{length, take, drop, length-append}
 use lib.Seq.{drop-at, length-take-le}
-use Rattle.wire.specs.Tests.{ifEq}
 use Rattle.wire.specs.Numbers.{bytes, word}
 use Rattle.wire.proofs.Lists.{take-past}
 use Rattle.wire.proofs.Numbers.{length-bytes, word-bytes, word-right}
@@ -22,7 +21,7 @@ use Rattle.heads.proofs.Meeting.{eq-ways, eq-met}
 use Rattle.heads.proofs.Heading.{audio-size, visual-size}
 use Rattle.entries.specs.declared.rule.Around.{Around}
 use Rattle.entries.specs.Decoders.{recordRule}
-use Rattle.entries.specs.Entries.{ruleAs, entryRule, replaced}
+use Rattle.entries.specs.Entries.{entryRule, replaced}
 use Rattle.entries.proofs.Speech.{Spoken, soun, speech-met}
 use Rattle.entries.proofs.Picture.{vide, picture-met}
 use Rattle.entries.proofs.Kept.{entry-kept}
@@ -53,7 +52,7 @@ head-inside around most kind xs k e =
 
 module _ (x : Box) (g : Good x) where
   -- the bytes of a box tell its code
-  code-is : word 4 (header x ++ x .body) 4 ≡ x .code
+  pub code-is : word 4 (header x ++ x .body) 4 ≡ x .code
   unfolding header
   code-is = rw append-assoc (word-right 4 (bytes 4 (size x)) (bytes 4 (x .code) ++ x .body) 4 0 (length-bytes 4 (size x)) ∙ word-bytes 4 (x .code) (x .body) (g .code))
 

@@ -11,7 +11,6 @@ pub mod Mapping
 pub mod Second
 pub mod Tracking
 pub mod Tables
-pub mod Tiling
 pub mod Settling
 pub mod Following
 pub mod Accepting
@@ -22,4 +21,9 @@ pub mod Keeping
 pub mod Entry
 pub mod Changed
 pub mod Once
+pub mod Split
+pub mod Spot
+pub mod Named
+pub mod Replacing
 pub mod Edits
+pub mod Done

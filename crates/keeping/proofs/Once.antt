@@ -1,28 +1,25 @@
 -- The edit of one `stsd`, and what it keeps where one of its entries has another decoder record. Assumes nothing.
 use Prim.Native.Nat.{ℕ, _≤_}
 use native.Mathlib.Omega.{arith}
-use mathlib.Core.Path.{_≡_, refl, sym, ap, subst, _∙_}
+use mathlib.Core.Path.{_≡_, refl, subst}
 use mathlib.Core.Bool.{true}
 use mathlib.Core.List.{List}
-use mathlib.Core.Logic.{_⊎_, inl, inr, ⊎-elim}
+use mathlib.Core.Logic.{_⊎_, ⊎-elim}
 use lib.ListN.{length, drop}
 use Rattle.wire.specs.Tests.{ifEq}
 use Rattle.wire.specs.Numbers.{Bytes, word}
 use Rattle.wire.specs.Codes.{TRAK, TKHD, MDIA, MDHD, HDLR, DINF, DREF, STBL, STSD, STTS, STSC, STSZ, STCO, MDAT}
 use Rattle.boxes.specs.Containers.{FILE, DEPTH}
-use Rattle.boxes.specs.Kin.{Leaf, Kin}
+use Rattle.boxes.specs.Kin.{Kin}
 use Rattle.headers.specs.Forms.{ifBox, form}
 use Rattle.entries.specs.declared.rule.Around.{Around}
 use Rattle.lists.specs.Forms.{FRONT, listForm}
 use Rattle.descriptions.specs.Ten.{entriesFine}
 use Rattle.judge.specs.Judgement.{LONGEST}
+use Rattle.replace.proofs.Kinship.{Once}
 use Rattle.keeping.proofs.Sound.{Sound}
 use Rattle.keeping.proofs.Content.{Content}
 use Rattle.keeping.proofs.Changed.{Changed, changed-fine, changed-stored, changed-form}
-
--- an opaque box is as it was, or it is the `stsd` whose body was b₀ and is b₁
-abbrev pub Once : (b₀ b₁ : List ℕ) → Leaf
-Once b₀ b₁ k c b b′ = (b ≡ b′) ⊎ ((k ≡ STBL) × (c ≡ STSD) × (b ≡ b₀) × (b′ ≡ b₁))
 
 -- rule 4 reads no `stsd`
 form-stsd : (b : List ℕ) → form STBL STSD b ≡ true
@@ -31,18 +28,18 @@ form-stsd b = refl
 
 module _ (b₀ b₁ : List ℕ) where
   -- any other box
-  other : (k c : ℕ) → (k ≡ STBL → c ≡ STSD → ⊥) → (b b′ : List ℕ) → Once b₀ b₁ k c b b′ → b ≡ b′
+  other : (k c : ℕ) → (k ≡ STBL → c ≡ STSD → ⊥) → (b b′ : List ℕ) → Once STBL STSD b₀ b₁ k c b b′ → b ≡ b′
   other k c n b b′ = ⊎-elim (λ e. e) (λ r. absurd (n (r .0) (r .1)))
 
   -- what is kept of the one body is kept of all
-  at-stsd : (P : List ℕ → List ℕ → Type 0) → ((b : List ℕ) → P b b) → P b₀ b₁ → (b b′ : List ℕ) → Once b₀ b₁ STBL STSD b b′ → P b b′
+  at-stsd : (P : List ℕ → List ℕ → Type 0) → ((b : List ℕ) → P b b) → P b₀ b₁ → (b b′ : List ℕ) → Once STBL STSD b₀ b₁ STBL STSD b b′ → P b b′
   at-stsd P same one b b′ = ⊎-elim (λ e. subst (P b) e (same b)) (λ r. rw (r .2, r .3) one)
 
-  form-once : (k c : ℕ) (b b′ : List ℕ) → Once b₀ b₁ k c b b′ → form k c b ≡ true → form k c b′ ≡ true
+  form-once : (k c : ℕ) (b b′ : List ℕ) → Once STBL STSD b₀ b₁ k c b b′ → form k c b ≡ true → form k c b′ ≡ true
   form-once k c b b′ r q = ⊎-elim (λ e. rw (← e) q) (λ s. rw (s .0, s .1) (form-stsd b′)) r
 
   module _ (new : List ℕ) (h : Changed new b₀ b₁) where
-    pub once-sound : Sound (Once b₀ b₁)
+    pub once-sound : Sound (Once STBL STSD b₀ b₁)
     once-sound =
         record {
           mdat = other FILE MDAT (λ e f. omega arith);
@@ -69,5 +66,5 @@ module _ (b₀ b₁ : List ℕ) where
         }
 
     -- one entry of the file has another decoder record
-    pub once-content : (xs ys : List ℕ) → Kin (Once b₀ b₁) DEPTH FILE xs ys → Bytes ys → length ys ≤ LONGEST → Content xs ys
-    once-content xs ys k w n = record { leaf = Once b₀ b₁; kin = k; sound = once-sound; stco = other STBL STCO (λ e f. omega arith); bytes = w; small = n }
+    pub once-content : (xs ys : List ℕ) → Kin (Once STBL STSD b₀ b₁) DEPTH FILE xs ys → Bytes ys → length ys ≤ LONGEST → Content xs ys
+    once-content xs ys k w n = record { leaf = Once STBL STSD b₀ b₁; kin = k; sound = once-sound; stco = other STBL STCO (λ e f. omega arith); bytes = w; small = n }

@@ -19,13 +19,13 @@ use Rattle.tracks.specs.Six.{sixRule}
 use Rattle.judge.specs.Judgement.{LONGEST}
 use Rattle.judge.specs.Acceptance.{Meets}
 use Rattle.settle.specs.Settle.{offsets, settled}
+use Rattle.settle.proofs.Accepted.{file-tiled}
 use Rattle.keeping.proofs.Sound.{Sound, sound-less, sound-then}
 use Rattle.keeping.proofs.Content.{Content}
 use Rattle.keeping.proofs.Knowing.{With, kin-with, short, short-all}
 use Rattle.keeping.proofs.Offsets.{offsets-sound}
 use Rattle.keeping.proofs.Arranges.{Arranges}
 use Rattle.keeping.proofs.Arranging.{arranged-boxes, arranged-edit, arranged-alike}
-use Rattle.keeping.proofs.Tiling.{two-tiled}
 
 -- the file xs, its content edited to ys, its boxes in the order A
 module _ {A : List Box → List Box} (a : Arranges A) (xs ys : List ℕ) (w : Bytes xs) (m : Meets xs) (c : Content xs ys) where
@@ -42,7 +42,7 @@ module _ {A : List Box → List Box} (a : Arranges A) (xs ys : List ℕ) (w : By
 
   -- boxes tile the file
   pub xs-tiled : after xs ≡ []
-  xs-tiled = two-tiled 5 FILE xs (m .two)
+  xs-tiled = file-tiled xs m
 
   -- and its content
   pub ys-tiled : after ys ≡ []

@@ -10,9 +10,7 @@ use borrow.Author.Tests.{eqb-true}
 use Rattle.wire.specs.Tests.{pick, ifEq}
 use Rattle.wire.specs.Numbers.{Bytes}
 use Rattle.wire.specs.Codes.{MOOV, MVHD, TRAK, TKHD, MDIA, MDHD, STBL, STCO}
-use Rattle.boxes.specs.declared.words.Target.{Target}
 use Rattle.boxes.specs.Containers.{FILE, DEPTH}
-use Rattle.boxes.specs.Rewrite.{editIn}
 use Rattle.boxes.specs.Words.{reword, rewordLeaf}
 use Rattle.boxes.proofs.Kin.{Made, kin-edit}
 use Rattle.boxes.proofs.Editing.{edit-length, edit-bytes}

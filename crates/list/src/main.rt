@@ -1,27 +1,27 @@
-// Says of a file what the judgement is: `file 0`, or `file NUMBER at PLACE`. The file is named by the first argument, or is
-// standard input.
-use judge::Judgement;
+// Prints the listing of a file. The file is named by the first argument, or is standard input.
+use verdict::Answer;
 ghost use Prim.Native.Nat.{_≤_};
 
 // The longest file that this program reads.
 const ROOM: usize = 65536;
 
-fn say(label: &[u8], n: usize) {
-    io::write_all(1, label);
-    io::print_decimal(1, n as u64);
-}
-
+// At most 4 tracks, 8 entries and 4 brands, a line each.
 fn list(file: &[u8]) {
-    match judge::judge(file) {
-        Judgement::Accepted => {
-            say(b"file ", 0);
+    let mut text = [0u8; 4096];
+    match listing::listing(file, &mut text) {
+        Answer::Done(n) => {
+            write_front(&text, n);
         }
-        Judgement::Refused(n, p) => {
-            say(b"file ", n);
-            say(b" at ", p);
+        Answer::Refused(_, _) => {
+            io::write_all(2, b"no room for the listing\n");
         }
     }
-    io::write_all(1, b"\n");
+}
+
+fn write_front(text: &[u8], n: usize) {
+    if n <= text.len() {
+        io::write_all(1, &text[0..n]);
+    }
 }
 
 // One byte more than the room tells a longer file.

@@ -1,18 +1,17 @@
 -- Rules 6 and 7 of an accepted file, as facts of each of its tracks. Assumes nothing.
-use Prim.Native.Nat.{ℕ, _≤_, _<_}
+use Prim.Native.Nat.{ℕ, _<_}
 use native.Mathlib.Omega.{arith}
-use mathlib.Core.Path.{_≡_, refl, sym, _∙_}
+use mathlib.Core.Path.{_≡_, refl, sym}
 use mathlib.Core.Bool.{true}
 use mathlib.Core.List.{List}
 use Rattle.wire.specs.Tests.{ifEq}
 use Rattle.wire.specs.Numbers.{word}
 use Rattle.wire.specs.Codes.{STBL, STSD, STTS, STSC, STSZ, STCO}
 use Rattle.wire.proofs.Clauses.{holds, done}
-use Rattle.boxes.specs.Box.{Box}
 use Rattle.boxes.specs.Boxes.{boxes}
 use Rattle.boxes.specs.Containers.{parent, kindIn}
 use Rattle.boxes.specs.Seek.{find}
-use Rattle.tables.specs.Rules.{seven as agree, Six, Seven}
+use Rattle.tables.specs.Rules.{seven as agree, Six}
 use Rattle.tables.proofs.Rules.{seven-is}
 use Rattle.verdict.specs.Rule.{allIn}
 use Rattle.shape.specs.Shape.{needed}

@@ -1,7 +1,7 @@
 -- What a read of a track answers, and what it leaves in the list. Assumes nothing.
 use Prim.Native.Nat.{ℕ, _-_, _≤_, _<_}
 use native.Mathlib.Omega.{arith}
-use mathlib.Core.Path.{_≡_, refl, sym, ap, _∙_}
+use mathlib.Core.Path.{_≡_, refl, ap, _∙_}
 use mathlib.Core.List.{List}
 use lib.ListN.{length}
 use Rattle.wire.specs.Writing.{Wrote}
@@ -15,7 +15,7 @@ use Rattle.judge.specs.declared.Judgement.{Judgement}
 use Rattle.judge.specs.declared.Judgement.the-variants as judgement
 use Rattle.judge.specs.Judgement.{judged}
 use Rattle.judge.specs.Acceptance.{Meets}
-use Rattle.judge.proofs.Calls.{when-accepted, when-refused, met}
+use Rattle.judge.proofs.Calls.{when-accepted, when-refused}
 use Rattle.reads.specs.Tracks.{Readable}
 use Rattle.reads.specs.Reads.{whenTrack, numbersAnswer}
 use Rattle.reads.proofs.Accepted.{readable}

@@ -2,7 +2,7 @@
 use Prim.Native.Nat.{ℕ, zero, suc, _+_, _-_, _≤_, _<_}
 use native.Mathlib.Omega.{arith}
 use native.Mathlib.Numerals.{add-one}
-use mathlib.Core.Path.{_≡_, refl, sym, ap, _∙_}
+use mathlib.Core.Path.{_≡_, refl, sym, _∙_}
 use mathlib.Core.List.{List, [], _∷_, _++_}
 use lib.ListN.{length, getD, drop, set, length-append}
 use lib.Seq.{drop-cons, set-at, sets-eq, append-snoc}
@@ -10,7 +10,7 @@ use Rattle.wire.specs.Writing.{Wrote}
 use Rattle.wire.specs.Codes.{STTS, STCO}
 use Rattle.tables.specs.Tables.{Table, count, field}
 use Rattle.tables.specs.Times.{timed, mediaTicks}
-use Rattle.movie.specs.Movie.{tracks, track, table, handler, scale, movieTicks}
+use Rattle.movie.specs.Movie.{table, handler, scale, movieTicks}
 use Rattle.reads.specs.Tracks.{Readable}
 use Rattle.reads.specs.Reads.{saidBy, offsetsTo, offsetsOf}
 

@@ -1,5 +1,5 @@
 // Other reads of a file: its tracks, what one says, where its chunks are.
-pub mod numbers;
+mod numbers;
 
 use judge::Judgement;
 use verdict::Answer;

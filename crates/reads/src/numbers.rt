@@ -1,6 +1,5 @@
 // The numbers of a track, into a list that is lent.
 use wire::codes;
-ghost use mathlib.Core.Path.{_≡_};
 ghost use Prim.Native.Nat.{_≤_};
 ghost use lib.ListN.{length};
 ghost use Rattle.wire.specs.Writing.{Wrote};

@@ -14,8 +14,20 @@ offsets-in-spec = tie.close (tie.spec
     (λ c κs. search needs)
     (λ c κs. search needs)
     (λ c κs. search needs)
-    (λ c. track-short _ _ _ _ (omega arith) (c .before .before .before .before .before .tracks .ensures .0) (omega arith) (omega (arith, offsets-length _ (c .before .before .before .track .ensures .0) (c .before .before .table .ensures .0) (c .before .count .ensures .0))))
-    (λ c κs. (offsets-table (c .before .before .before .table .ensures .0) (track-readable _ _ (omega arith) (c .before .before .before .before .before .before .tracks .ensures .0) (omega arith) (c .before .before .before .before .before .before .before .before .before .before .pre) (c .before .before .before .before .track .ensures .0)), omega arith))
+    (λ c.
+    let p = c .before .before in
+    let q = p .before in
+    let s = q .before .before in
+    track-short _ _ _ _ (omega arith) (s .tracks .ensures .0) (omega arith) (omega (arith, offsets-length _ (q .track .ensures .0) (p .table .ensures .0) (c .before .count .ensures .0))))
+    (λ c κs.
+    let p = c .before .before .before in
+    let q = p .before in
+    let s = q .before .before in
+    let u = s .before .before .before .before in
+    (offsets-table (p .table .ensures .0) (track-readable _ _ (omega arith) (s .tracks .ensures .0) (omega arith) (u .pre) (q .track .ensures .0)), omega arith))
     (λ c. search needs)
-    (λ c. let w = offsets-wrote _ (c .before .before .before .before .before .before .before .track .ensures .0) (c .before .before .before .before .before .before .table .ensures .0) (c .before .before .put-offsets .ensures) in
-    track-done _ _ _ _ (omega arith) (c .before .before .before .before .before .before .before .before .before .tracks .ensures .0) (omega arith) (omega (arith, offsets-length _ (c .before .before .before .before .before .before .before .track .ensures .0) (c .before .before .before .before .before .before .table .ensures .0) (c .before .before .before .before .before .count .ensures .0))) w))
+    (λ c.
+    let p = c .before .before .before .before .before in
+    let q = p .before in
+    let s = q .before in
+    track-done _ _ _ _ (omega arith) (s .before .before .tracks .ensures .0) (omega arith) (omega (arith, offsets-length _ (s .track .ensures .0) (q .table .ensures .0) (p .count .ensures .0))) (offsets-wrote _ (s .track .ensures .0) (q .table .ensures .0) (c .before .before .put-offsets .ensures))))

@@ -15,4 +15,8 @@ track-in-spec = tie.close (tie.spec
     (λ c κs. search needs)
     (λ c κs. (track-readable _ _ (omega arith) (c .before .before .before .before .tracks .ensures .0) (omega arith) (c .before .before .before .before .before .before .before .before .pre) (c .before .track .ensures .0), omega arith))
     (λ c. search needs)
-    (λ c. track-done _ _ _ _ (omega arith) (c .before .before .before .before .before .before .before .tracks .ensures .0) (omega arith) (rw length-said (omega arith)) (said-as (c .before .before .before .before .track .ensures .0) (c .before .before .put-said .ensures))))
+    (λ c.
+    let p = c .before .before in
+    let q = p .before .before in
+    let s = q .before .before .before in
+    track-done _ _ _ _ (omega arith) (s .tracks .ensures .0) (omega arith) (rw length-said (omega arith)) (said-as (q .track .ensures .0) (p .put-said .ensures))))

@@ -1,5 +1,6 @@
 use borrow.Author.Needs.{needs}
-use Rattle.threegp.proofs.Numbers.{refused-small, refused-is, accepted-is}
+use mathlib.Core.Path.{sym, ap, _∙_}
+use Rattle.threegp.specs.Answers.{judgeAnswer}
 use Rattle.threegp.proofs.threegp_judge.Statement.{statement}
 use Rattle.threegp.proofs.threegp_judge.Tie as tie
 
@@ -9,6 +10,6 @@ threegp-judge-spec = tie.close (tie.spec
     (λ c. search needs)
     (λ c κs. search needs)
     (λ c. search needs)
-    (λ c κs. refused-small _ (c .before .before .before .judge .ensures) _ _ (c .before .n .given .1))
-    (λ c. accepted-is _ (c .before .before .before .judge .ensures) (c .before .enum-told .given .1) (c .answer .ensures))
-    (λ c. refused-is _ (c .before .before .before .before .judge .ensures) _ _ (c .before .before .n .given .1) (c .answer2 .ensures)))
+    (λ c κs. search needs)
+    (λ c. c .pair .ensures ∙ ap judgeAnswer (sym (c .before .enum-told .given .1) ∙ c .before .before .before .judge .ensures))
+    (λ c. c .pair2 .ensures ∙ ap judgeAnswer (sym (c .before .before .n .given .1) ∙ c .before .before .before .before .judge .ensures)))

@@ -1,0 +1,94 @@
+-- "Replace decoder record of entry i": a content of the file. Assumes nothing.
+use Prim.Native.Nat.{ℕ, _+_, _-_, _≤_, _<_}
+use native.Mathlib.Omega.{arith}
+use mathlib.Core.Path.{_≡_, refl, sym, ap, subst, _∙_}
+use mathlib.Core.List.{List, _++_}
+use lib.ListN.{length, take, drop, length-append}
+use lib.Seq.{take-at, drop-at, length-take-le}
+use Rattle.wire.specs.Codes.{STBL, STSD}
+use Rattle.wire.specs.Numbers.{Bytes}
+use Rattle.boxes.specs.Boxes.{HEAD}
+use Rattle.boxes.specs.Containers.{FILE, DEPTH}
+use Rattle.boxes.specs.Seek.{ANY}
+use Rattle.boxes.specs.Kin.{Kin}
+use Rattle.boxes.specs.Way.{overNth, overTurn, editWay, tailBy}
+use Rattle.boxes.proofs.Seeking.{meant-any}
+use Rattle.boxes.proofs.Turning.{way-length}
+use Rattle.heads.specs.Heads.{headSize}
+use Rattle.entries.specs.Decoders.{recordRule}
+use Rattle.movie.specs.declared.entry.Spot.the-variants.{In}
+use Rattle.movie.specs.Movie.{movie, track, table}
+use Rattle.movie.specs.Entries.{FRONT}
+use Rattle.movie.specs.Named.{spotIn}
+use Rattle.descriptions.specs.Ten.{MOST}
+use Rattle.judge.specs.Judgement.{LONGEST}
+use Rattle.replace.specs.Replace.{kindAt, recordAt}
+use Rattle.replace.proofs.Kinship.{Once, endOf}
+use Rattle.replace.proofs.Nth.{nth-by, boxes-nth, after-nth}
+use Rattle.replace.proofs.Changing.{toStsd, toEntry, record-bytes, record-kin}
+use Rattle.replace.proofs.Taking.{record-short, record-first}
+use Rattle.keeping.proofs.Changed.{Changed}
+use Rattle.keeping.proofs.Content.{Content}
+use Rattle.keeping.proofs.Once.{once-content}
+use Rattle.keeping.proofs.Named.{EntryIn, entry-in}
+
+module _ (xs : List ℕ) (i : ℕ) (new : List ℕ) (w : Bytes xs) (few : length xs ≤ LONGEST) (r : recordRule (kindAt xs i) MOST new ≡ 1) (t n : ℕ) (e : spotIn 0 (movie xs) (i - 1) ≡ In t n) where
+  abbrev keep : ℕ
+  keep = headSize (kindAt xs i) - HEAD
+
+  -- the `stsd` of track t
+  abbrev stsd : List ℕ
+  stsd = table STSD (track xs t)
+
+  abbrev s : EntryIn xs i t n
+  s = entry-in xs i w (record-first xs i MOST (kindAt xs i) new refl r) t n e
+
+  abbrev by : List ℕ → List ℕ
+  by = tailBy keep new
+
+  -- the `stsd` with the given record
+  abbrev changedStsd : List ℕ
+  changedStsd = editWay (toEntry n) (tailBy (headSize (kindAt xs i) - HEAD) new) (table STSD (track xs t))
+
+  open-it : changedStsd ≡ take FRONT stsd ++ overNth ANY n by (drop FRONT stsd)
+  unfolding editWay overTurn
+  open-it = refl
+
+  small : length (overNth ANY n by (drop FRONT stsd)) < 4294967296
+  small =
+      let l = ap length open-it ∙ length-append (take FRONT stsd) (overNth ANY n by (drop FRONT stsd)) in
+      omega (arith, l, few, s .short, way-length (toEntry n) keep new stsd, record-short (kindAt xs i) MOST new r .1)
+
+  behind : drop FRONT changedStsd ≡ overNth ANY n by (drop FRONT stsd)
+  behind = ap (drop FRONT) open-it ∙ drop-at (take FRONT stsd) (overNth ANY n by (drop FRONT stsd)) FRONT (length-take-le FRONT stsd (s .room))
+
+  -- the entry has the given record, and all else stays
+  stsd-changed : Changed new (table STSD (track xs t)) changedStsd
+  stsd-changed =
+      record {
+        kind = kindAt xs i;
+        before = s .before;
+        entry = s .box;
+        past = s .past;
+        old = s .list;
+        now = rw (behind, boxes-nth ANY n by (drop FRONT stsd) (s .filled) small, s .list) (nth-by ANY by n (s .before) (s .box) (s .past) (s .nth) (sym (meant-any ANY (s .box .code) refl)));
+        room = s .room;
+        front = ap (take FRONT) open-it ∙ take-at (take FRONT stsd) (overNth ANY n by (drop FRONT stsd)) FRONT (length-take-le FRONT stsd (s .room));
+        rest = rw behind (after-nth ANY n by (drop FRONT stsd) (s .filled) small);
+        good = s .good;
+        is = s .kind;
+        meets = r;
+      }
+
+  -- ---- the file
+
+  end-is : endOf (toStsd t) xs ≡ table STSD (track xs t)
+  unfolding endOf table track
+  end-is = refl
+
+  -- one entry of the file has another decoder record
+  pub record-content : Bytes new → length (recordAt (In t n) (headSize (kindAt xs i) - HEAD) new xs) ≤ LONGEST → Content xs (recordAt (In t n) (headSize (kindAt xs i) - HEAD) new xs)
+  record-content v h =
+      once-content (table STSD (track xs t)) changedStsd new stsd-changed xs _
+      (subst (λ (b : List ℕ). Kin (Once STBL STSD b (editWay (toEntry n) by b)) DEPTH FILE xs (recordAt (In t n) keep new xs)) end-is (record-kin t n keep new xs v w (omega arith)))
+      (record-bytes t n keep new xs v w) h

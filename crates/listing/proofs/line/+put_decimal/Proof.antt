@@ -1,0 +1,38 @@
+use borrow.Author.Needs.{needs}
+use Prim.Native.Nat.{ℕ, _<_, _/_}
+use borrow.Fn.Kinds.{In}
+use borrow.Fn.PlainCycle.{Measures, is, falls, and}
+use native.Mathlib.Omega.{arith}
+use Rattle.listing.proofs.Digits.{put-digit, put-digits, decimal-20}
+use Rattle.listing.proofs.line.put_decimal.Reads as put-decimal
+use Rattle.listing.proofs.line.put_decimal.Kinds as put-decimal-kinds
+use Rattle.listing.proofs.line.+put_decimal.Lts-put_decimal as put-decimal-lts
+use Rattle.wire.proofs.pen.put_byte.Reads as put-byte-reads
+use Rattle.listing.proofs.line.+put_decimal.{statement}
+use Rattle.listing.proofs.line.+put_decimal.Tie.{close}
+
+-- the number itself falls
+abbrev μ : Measures 1 put-decimal-kinds.ps ℕ
+μ κs a = a .1 .1 .0
+
+abbrev put-decimal-at : ℕ → In 1 put-decimal-kinds.ps
+put-decimal-at t = and 1 put-decimal-kinds.ps (is 1 put-decimal-kinds.ps μ t) put-decimal.Pre
+
+abbrev put-decimal-below : ℕ → In 1 put-decimal-kinds.ps
+put-decimal-below t = and 1 put-decimal-kinds.ps (falls 1 put-decimal-kinds.ps _<_ μ t) put-decimal.Pre
+
+pub +put-decimal-spec : {M : Type 1} → statement M
++put-decimal-spec = close μ λ t. put-decimal-lts.spec (put-byte-reads.Asked, put-byte-reads.Learnt, put-decimal-below t, put-decimal.Post)
+    (put-decimal-at t)
+    put-decimal.Post
+    (λ c. search needs)
+    (λ c. search needs)
+    (λ c κs. search needs)
+    (λ c. search needs)
+    (λ c. put-digit _ (omega arith) (c .before .before .put-byte .ensures))
+    (λ c κs. search needs)
+    (λ c. search needs)
+    (λ c. search needs)
+    (λ c κs. omega (arith, decimal-20 (c .before .before .before .before .before .before .before .args .n / 10) (omega arith)))
+    (λ c. search needs)
+    (λ c. put-digits _ (omega arith) (c .before .before .before .before .before .before .put-decimal .ensures) (c .before .before .put-byte2 .ensures))

@@ -1,0 +1,12 @@
+use borrow.Author.Needs.{needs}
+use Rattle.listing.proofs.Digits.{put-label}
+use native.Mathlib.Omega.{arith}
+use Rattle.listing.proofs.line.put_labelled.Statement.{statement}
+use Rattle.listing.proofs.line.put_labelled.Tie as tie
+
+pub put-labelled-spec : {M : Type 1} → statement M
+put-labelled-spec = tie.close (tie.spec
+    (λ c κs. search needs)
+    (λ c κs. search needs)
+    (λ c. search needs)
+    (λ c. put-label _ _ (c .before .before .before .before .before .before .put-part .ensures) (c .before .before .put-decimal .ensures) (omega arith)))

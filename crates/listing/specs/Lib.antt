@@ -1,0 +1,4 @@
+pub mod Decimal
+pub mod Lines
+pub mod Listing
+pub mod Rest

@@ -1,0 +1,44 @@
+// The printed listing of a file.
+mod line;
+mod lines;
+
+use judge::Judgement;
+use verdict::Answer;
+ghost use mathlib.Core.Path.{_≡_};
+ghost use Rattle.verdict.specs.Answers.{inRoom, outBy};
+ghost use Rattle.judge.specs.Acceptance.{Meets};
+ghost use Rattle.listing.specs.Lines.{refusedLine};
+ghost use Rattle.listing.specs.Listing.{acceptedLines, listing as listingOf};
+
+// A refused file's line, whole or not at all: a run into no room says how long it is.
+fn list_refused(n: usize, p: usize, out: &mut [u8]) -> Answer
+    ensures { λ r. ⌜ (r ≡ inRoom (refusedLine n p) (now (out .entry))) × (now (out .exit) ≡ outBy r (refusedLine n p) (now (out .entry))) ⌝ }
+{
+    let m = line::put_refused(&mut out[0..0], n, p);
+    if out.len() < m {
+        return Answer::Refused(25, 0);
+    }
+    Answer::Done(line::put_refused(out, n, p))
+}
+
+// An accepted file's lines, in the same way.
+fn list_accepted(file: &[u8], out: &mut [u8]) -> Answer
+    requires { ⌜ Meets (now file) ⌝ }
+    ensures { λ r. ⌜ (r ≡ inRoom (acceptedLines (now (file .entry))) (now (out .entry))) × (now (out .exit) ≡ outBy r (acceptedLines (now (file .entry))) (now (out .entry))) ⌝ }
+{
+    let m = lines::put_accepted(&mut out[0..0], file);
+    if out.len() < m {
+        return Answer::Refused(25, 0);
+    }
+    Answer::Done(lines::put_accepted(out, file))
+}
+
+// The listing of any file: only 25 is refused.
+pub fn listing(file: &[u8], out: &mut [u8]) -> Answer
+    ensures { λ r. ⌜ (r ≡ inRoom (listingOf (now (file .entry))) (now (out .entry))) × (now (out .exit) ≡ outBy (inRoom (listingOf (now (file .entry))) (now (out .entry))) (listingOf (now (file .entry))) (now (out .entry))) ⌝ }
+{
+    match judge::judge(file) {
+        Judgement::Accepted => list_accepted(file, out),
+        Judgement::Refused(n, p) => list_refused(n, p, out),
+    }
+}

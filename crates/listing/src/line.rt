@@ -1,0 +1,121 @@
+// Writers of one line and its parts. Each answers the place past its text, fit or not.
+use wire::codes;
+use wire::pen;
+ghost use Prim.Native.Nat.{_+_, _^_, _≤_, _<_};
+ghost use lib.ListN.{length};
+ghost use Rattle.wire.specs.Writing.{Put};
+ghost use Rattle.listing.specs.Decimal.{decimal, labelled};
+ghost use Rattle.listing.specs.Lines.{handlerText, codeText, trackLine, entryNamed, entryPlaced, yesText, brandLine, refusedLine};
+
+// A number's digits.
+pub fn put_decimal(out: &mut [u8], at: usize, n: usize) -> usize
+    requires { ⌜ at < 2 ^ 62 ⌝ }
+    ensures { λ r. ⌜ Put (decimal n) (now (out .entry)) at r (now (out .exit)) ⌝ }
+{
+    if n < 10 {
+        return pen::put_byte(out, at, (48 + n) as u8);
+    }
+    let m = put_decimal(out, at, n / 10);
+    pen::put_byte(out, m, (48 + n % 10) as u8)
+}
+
+// A label, and then a number.
+fn put_labelled(out: &mut [u8], at: usize, label: &[u8], n: usize) -> usize
+    requires { ⌜ at + length (now label) < 2 ^ 62 ⌝ }
+    ensures { λ r. ⌜ Put (labelled (now (label .entry)) n) (now (out .entry)) at r (now (out .exit)) × (r ≤ at + length (now (label .entry)) + 20) ⌝ }
+{
+    let m = pen::put_part(out, at, label);
+    put_decimal(out, m, n)
+}
+
+// A handler's name.
+fn put_handler(out: &mut [u8], at: usize, h: usize) -> usize
+    requires { ⌜ at < 2 ^ 62 ⌝ }
+    ensures { λ r. ⌜ Put (handlerText h) (now (out .entry)) at r (now (out .exit)) × (r ≤ at + 5) ⌝ }
+{
+    if h == codes::VIDE {
+        return pen::put_part(out, at, b"vide");
+    }
+    if h == codes::SOUN {
+        return pen::put_part(out, at, b"soun");
+    }
+    if h == codes::TEXT {
+        return pen::put_part(out, at, b"text");
+    }
+    pen::put_part(out, at, b"other")
+}
+
+// A sample entry's code.
+fn put_code(out: &mut [u8], at: usize, c: usize) -> usize
+    requires { ⌜ at < 2 ^ 62 ⌝ }
+    ensures { λ r. ⌜ Put (codeText c) (now (out .entry)) at r (now (out .exit)) × (r ≤ at + 5) ⌝ }
+{
+    if heads::kind::of_code(c) == 0 {
+        return pen::put_part(out, at, b"other");
+    }
+    pen::put_word32(out, at, c)
+}
+
+// A track's line.
+pub fn put_track(out: &mut [u8], at: usize, t: usize, h: usize, ticks: usize, scale: usize) -> usize
+    requires { ⌜ at < 2 ^ 61 ⌝ }
+    ensures { λ r. ⌜ Put (trackLine t h ticks scale) (now (out .entry)) at r (now (out .exit)) × (r ≤ at + 100) ⌝ }
+{
+    let a = put_labelled(out, at, b"track ", t);
+    let b = pen::put_part(out, a, b" ");
+    let c = put_handler(out, b, h);
+    let d = put_labelled(out, c, b" ", ticks);
+    let e = put_labelled(out, d, b"/", scale);
+    pen::put_part(out, e, b"\n")
+}
+
+// The first half of an entry's line: its number, its track and its code.
+pub fn put_named(out: &mut [u8], at: usize, i: usize, t: usize, c: usize) -> usize
+    requires { ⌜ at < 2 ^ 61 ⌝ }
+    ensures { λ r. ⌜ Put (entryNamed i t c) (now (out .entry)) at r (now (out .exit)) × (r ≤ at + 60) ⌝ }
+{
+    let a = put_labelled(out, at, b"entry ", i);
+    let b = put_labelled(out, a, b" track ", t);
+    let d = pen::put_part(out, b, b" ");
+    put_code(out, d, c)
+}
+
+// The second half: its place and its size.
+pub fn put_placed(out: &mut [u8], at: usize, place: usize, size: usize) -> usize
+    requires { ⌜ at < 2 ^ 61 ⌝ }
+    ensures { λ r. ⌜ Put (entryPlaced place size) (now (out .entry)) at r (now (out .exit)) × (r ≤ at + 60) ⌝ }
+{
+    let a = put_labelled(out, at, b" place ", place);
+    let b = put_labelled(out, a, b" size ", size);
+    pen::put_part(out, b, b"\n")
+}
+
+// The end of a brand's line.
+fn put_yes(out: &mut [u8], at: usize, k: usize) -> usize
+    requires { ⌜ at < 2 ^ 62 ⌝ }
+    ensures { λ r. ⌜ Put (yesText k) (now (out .entry)) at r (now (out .exit)) × (r ≤ at + 5) ⌝ }
+{
+    if k == 0 {
+        return pen::put_part(out, at, b" no\n");
+    }
+    pen::put_part(out, at, b" yes\n")
+}
+
+// A brand's line.
+pub fn put_brand(out: &mut [u8], at: usize, code: usize, k: usize) -> usize
+    requires { ⌜ at < 2 ^ 61 ⌝ }
+    ensures { λ r. ⌜ Put (brandLine code k) (now (out .entry)) at r (now (out .exit)) × (r ≤ at + 15) ⌝ }
+{
+    let a = pen::put_part(out, at, b"brand ");
+    let b = pen::put_word32(out, a, code);
+    put_yes(out, b, k)
+}
+
+// A refused file's line.
+pub fn put_refused(out: &mut [u8], n: usize, p: usize) -> usize
+    ensures { λ r. ⌜ Put (refusedLine n p) (now (out .entry)) 0 r (now (out .exit)) ⌝ }
+{
+    let a = put_labelled(out, 0, b"file ", n);
+    let b = put_labelled(out, a, b" at ", p);
+    pen::put_part(out, b, b"\n")
+}

@@ -1,0 +1,117 @@
+// The lines of an accepted file.
+use crate::line;
+use movie::entry;
+use movie::entry::Named;
+use wire::codes;
+use wire::number;
+use wire::pen;
+ghost use Prim.Native.Nat.{_+_, _^_, _≤_, _<_};
+ghost use lib.ListN.{length, take, drop};
+ghost use Rattle.wire.specs.Writing.{Put};
+ghost use Rattle.movie.specs.Movie.{tracks as tracksOf};
+ghost use Rattle.movie.specs.Entries.{entries as entriesOf};
+ghost use Rattle.judge.specs.Acceptance.{Meets};
+ghost use Rattle.reads.specs.Tracks.{Readable};
+ghost use Rattle.listing.specs.Lines.{entryLine};
+ghost use Rattle.listing.specs.Listing.{lineOf, trackLines, entryLines, firstLine, brandOf, brandLines, acceptedLines};
+
+// The line of track t.
+fn put_track(out: &mut [u8], at: usize, track: &[u8], t: usize) -> usize
+    requires { ⌜ Readable (now track) × (at < 2 ^ 60) ⌝ }
+    ensures { λ r. ⌜ Put (lineOf t (now (track .entry))) (now (out .entry)) at r (now (out .exit)) × (r ≤ at + 100) ⌝ }
+{
+    let ticks = tables::time::media_ticks(movie::table(track, codes::STTS));
+    let handler = movie::handler(track);
+    let scale = movie::scale(track);
+    line::put_track(out, at, t, handler, ticks.0 as usize, scale)
+}
+
+// The lines of the tracks, numbered from 1.
+fn put_tracks(out: &mut [u8], from: usize, file: &[u8]) -> usize
+    requires { ⌜ Meets (now file) × (from < 2 ^ 32) ⌝ }
+    ensures { λ r. ⌜ Put (trackLines (now (file .entry)) (tracksOf (now (file .entry)))) (now (out .entry)) from r (now (out .exit)) × (r < 2 ^ 33) ⌝ }
+{
+    let n = movie::tracks(file);
+    let mut at = from;
+    let mut t = 0;
+    while t < n {
+        at = put_track(out, at, movie::track(file, t), t + 1);
+        t += 1;
+    }
+    at
+}
+
+// The line of an entry that was found, with its number in the file.
+fn put_found(
+    out: &mut [u8],
+    at: usize,
+    file: &[u8],
+    i: usize,
+    track: usize,
+    place: usize,
+    size: usize,
+) -> usize
+    requires { ⌜ (place + size ≤ length (now file)) × (at < 2 ^ 60) ⌝ }
+    ensures { λ r. ⌜ Put (entryLine i (record { track = track; place = place; bytes = take size (drop place (now (file .entry))) })) (now (out .entry)) at r (now (out .exit)) × (r ≤ at + 120) ⌝ }
+{
+    let to = place + size;
+    let code = number::word32(&file[place..to], 4);
+    let a = line::put_named(out, at, i, track, code);
+    line::put_placed(out, a, place, size)
+}
+
+// The line of entry i, from 0, and nothing where there is none.
+fn put_entry(out: &mut [u8], at: usize, file: &[u8], i: usize) -> usize
+    requires { ⌜ (length (now file) ≤ 1048576) × (i < 2 ^ 60) × (at < 2 ^ 60) ⌝ }
+    ensures { λ r. ⌜ Put (firstLine (i + 1) (drop i (entriesOf (now (file .entry))))) (now (out .entry)) at r (now (out .exit)) × (r ≤ at + 120) ⌝ }
+{
+    let number = i + 1;
+    match entry::entry(file, i) {
+        Named::At(e) => put_found(out, at, file, number, e.track, e.place, e.size),
+        Named::Missing => at,
+    }
+}
+
+// The lines of the entries, numbered over the file from 1.
+fn put_entries(out: &mut [u8], from: usize, file: &[u8]) -> usize
+    requires { ⌜ (length (now file) ≤ 1048576) × (from < 2 ^ 33) ⌝ }
+    ensures { λ r. ⌜ Put (entryLines 1 (entriesOf (now (file .entry)))) (now (out .entry)) from r (now (out .exit)) × (r < 2 ^ 34) ⌝ }
+{
+    let n = entry::entries(file);
+    let mut at = from;
+    let mut i = 0;
+    while i < n {
+        at = put_entry(out, at, file, i);
+        i += 1;
+    }
+    at
+}
+
+// The line of a brand.
+fn put_brand(out: &mut [u8], at: usize, file: &[u8], code: usize) -> usize
+    requires { ⌜ at < 2 ^ 60 ⌝ }
+    ensures { λ r. ⌜ Put (brandOf code (now (file .entry))) (now (out .entry)) at r (now (out .exit)) × (r ≤ at + 15) ⌝ }
+{
+    line::put_brand(out, at, code, brands::brand_holds(file, code))
+}
+
+fn put_brands(out: &mut [u8], at: usize, file: &[u8]) -> usize
+    requires { ⌜ at < 2 ^ 34 ⌝ }
+    ensures { λ r. ⌜ Put (brandLines (now (file .entry))) (now (out .entry)) at r (now (out .exit)) ⌝ }
+{
+    let a = put_brand(out, at, file, codes::GP4);
+    let b = put_brand(out, a, file, codes::GP5);
+    let c = put_brand(out, b, file, codes::GP6);
+    put_brand(out, c, file, codes::GR6)
+}
+
+// All of them.
+pub fn put_accepted(out: &mut [u8], file: &[u8]) -> usize
+    requires { ⌜ Meets (now file) ⌝ }
+    ensures { λ r. ⌜ Put (acceptedLines (now (file .entry))) (now (out .entry)) 0 r (now (out .exit)) ⌝ }
+{
+    let a = pen::put_part(out, 0, b"file 0\n");
+    let b = put_tracks(out, a, file);
+    let c = put_entries(out, b, file);
+    put_brands(out, c, file)
+}

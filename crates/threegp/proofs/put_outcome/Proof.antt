@@ -1,0 +1,13 @@
+use borrow.Author.Needs.{needs}
+use Rattle.threegp.proofs.Packing.{outcome-found, outcome-refused}
+use Rattle.threegp.proofs.put_outcome.Statement.{statement}
+use Rattle.threegp.proofs.put_outcome.Tie as tie
+
+pub put-outcome-spec : {M : Type 1} → statement M
+put-outcome-spec = tie.close (tie.spec
+    (λ c. search needs)
+    (λ c κs. search needs)
+    (λ c. search needs)
+    (λ c. search needs)
+    (λ c. outcome-found _ _ _ (c .before .before .before .before .before .outcome .given .1) (c .before .before .put-part .ensures .0) (c .before .before .put-part .ensures .1))
+    (λ c. outcome-refused _ _ (c .before .outcome2 .given .1)))

@@ -1,0 +1,11 @@
+use borrow.Author.Needs.{needs}
+use Rattle.threegp.proofs.Packing.{packs}
+use Rattle.threegp.proofs.threegp_record_write.Statement.{statement}
+use Rattle.threegp.proofs.threegp_record_write.Tie as tie
+
+pub threegp-record-write-spec : {M : Type 1} → statement M
+threegp-record-write-spec = tie.close (tie.spec
+    (λ c κs. search needs)
+    (λ c κs. search needs)
+    (λ c. search needs)
+    (λ c. (packs (c .pack .ensures) (c .before .before .before .write .ensures .0), c .before .before .before .write .ensures .1)))
