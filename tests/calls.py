@@ -13,6 +13,7 @@ CALLS = ROOT / "crates" / "calls"
 REAL = ROOT / "crates" / "cases" / "data"
 PACK = 60000
 ROOM = 40000
+LONG_ROOM = 1048700
 FILL = 0xAA
 KINDS = {"sheet": 1, "table": 2, "brand": 3, "tracks": 4, "track": 5, "offsets": 6, "shift": 7, "move": 8}
 KINDS.update({"listing": 9, "replace": 10, "newest": 11})
@@ -107,7 +108,7 @@ def move(label, file, room):
 def listing(label, file, room):
     line = line_bytes(lambda: answers.listing(file), room)
     if room >= len(answers.listing(file)):
-        line += "\n" + answers.listing(file).decode()[:-1]
+        line += "\n" + answers.listing(file).decode()
     return "listing", "listing %s room %d" % (label, room), room, (), b"", line
 
 
@@ -785,6 +786,51 @@ def groups():
     yield from real_groups()
 
 
+# ---- Files and sheets at the limits of length: a start, and zeros behind it
+
+
+def long_film(total):
+    """A film whose last box, a `free`, fills the file; the start of it."""
+    file = film(dict(films())["h263"], lambda moov, a, b: [Box("free", b"12"), a, moov, b])
+    return made(file + [Box("free", size=total - len(made(file)))])
+
+
+def long_edits(label, file):
+    n, plain, rates = len(file), one(d263()), one(d263(bitr()))
+    yield move(label, file, n)
+    yield shift(label, file, -60, n)
+    for room in (0, n - 1):
+        yield move(label, file, room)
+        yield shift(label, file, 840, room)
+    for room in (0, n, n + 15, n + 16):
+        yield replace(label, file, 1, "d263", plain, room)
+        yield replace(label, file, 1, "d263-rates", rates, room)
+    yield replace(label, file, 1, "bitr-code", bent(rates, 19, b"BITR"), 0)
+    yield replace(label, file, 3, "d263-rates", rates, 0)
+    yield shift(label, file, 841, 0)
+    yield sheet(label, file, 400)
+    yield listing(label, file, 400)
+
+
+def long_groups():
+    """(name, start, whole length, calls)."""
+    longest = files.LONGEST
+    for more in (-17, -16, -15, 0, 1):
+        total = longest + more
+        start = long_film(total)
+        file = start.ljust(total, b"\0")
+        yield "film-%d" % total, start, total, long_edits("film-%d" % total, file)
+    for size in (longest - 16, longest - 15):
+        start = sheet_of((1, OTHER), (2, Box_bytes("tx3g", bytes(8)).ljust(size, b"\0")))
+        start = bent(start, start.index(b"tx3g", 120) - 4, w(size))
+        given = start.ljust(100 + len(OTHER) + size, b"\0")
+        label, start = "body-%d" % size, start.rstrip(b"\0")
+        calls = [table(label, given, track, room) for track in (0, 1, 2, 3) for room in (0, longest - 1, longest, longest + 20)]
+        yield label, start, len(given), calls
+        yield label + "-more", start, len(given) + 1, [table(label + "-more", given + b"\0", 2, room) for room in (0, longest)]
+        yield label + "-less", start, len(given) - 1, [table(label + "-less", given[:-1], 2, room) for room in (0, longest)]
+
+
 # ---- The packs
 
 
@@ -794,7 +840,7 @@ def behind_length(data):
 
 def packed(call):
     kind, name, room, numbers, more, _ = call
-    assert room <= ROOM and len(name) < 256, name
+    assert len(name) < 256, name
     start = bytes([KINDS[kind]]) + w(room)
     for n in (tuple(numbers) + (0, 0, 0))[:3]:
         start += n.to_bytes(8, "big")
@@ -819,6 +865,7 @@ def packs_of(all_groups, kinds):
                 if call[1] in names:
                     assert names[call[1]] == (file, call), call[1]
                     continue
+                assert call[2] <= ROOM, call[1]
                 names[call[1]] = (file, call)
                 counts[call[0]] += 1
                 group += packed(call)
@@ -851,6 +898,16 @@ def main():
     for k, pack in enumerate(packs):
         assert len(pack) <= PACK
         (CALLS / "data" / ("pack%02d" % (k + 1))).write_bytes(pack)
+    for name, start, total, calls in long_groups():
+        assert total <= LONG_ROOM
+        data = w(total, len(start)) + start
+        for call in calls:
+            if call[0] in counts:
+                assert call[2] <= LONG_ROOM, call[1]
+                counts[call[0]] += 1
+                data += packed(call)
+                lines.append(call[1] + call[5])
+        (CALLS / "data" / name).write_bytes(data)
     (CALLS / "stdout").write_text("\n".join(lines) + "\n")
     program = (CALLS / "src" / "main.rt").read_text()
     for path in (CALLS / "data").glob("*"):

@@ -20,6 +20,8 @@ const SHIFT: usize = 7;
 
 const MOVE: usize = 8;
 
+const LISTING: usize = 9;
+
 const REPLACE: usize = 10;
 
 const NEWEST: usize = 11;
@@ -83,6 +85,9 @@ fn answer_bytes(kind: usize, file: &[u8], call: &[u8], out: &mut [u8]) -> Answer
     if kind == MOVE {
         return moving::move_moov(file, out);
     }
+    if kind == LISTING {
+        return listing::listing(file, out);
+    }
     if kind == REPLACE {
         return replace::replace(file, wide(call, 5), more(call), out);
     }
@@ -91,8 +96,12 @@ fn answer_bytes(kind: usize, file: &[u8], call: &[u8], out: &mut [u8]) -> Answer
 
 fn make_bytes(kind: usize, file: &[u8], call: &[u8], all: &mut [u8]) {
     let n = number::least(asked(call), all.len());
-    room::say(answer_bytes(kind, file, call, &mut all[0..n]));
+    let answer = answer_bytes(kind, file, call, &mut all[0..n]);
+    room::say(answer);
     room::sum_bytes(lend::front(all, n));
+    if kind == LISTING {
+        room::say_text(answer, all);
+    }
 }
 
 fn make_numbers(file: &[u8], call: &[u8], all: &mut [u64]) {
@@ -147,5 +156,12 @@ fn make_kind(kind: usize, file: &[u8], call: &[u8]) {
 pub fn make(file: &[u8], call: &[u8]) {
     io::write_all(1, name(call));
     make_kind(number::byte(call, 0), file, call);
+    io::write_all(1, b"\n");
+}
+
+// The same of a call that writes bytes, in a room that is lent.
+pub fn make_long(file: &[u8], call: &[u8], all: &mut [u8]) {
+    io::write_all(1, name(call));
+    make_bytes(number::byte(call, 0), file, call, all);
     io::write_all(1, b"\n");
 }

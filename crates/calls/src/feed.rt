@@ -41,7 +41,7 @@ fn make_groups(pack: &[u8]) {
     }
 }
 
-fn read(path: &[u8], buffer: &mut [u8; 65536]) -> usize
+pub fn read(path: &[u8], buffer: &mut [u8; 65536]) -> usize
     ensures { λ r. ⌜ r ≤ 65536 ⌝ }
 {
     let file = os::open_read(path);
@@ -54,7 +54,7 @@ fn read(path: &[u8], buffer: &mut [u8; 65536]) -> usize
     n
 }
 
-fn first(buffer: &[u8; 65536], n: usize) -> &[u8]
+pub fn first(buffer: &[u8; 65536], n: usize) -> &[u8]
     requires { ⌜ n ≤ 65536 ⌝ }
 {
     let all: &[u8] = buffer;

@@ -1,6 +1,7 @@
 // Makes the calls of tests/calls.py, and writes what each answers and leaves; the answers that are right stand in stdout.
 mod call;
 mod feed;
+mod long;
 mod room;
 
 fn main() {
@@ -26,4 +27,15 @@ fn main() {
     feed::run(b"pack20");
     feed::run(b"pack21");
     feed::run(b"pack22");
+    long::run(b"film-1048559");
+    long::run(b"film-1048560");
+    long::run(b"film-1048561");
+    long::run(b"film-1048576");
+    long::run(b"film-1048577");
+    long::run(b"body-1048560");
+    long::run(b"body-1048560-more");
+    long::run(b"body-1048560-less");
+    long::run(b"body-1048561");
+    long::run(b"body-1048561-more");
+    long::run(b"body-1048561-less");
 }

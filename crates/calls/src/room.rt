@@ -1,4 +1,5 @@
 // What is written of an answer, and of a room after it.
+use heads::lend;
 use newer::Outcome;
 use newer::Part;
 use verdict::Answer;
@@ -28,6 +29,19 @@ pub fn say(answer: Answer) {
         }
         Answer::Refused(n, p) => {
             say_refusal(n, p);
+        }
+    }
+}
+
+// The text that a room begins with, on lines of its own.
+pub fn say_text(answer: Answer, room: &[u8]) {
+    match answer {
+        Answer::Done(n) => {
+            io::write_all(1, b"\n");
+            io::write_all(1, lend::front(room, n));
+        }
+        Answer::Refused(n, p) => {
+            return;
         }
     }
 }
