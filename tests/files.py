@@ -1227,4 +1227,5 @@ def main():
     print(len(names), "files in", len(packs), "packs")
 
 
-main()
+if __name__ == "__main__":
+    main()

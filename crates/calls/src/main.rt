@@ -1,0 +1,41 @@
+// Makes the calls of tests/calls.py, and writes what each answers and leaves; the answers that are right stand in stdout.
+mod call;
+mod feed;
+mod long;
+mod room;
+
+fn main() {
+    feed::run(b"pack01");
+    feed::run(b"pack02");
+    feed::run(b"pack03");
+    feed::run(b"pack04");
+    feed::run(b"pack05");
+    feed::run(b"pack06");
+    feed::run(b"pack07");
+    feed::run(b"pack08");
+    feed::run(b"pack09");
+    feed::run(b"pack10");
+    feed::run(b"pack11");
+    feed::run(b"pack12");
+    feed::run(b"pack13");
+    feed::run(b"pack14");
+    feed::run(b"pack15");
+    feed::run(b"pack16");
+    feed::run(b"pack17");
+    feed::run(b"pack18");
+    feed::run(b"pack19");
+    feed::run(b"pack20");
+    feed::run(b"pack21");
+    feed::run(b"pack22");
+    long::run(b"film-1048559");
+    long::run(b"film-1048560");
+    long::run(b"film-1048561");
+    long::run(b"film-1048576");
+    long::run(b"film-1048577");
+    long::run(b"body-1048560");
+    long::run(b"body-1048560-more");
+    long::run(b"body-1048560-less");
+    long::run(b"body-1048561");
+    long::run(b"body-1048561-more");
+    long::run(b"body-1048561-less");
+}

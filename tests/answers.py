@@ -1,0 +1,293 @@
+"""What the calls of the library have to answer, worked out from the documents alone, apart from the library's code.
+
+A call answers its result (bytes, a list of numbers or a number), or raises its refusal. The room that a caller lends is
+looked at last, by `fit`."""
+import files
+from files import num, tiles, w
+
+KINDS = ["other", "mp4v", "mp4a", "samr", "sawb", "s263", "avc1"]
+BRANDS = ["3gp4", "3gp5", "3gp6", "3gr6"]
+HANDLERS = {b"vide": "vide", b"soun": "soun", b"text": "text"}
+RECORDS = {"samr": "damr", "sawb": "damr", "s263": "d263"}
+HEADS = {"samr": 36, "sawb": 36, "s263": 86}
+
+
+class Refusal(Exception):
+    def __init__(self, number, place=0):
+        self.number, self.place = number, place
+
+
+def ask(holds, number):
+    if not holds:
+        raise Refusal(number)
+
+
+def parsed(file):
+    """The boxes of an accepted file."""
+    number, place = files.judge(file)
+    if number != 0:
+        raise Refusal(number, place)
+    top = files.Found(0, "", file, "")
+    files.tree(file, 0, "", top)
+    return top
+
+
+def tracks_in(top):
+    return top.one("moov").all("trak")
+
+
+def entries_in(top):
+    """(track, code, place, the entry's bytes) of each sample entry in file order."""
+    found = []
+    for number, trak in enumerate(tracks_in(top), 1):
+        stsd = trak.one("mdia/minf/stbl/stsd")
+        for at, code, payload in tiles(stsd.payload[8:])[0]:
+            found.append((number, code, stsd.at + 16 + at, w(8 + len(payload)) + code.encode("latin-1") + payload))
+    return found
+
+
+def kind_of(code):
+    return KINDS.index(code) if code in KINDS[1:] else 0
+
+
+def named_track(top, track):
+    ask(1 <= track <= len(tracks_in(top)), 20)
+    return tracks_in(top)[track - 1]
+
+
+def handler_of(trak):
+    return trak.one("mdia/hdlr").payload[8:12]
+
+
+# ---- Reads
+
+
+def tracks(file):
+    return len(tracks_in(parsed(file)))
+
+
+def media_ticks(trak):
+    return sum(count * delta for count, delta in files.rows(trak.one("mdia/minf/stbl/stts").payload, 2))
+
+
+def scale_of(trak):
+    return num(trak.one("mdia/mdhd").payload, 12)
+
+
+def track(file, number):
+    trak = named_track(parsed(file), number)
+    return [num(handler_of(trak), 0), media_ticks(trak), scale_of(trak), num(trak.one("tkhd").payload, 20)]
+
+
+def offsets(file, number):
+    trak = named_track(parsed(file), number)
+    return [row[0] for row in files.rows(trak.one("mdia/minf/stbl/stco").payload, 1)]
+
+
+def brand_in(top, brand):
+    """Whether the answer for one of the four brands is yes."""
+    ftyp = top.inside[0].payload
+    listed = [ftyp[at : at + 4] for at in range(8, len(ftyp), 4)]
+    if brand.encode() not in listed or b"isom" not in listed:
+        return False
+    if brand == "3gr6":
+        return top.inside[1].code == "moov"
+    handlers = [handler_of(trak) for trak in tracks_in(top)]
+    if any(handlers.count(handler) > 1 for handler in HANDLERS):
+        return False
+    codes = [[code for track, code, _, _ in entries_in(top) if track == n] for n in range(1, len(handlers) + 1)]
+    if any(handler in (b"vide", b"soun") and len(own) != 1 for handler, own in zip(handlers, codes)):
+        return False
+    return brand == "3gp6" or not any("avc1" in own for own in codes)
+
+
+def brand(file, code):
+    top = parsed(file)
+    return sum(brand_in(top, name) for name in BRANDS if code == num(name.encode(), 0))
+
+
+def sheet(file):
+    found = entries_in(parsed(file))
+    slots = [bytes([kind_of(code), track, 0, 0]) + w(place, len(body)) for track, code, place, body in found]
+    bodies = [body for _, _, _, body in found]
+    return bytes([1, len(found), 0, 0]) + b"".join(slots).ljust(96, b"\0") + b"".join(bodies)
+
+
+def listing(file):
+    number, place = files.judge(file)
+    if number != 0:
+        return b"file %d at %d\n" % (number, place)
+    top = parsed(file)
+    lines = ["file 0"]
+    for n, trak in enumerate(tracks_in(top), 1):
+        name = HANDLERS.get(handler_of(trak), "other")
+        lines.append("track %d %s %d/%d" % (n, name, media_ticks(trak), scale_of(trak)))
+    for n, (track, code, place, body) in enumerate(entries_in(top), 1):
+        lines.append("entry %d track %d %s place %d size %d" % (n, track, KINDS[kind_of(code)], place, len(body)))
+    for name in BRANDS:
+        lines.append("brand %s %s" % (name, "yes" if brand_in(top, name) else "no"))
+    return "".join(line + "\n" for line in lines).encode()
+
+
+# ---- The table writer
+
+
+def body_fits(code, p):
+    """The rule of an entry apart from TimeScale, data reference and handler."""
+    handler = b"soun" if code in ("mp4a", "samr", "sawb") else b"vide"
+    return len(p) >= 8 and files.entry_fits(code, p[:6] + b"\0\1" + p[8:], handler, num(p, 24, 2), 1)
+
+
+def sheet_bodies(sheet):
+    """(track, body) of each slot; a sheet of another form is refused."""
+    ask(len(sheet) >= 100 and sheet[0] == 1 and 1 <= sheet[1] <= 8 and sheet[2:4] == b"\0\0", 30)
+    found, at, last = [], 100, 0
+    for slot in range(sheet[1]):
+        start = 4 + 12 * slot
+        kind, track, size = sheet[start], sheet[start + 1], num(sheet, start + 8)
+        ask(sheet[start + 2 : start + 4] == b"\0\0" and last <= track <= last + 1 and 1 <= track <= 4, 30)
+        body = sheet[at : at + size]
+        code = body[4:8].decode("latin-1")
+        ask(size >= 8 and len(body) == size and num(body, 0) == size, 30)
+        ask(kind_of(code) == kind and body_fits(code, body[8:]), 30)
+        found.append((track, body))
+        at, last = at + size, track
+    ask(at == len(sheet) and not any(sheet[4 + 12 * sheet[1] : 100]), 30)
+    return found
+
+
+def table(sheet, track):
+    found = sheet_bodies(sheet)
+    ask(1 <= track <= found[-1][0], 20)
+    bodies = [body for number, body in found if number == track]
+    ask(16 + sum(map(len, bodies)) <= files.LONGEST, 24)
+    return w(16 + sum(map(len, bodies))) + b"stsd" + w(0, len(bodies)) + b"".join(bodies)
+
+
+# ---- Edits
+
+
+def not_editable(top):
+    moov = top.one("moov")
+    if any(b.code in ("moof", "mfra", "sidx", "meta") for b in top.inside) or moov.all("meta"):
+        return True
+    for trak in tracks_in(top):
+        stbl = trak.one("mdia/minf/stbl")
+        if trak.all("meta") or stbl.all("co64") or stbl.all("saio"):
+            return True
+    return False
+
+
+def put(data, at, n):
+    data[at : at + 4] = w(n)
+
+
+def time_places(top):
+    for b in files.in_order(top):
+        if b.path in ("moov/mvhd", "moov/trak/tkhd", "moov/trak/mdia/mdhd"):
+            yield from (b.at + 8 + 4, b.at + 8 + 8)
+
+
+def minutes_right(minutes):
+    return -840 <= minutes <= 840
+
+
+def shift(file, minutes):
+    top = parsed(file)
+    ask(minutes_right(minutes), 22)
+    out = bytearray(file)
+    for at in time_places(top):
+        time = num(file, at)
+        if time != 0:
+            ask(1 <= time - 60 * minutes <= 2**32 - 1, 22)
+            put(out, at, time - 60 * minutes)
+    ask(not not_editable(top), 23)
+    return bytes(out)
+
+
+def chunks(top):
+    """(where its offset stands, its offset, its mdat) of each chunk of the file."""
+    for trak in tracks_in(top):
+        stbl = trak.one("mdia/minf/stbl")
+        stco, left = stbl.one("stco"), files.sizes(stbl.one("stsz").payload)
+        for k, ((offset,), count) in enumerate(zip(files.rows(stco.payload, 1), files.per_chunk(stbl))):
+            end = offset + sum(left[:count])
+            left = left[count:]
+            homes = [b for b in top.all("mdat") if b.at + 8 <= offset and end <= b.at + 8 + len(b.payload)]
+            assert len(homes) == 1
+            yield stco.at + 16 + 4 * k, offset, homes[0]
+
+
+def move(file):
+    top = parsed(file)
+    ask(not not_editable(top), 23)
+    moov = top.one("moov")
+    order = [top.inside[0], moov] + [b for b in top.inside[1:] if b is not moov]
+    places, at = {}, 0
+    for b in order:
+        places[b.at] = at
+        at += 8 + len(b.payload)
+    out = bytearray(file)
+    for where, offset, mdat in chunks(top):
+        put(out, where, offset + places[mdat.at] - mdat.at)
+    return b"".join(bytes(out[b.at : b.at + 8 + len(b.payload)]) for b in order)
+
+
+def record_fits(code, record):
+    return files.d263_fits(record) if code == "s263" else files.damr_fits(code, record)
+
+
+def around(top, track):
+    """The boxes from `moov` down to the `stsd` of a track."""
+    box = tracks_in(top)[track - 1]
+    yield from (top.one("moov"), box)
+    for code in ("mdia", "minf", "stbl", "stsd"):
+        box = box.one(code)
+        yield box
+
+
+def replace(file, entry, record):
+    top = parsed(file)
+    ask(1 <= entry <= len(entries_in(top)), 20)
+    track, code, place, body = entries_in(top)[entry - 1]
+    ask(code in RECORDS, 20)
+    ask(len(record) < 8 or record[4:8] == RECORDS[code].encode(), 20)
+    ask(record_fits(code, record), 21)
+    ask(not not_editable(top), 23)
+    more = len(record) - (len(body) - HEADS[code])
+    ask(len(file) + more <= files.LONGEST, 24)
+    out = bytearray(file)
+    for at in [b.at for b in around(top, track)] + [place]:
+        put(out, at, num(file, at) + more)
+    for where, offset, mdat in chunks(top):
+        put(out, where, offset + (more if mdat.at > top.one("moov").at else 0))
+    return bytes(out[: place + HEADS[code]] + record + out[place + len(body) :])
+
+
+# ---- The newer of two
+
+
+def changed(top, minutes):
+    return num(top.one("moov/mvhd").payload, 8) - 60 * minutes
+
+
+def newest(first, y, second, z, entry):
+    """Earlier, same, later as 0, 1, 2; the file of the entry; the entry's place and length."""
+    tops = []
+    for number, file in ((1, first), (2, second)):
+        try:
+            tops.append(parsed(file))
+        except Refusal as refusal:
+            raise Refusal(256 * number + refusal.number, refusal.place)
+    ask(minutes_right(y) and minutes_right(z), 22)
+    one, two = changed(tops[0], y), changed(tops[1], z)
+    order = 0 if one < two else 1 if one == two else 2
+    chosen = 2 if order == 0 else 1
+    found = entries_in(tops[chosen - 1])
+    ask(1 <= entry <= len(found), 20)
+    return [order, chosen, found[entry - 1][2], len(found[entry - 1][3])]
+
+
+def fit(result, room):
+    ask(len(result) <= room, 25)
+    return result

@@ -1,0 +1,920 @@
+#!/usr/bin/env python3
+"""Writes what the program `calls` is run on (crates/calls/data) and what it must write (crates/calls/stdout).
+
+The answers are those of tests/answers.py, which knows the documents and not the library's code."""
+import pathlib
+
+import answers
+import files
+from files import Box, audio, bitr, d263, damr, esds, h, listed, num, patch, visual, w
+
+ROOT = pathlib.Path(__file__).resolve().parent.parent
+CALLS = ROOT / "crates" / "calls"
+REAL = ROOT / "crates" / "cases" / "data"
+PACK = 60000
+ROOM = 40000
+LONG_ROOM = 1048700
+FILL = 0xAA
+KINDS = {"sheet": 1, "table": 2, "brand": 3, "tracks": 4, "track": 5, "offsets": 6, "shift": 7, "move": 8}
+KINDS.update({"listing": 9, "replace": 10, "newest": 11})
+NEEDS = {"listing": "listing", "replace": "replace", "newest": "newer"}
+MINUTES = [0, 1, -1, 60, -60, 61, -61, 839, -839, 840, -840, 841, -841, 71582788, -71582788, 2**63 - 1, -(2**63)]
+MINUTES += [2, -2, 2**32, -(2**32)]
+HUGE = [2**32, 2**32 + 1, 2**63, 2**64 - 1]
+
+
+# ---- What the program writes of a call
+
+
+def checksum(numbers):
+    total = 7
+    for n in numbers:
+        total = (total * 31 + n % 2**31) % 2**31
+    return total
+
+
+def told(call):
+    """What a call answers, and its result, None where it is refused."""
+    try:
+        result = call()
+    except answers.Refusal as refusal:
+        return ": %d at %d" % (refusal.number, refusal.place), None
+    return ": done %d" % (result if isinstance(result, int) else len(result)), result
+
+
+def line_bytes(call, room):
+    text, result = told(lambda: answers.fit(call(), room))
+    return text + " sum %d" % checksum((result or b"").ljust(room, bytes([FILL])))
+
+
+def line_numbers(call, room):
+    text, result = told(lambda: answers.fit(call(), room))
+    return text + "".join(" %d" % n for n in ((result or []) + [0xAAAAAAAAAAAAAAAA] * 8)[:8])
+
+
+def line_list(call, room):
+    text, result = told(lambda: answers.fit(call(), room))
+    return text + " sum %d" % checksum(((result or []) + [0xAAAAAAAA] * 200)[:200])
+
+
+def line_newest(call):
+    text, result = told(call)
+    return text if result is None else ": order %d file %d place %d size %d" % tuple(result)
+
+
+# ---- The calls. Each maker answers (kind, name, room, three numbers, more bytes, the line after the name).
+
+
+def sheet(label, file, room):
+    line = line_bytes(lambda: answers.sheet(file), room)
+    return "sheet", "sheet %s room %d" % (label, room), room, (), b"", line
+
+
+def table(label, given, track, room=600):
+    line = line_bytes(lambda: answers.table(given, track), room)
+    return "table", "table %s track %d room %d" % (label, track, room), room, (track,), b"", line
+
+
+def brand(label, file, code):
+    name = code if isinstance(code, str) else "0x%x" % code
+    code = num(code.encode(), 0) if isinstance(code, str) else code
+    return "brand", "brand %s of %s" % (name, label), 0, (code,), b"", told(lambda: answers.brand(file, code))[0]
+
+
+def tracks(label, file):
+    return "tracks", "tracks %s" % label, 0, (), b"", told(lambda: answers.tracks(file))[0]
+
+
+def track(label, file, number, room=8):
+    line = line_numbers(lambda: answers.track(file, number), room)
+    return "track", "track %d of %s room %d" % (number, label, room), room, (number,), b"", line
+
+
+def offsets(label, file, number, room=200):
+    line = line_list(lambda: answers.offsets(file, number), room)
+    return "offsets", "offsets %d of %s room %d" % (number, label, room), room, (number,), b"", line
+
+
+def shift(label, file, minutes, room):
+    line = line_bytes(lambda: answers.shift(file, minutes), room)
+    name = "shift %s by %d room %d" % (label, minutes, room)
+    return "shift", name, room, (MINUTES.index(minutes),), b"", line
+
+
+def move(label, file, room):
+    return "move", "move %s room %d" % (label, room), room, (), b"", line_bytes(lambda: answers.move(file), room)
+
+
+def listing(label, file, room):
+    line = line_bytes(lambda: answers.listing(file), room)
+    if room >= len(answers.listing(file)):
+        line += "\n" + answers.listing(file).decode()
+    return "listing", "listing %s room %d" % (label, room), room, (), b"", line
+
+
+def replace(label, file, entry, what, record, room):
+    line = line_bytes(lambda: answers.replace(file, entry, record), room)
+    return "replace", "replace %d of %s by %s room %d" % (entry, label, what, room), room, (entry,), record, line
+
+
+def newest(label, first, y, second, z, entry):
+    line = line_newest(lambda: answers.newest(first, y, second, z, entry))
+    numbers = (MINUTES.index(y), MINUTES.index(z), entry)
+    return "newest", "newest %s %d %d entry %d" % (label, y, z, entry), len(first), numbers, b"", line
+
+
+# ---- Files. A chunk's offset is counted from the payload of its own mdat.
+
+
+class At(files.Offset):
+    def __init__(self, mdat, more=0):
+        self.mdat, self.more = mdat, more
+
+    @property
+    def n(self):
+        return (self.mdat.place or 0) + 8 + self.more
+
+
+def made(file):
+    files.lay(file, 0, 0)
+    return files.lay(file, 0, 0)
+
+
+def media(length, first):
+    return Box("mdat", bytes((first + 7 * k) % 256 for k in range(length)))
+
+
+def chunked(number, entries, handler, scale, places, samples=None, delta=160):
+    """A track with one sample in each chunk: (mdat, place, size) of each."""
+    n = len(places)
+    runs = [(1, 1, len(entries))] if n else []
+    tables = [files.stts(*([(n, delta)] if n else [])), files.stsc(*runs), files.stsz(*[size for _, _, size in places])]
+    tables.append(Box("stco", w(0, n), *[At(mdat, at) for mdat, at, _ in places]))
+    return files.trak(number, entries, handler, scale, tables)
+
+
+def sawb():
+    return audio("sawb", damr(0x83FF))
+
+
+def avc1():
+    return visual("avc1", Box("avcC", b"any"), Box("btrt", bytes(12)), name=b"n" * 32)
+
+
+def other(code="tx3g", rest=b"rest"):
+    return Box(code, bytes(6), h(1), rest)
+
+
+def films():
+    """(name, maker of the tracks over the mdats a and b)."""
+    yield "h263", lambda a, b: [
+        chunked(1, [visual("s263", d263())], b"vide", 15, [(a, 0, 10), (b, 4, 8), (a, 24, 0)]),
+        chunked(7, [files.samr()], b"soun", 8000, [(b, 0, 16), (a, 3, 20), (b, 16, 0)]),
+    ]
+    yield "h263-rates", lambda a, b: [
+        chunked(1, [visual("s263", d263(bitr()))], b"vide", 15, [(b, 0, 16), (a, 0, 1)], delta=1),
+        chunked(2, [files.samr(period=2, frames=6)], b"soun", 8000, [(a, 23, 1)]),
+    ]
+    yield "speech", lambda a, b: [
+        chunked(3, [files.samr(), other(), sawb()], b"soun", 8000, [(a, 2, 4), (b, 2, 4)], delta=2**32 - 1),
+        chunked(2, [other()], b"text", 1000, []),
+    ]
+    yield "avc", lambda a, b: [
+        chunked(1, [avc1()], b"vide", 90000, [(b, 1, 3), (b, 1, 3), (a, 1, 3)]),
+        chunked(2, [audio("mp4a", esds(), scale=44100)], b"soun", 44100, [(a, 0, 24)]),
+        chunked(3, [other("text")], b"hint", 600, [(b, 16, 0)]),
+    ]
+
+
+def layouts():
+    free = Box("free", b"free!")
+    yield "front", lambda moov, a, b: [moov, a, b]
+    yield "back", lambda moov, a, b: [a, b, moov]
+    yield "middle", lambda moov, a, b: [a, moov, b]
+    yield "among-free", lambda moov, a, b: [Box("free"), a, free, moov, Box("skip", b"12"), b, Box("udta")]
+    yield "free-first", lambda moov, a, b: [free, moov, a, free, b]
+    yield "other-way", lambda moov, a, b: [b, free, moov, Box("mdat"), a, free]
+    yield "back-and-more", lambda moov, a, b: [a, Box("trak", b"torn"), b, Box("mdat", b"12"), moov, free]
+
+
+ALL_BRANDS = ("3gp4", "3gp5", "3gp6", "3gr6", "isom")
+
+
+def set_times(file, *times):
+    """Creation and modification times of mvhd, then of tkhd and mdhd of each track, as far as they go."""
+    boxes = [files.get(file, "mvhd")]
+    for n in range(len(files.boxes_of(boxes_body(file), "trak"))):
+        boxes += [files.get(file, "tkhd", n), files.get(file, "mdhd", n)]
+    for k, time in enumerate(times[: 2 * len(boxes)]):
+        patch(boxes[k // 2], 4 + 4 * (k % 2), w(time))
+    return file
+
+
+def boxes_body(file):
+    return files.get(file, "moov").body
+
+
+def film(tracks_of, layout, brands=ALL_BRANDS, times=None):
+    a, b = media(24, 1), media(16, 99)
+    moov = Box("moov", files.mvhd(), *tracks_of(a, b))
+    file = [files.ftyp(*brands)] + layout(moov, a, b)
+    set_times(file, *(times or [10**9 + 12345 * k if k % 4 != 1 else 0 for k in range(20)]))
+    if times is None:
+        patch(files.get(file, "mvhd"), 8, w(3 * 10**9))
+    return file
+
+
+def all_films():
+    for name, tracks_of in films():
+        for place, layout in layouts():
+            yield name + "-" + place, made(film(tracks_of, layout))
+
+
+# ---- Groups: (a file, the calls on it)
+
+
+def rooms(n):
+    return [n, n - 1, n + 9, 0]
+
+
+def reads_of(label, file):
+    count = answers.tracks(file)
+    yield tracks(label, file)
+    for n in range(0, count + 2):
+        yield track(label, file, n)
+        yield offsets(label, file, n)
+    for name in answers.BRANDS:
+        yield brand(label, file, name)
+    for room in rooms(len(answers.sheet(file))):
+        yield sheet(label, file, room)
+    for room in rooms(len(answers.listing(file))):
+        yield listing(label, file, room)
+
+
+def edits_of(label, file):
+    for minutes in (0, 60, -60, 840, -840, 841):
+        yield shift(label, file, minutes, len(file) + 3)
+    for room in rooms(len(file)):
+        yield shift(label, file, 1, room)
+        yield move(label, file, room)
+
+
+def one(box):
+    return files.lay([box], 0, 0)
+
+
+def records():
+    yield "damr", one(damr(0x8001, 0, 15))
+    yield "d263", one(d263())
+    yield "d263-rates", one(d263(Box("bitr", w(7, 2**32 - 1))))
+
+
+def replacements_of(label, file):
+    found = answers.entries_in(answers.parsed(file))
+    for entry in range(0, len(found) + 2):
+        for what, record in records():
+            yield replace(label, file, entry, what, record, len(file) + 20)
+    for entry, (_, code, place, body) in enumerate(found, 1):
+        for what, record in records():
+            if code in answers.RECORDS and answers.RECORDS[code] in what:
+                n = len(answers.replace(file, entry, record))
+                for room in (n, n - 1, 0):
+                    yield replace(label, file, entry, what, record, room)
+
+
+def film_groups():
+    for label, file in all_films():
+        yield file, [*reads_of(label, file), *edits_of(label, file), *replacements_of(label, file)]
+
+
+def every_call(label, file):
+    """Each call once, with room enough and with none."""
+    yield tracks(label, file)
+    for name in ("3gp4", "3gp5", "3gp6", "3gr6", "mp42"):
+        yield brand(label, file, name)
+    for number in (0, 1, 5):
+        yield track(label, file, number)
+        yield offsets(label, file, number)
+    for room in (0, 2000):
+        yield sheet(label, file, room)
+        yield listing(label, file, room)
+        yield move(label, file, room)
+        yield shift(label, file, 0, room)
+    for minutes in (841, -841):
+        yield shift(label, file, minutes, 0)
+    for entry, what, record in ((1, "damr", one(damr())), (0, "damr", one(damr())), (1, "nothing", b"")):
+        yield replace(label, file, entry, what, record, 2000)
+
+
+def refused_groups():
+    """Files that are refused: their number and place come before all else."""
+    seen = {}
+    for name, parts, _ in files.cases():
+        number = name.split("-")[0]
+        file = files.build(parts)
+        seen[number] = seen.get(number, 0) + 1
+        if number != "0" and seen[number] % 23 == 2 and len(file) < 2000:
+            yield file, every_call(name, file)
+
+
+# ---- Brands and what the listing says of handlers and codes
+
+
+def branded(label, brands, *tracks_given, before=(), after=()):
+    file = [files.ftyp(*brands), *before, Box("moov", files.mvhd(), *tracks_given), *after, Box("mdat", bytes(32))]
+    return label, files.build(file)
+
+
+def brand_files():
+    def vision(number, *entries):
+        return files.visual_track(*(entries or [visual("s263", d263())]), number=number)
+
+    def sound(number, *entries):
+        return files.trak(number, list(entries) or None)
+
+    def words(number, handler=b"text", count=1):
+        return files.trak(number, [other() for _ in range(count)], handler)
+
+    every = ALL_BRANDS
+    yield branded("all", every, sound(1))
+    yield branded("no-isom", every[:4], sound(1))
+    yield branded("isom-first", ("isom", "3gp5"), sound(1))
+    yield branded("isom-only", ("isom",), sound(1))
+    yield branded("ISOM", ("3gp6", "ISOM"), sound(1))
+    yield branded("repeats", ("3gp6", "isom", "3gp6", "isom", "3gp6"), sound(1))
+    yield branded("sixteen", ("mp42",) * 12 + ("isom", "3gp4", "3gp5", "3gr6"), sound(1))
+    yield branded("major-only", ("isom", "mp42"), sound(1))
+    yield branded("shifted", ("x3gp", "6iso", "misom"[:4], "isom"), sound(1))
+    for name in every[:4]:
+        yield branded("only-" + name, (name, "isom"), sound(1))
+        yield branded("without-" + name, [b for b in every if b != name], sound(1))
+    yield branded("three-handlers", every, vision(1), sound(2), words(3))
+    yield branded("four-handlers", every, vision(1), sound(2), words(3), words(4, b"hint"))
+    yield branded("two-vide", every, vision(1), vision(2))
+    yield branded("two-soun", every, sound(1), sound(2))
+    yield branded("two-text", every, words(1), words(2))
+    yield branded("two-hint", every, words(1, b"hint"), words(2, b"hint"))
+    yield branded("two-vide-apart", every, vision(1), sound(2), words(3), vision(4))
+    yield branded("two-soun-last", every, vision(1), words(2), sound(3), sound(4))
+    yield branded("three-other", every, words(1, b"hint"), words(2, b"hint"), words(3, b"Text"), words(4, b"soun"))
+    yield branded("vide-two-entries", every, vision(1, visual("s263", d263()), visual("mp4v", esds())))
+    yield branded("soun-two-entries", every, sound(1, files.samr(), files.samr()))
+    yield branded("text-two-entries", every, words(1, b"text", 2))
+    yield branded("hint-three-entries", every, words(1, b"hint", 3))
+    yield branded("text-eight-entries", every, words(1, b"text", 8))
+    yield branded("avc1", every, vision(1, avc1()))
+    yield branded("avc1-second-track", every, sound(1), vision(2, avc1()))
+    yield branded("avc1-second-entry", every, vision(1, visual("s263", d263()), avc1()))
+    yield branded("vide-of-other", every, words(1, b"vide"))
+    yield branded("AVC1", every, vision(1, other("AVC1")))
+    yield branded("free-before-moov", every, sound(1), before=[Box("free")])
+    yield branded("mdat-before-moov", every, sound(1), before=[Box("mdat", bytes(32))])
+    yield branded("free-after-moov", every, sound(1), after=[Box("free")])
+    yield branded("two-soun-free-before", every, sound(1), sound(2), before=[Box("free")])
+    yield branded("handler-zero", every, words(1, bytes(4)), words(2, b"\xff\xff\xff\xff"), words(3, b"SOUN"))
+    codes = ("mp4v", "mp4a", "samr", "sawb", "s263", "avc1")
+    yield branded("codes-in-case", every, files.trak(1, [other(code.upper()) for code in codes], b"text"))
+
+
+def brand_groups():
+    for label, file in brand_files():
+        calls = [brand(label, file, name) for name in answers.BRANDS]
+        calls += [brand(label, file, name) for name in ("isom", "3gp7", "3GP6")]
+        calls += [brand(label, file, n) for n in (0, 2**32 + num(b"3gp6", 0), 2**64 - 1)]
+        yield file, calls + [listing(label, file, 900), sheet(label, file, 1500), tracks(label, file)]
+
+
+# ---- The sheet and the table writer
+
+
+def entries_of_all_kinds():
+    yield "other", other()
+    yield "other-8", Box("text", bytes(6), h(9))
+    yield "other-zero-code", Box("\0\0\0\0", bytes(6), h(0), b"x")
+    yield "mp4v", visual("mp4v", esds(), reference=0)
+    yield "mp4a", audio("mp4a", esds(b""), scale=1)
+    yield "samr", files.samr()
+    yield "sawb", audio("sawb", damr(0x83FF), reference=65535, scale=16000)
+    yield "s263", visual("s263", d263())
+    yield "s263-rates", visual("s263", d263(bitr()), reference=0)
+    yield "avc1", avc1()
+
+
+def sheet_of(*bodies):
+    """A sheet of (track, entry's bytes), with places that mean nothing."""
+    slots = b""
+    for track, body in bodies:
+        slots += bytes([answers.kind_of(body[4:8].decode("latin-1")), track, 0, 0]) + w(77, len(body))
+    return bytes([1, len(bodies), 0, 0]) + slots.ljust(96, b"\0") + b"".join(body for _, body in bodies)
+
+
+def bent(given, at, data):
+    return given[:at] + bytes(data) + given[at + len(bytes(data)) :]
+
+
+SAMR, AVC1, OTHER = one(files.samr()), one(avc1()), one(other())
+
+
+def good_sheets():
+    kinds = dict(entries_of_all_kinds())
+    for name, entry in kinds.items():
+        yield name, sheet_of((1, one(entry)))
+    yield "three-tracks", sheet_of((1, SAMR), (1, AVC1), (2, OTHER), (3, SAMR), (3, SAMR))
+    yield "four-tracks", sheet_of((1, OTHER), (2, SAMR), (3, AVC1), (4, OTHER))
+    yield "eight", sheet_of(*[(1 + k // 2, SAMR) for k in range(8)])
+    yield "eight-in-one", sheet_of(*[(1, OTHER) for _ in range(8)])
+    three = sheet_of((1, SAMR), (1, AVC1), (2, OTHER))
+    for place in (0, 2**32 - 1):
+        yield "place-%d" % place, bent(bent(three, 8, w(place)), 20, w(place))
+
+
+def bent_sheets():
+    three = sheet_of((1, SAMR), (1, AVC1), (2, OTHER))
+    for name, at, values in (("edition", 0, (0, 2, 255)), ("count", 1, (0, 1, 2, 4, 8, 9, 255))):
+        for value in values:
+            yield "%s-%d" % (name, value), bent(three, at, [value])
+    for at in [2, 3, 6, 7, 18, 19, 30, 31, *range(40, 52), 52, 63, 88, 96, 99]:
+        yield "byte-%d" % at, bent(three, at, [1])
+    yield "byte-255-at-40", bent(three, 40, [255])
+    for name, numbers in (
+        ("0-1-2", (0, 1, 2)), ("0-0-0", (0, 0, 0)), ("2-2-2", (2, 2, 2)), ("2-1-2", (2, 1, 2)), ("1-2-1", (1, 2, 1)),
+        ("1-3-3", (1, 3, 3)), ("1-1-3", (1, 1, 3)), ("1-1-0", (1, 1, 0)), ("1-2-255", (1, 2, 255)), ("255-255-255", (255,) * 3),
+    ):
+        yield "tracks-" + name, sheet_of(*zip(numbers, (SAMR, AVC1, OTHER)))
+    for numbers in ((1, 2, 3, 4, 5), (1, 2, 3, 4, 3), (1, 2, 3, 5, 5), (5, 5, 5, 5, 5), (1, 2, 2, 4, 4)):
+        yield "tracks-" + "-".join(map(str, numbers)), sheet_of(*[(n, OTHER) for n in numbers])
+    for name, entry in entries_of_all_kinds():
+        given = sheet_of((1, one(entry)))
+        for kind in range(0, 8):
+            if kind != given[4]:
+                yield "%s-as-kind-%d" % (name, kind), bent(given, 4, [kind])
+        yield name + "-kind-255", bent(given, 4, [255])
+        for code in ("samr", "sawb", "avc1", "text", "s263", "mp4v"):
+            if answers.kind_of(code) != given[4]:
+                yield "%s-of-code-%s" % (name, code), bent(given, 104, code.encode())
+        yield name + "-size-more", bent(given, 100, w(num(given, 100) + 1))
+        yield name + "-size-less", bent(given, 100, w(num(given, 100) - 1))
+        yield name + "-size-0", bent(given, 100, w(0))
+        yield name + "-length-more", bent(given, 12, w(num(given, 12) + 1))
+        yield name + "-length-less", bent(given, 12, w(num(given, 12) - 1))
+        yield name + "-both-more", bent(bent(given, 12, w(num(given, 12) + 1)), 100, w(num(given, 100) + 1))
+        yield name + "-byte-after", given + b"\0"
+        yield name + "-cut", given[:-1]
+        yield name + "-first-byte-of-6", bent(given, 108, [1])
+        yield name + "-last-byte-of-6", bent(given, 113, [1])
+    two = sheet_of((1, SAMR), (1, OTHER))
+    yield "lengths-shifted", bent(bent(two, 12, w(len(SAMR) + 1)), 24, w(len(OTHER) - 1))
+    yield "length-0", bent(two, 24, w(0))
+    yield "length-huge", bent(two, 24, w(2**32 - 1))
+    yield "length-wraps", bent(two, 24, w(2**32 - len(SAMR)))
+    yield "box-after", two + one(Box("free"))
+    for n in (0, 1, 2, 4, 8, 16, 50, 99, 100, 101, 104, 108, 152, 153, 160):
+        yield "first-%d" % n, two[:n]
+    yield "other-of-15", sheet_of((1, Box_bytes("text", bytes(7))))
+    yield "other-of-8", sheet_of((1, Box_bytes("text", b"")))
+    for what, entry, _, _ in files.entry_cases():
+        reference = "reference" in what or "scale" in what or "-for-" in what
+        yield ("rule-but-" if reference else "rule-") + what, sheet_of((1, one(entry)))
+
+
+def Box_bytes(code, body):
+    return one(Box(code, body))
+
+
+def table_groups():
+    for name, given in good_sheets():
+        label, last = "good-" + name, answers.sheet_bodies(given)[-1][0]
+        calls = [table(label, given, n) for n in (0, last + 1, 255, 256 + last, *HUGE)]
+        for n in range(1, last + 1):
+            calls += [table(label, given, n, room) for room in rooms(len(answers.table(given, n)))]
+        yield given, calls + [table(label, given, 0, 0), table(label, given, last + 1, 0)]
+    for k, (name, given) in enumerate(bent_sheets()):
+        label = "bent-" + name
+        calls = [table(label, given, 1)]
+        if k % 4 == 0:
+            calls += [table(label, given, 0), table(label, given, 9, 0), table(label, given, 1, 0)]
+        yield given, calls
+    for label, file in all_films():
+        if label.endswith("-middle"):
+            given = answers.sheet(file)
+            yield given, [table("of-" + label, given, n) for n in range(0, answers.tracks(file) + 2)]
+    yield made(files.movie()), [table("a-file", files.build(files.movie()), 1)]
+
+
+# ---- Shifts
+
+
+def timed(*times):
+    return files.build(set_times(files.movie(files.trak(1), files.trak(2)), *times))
+
+
+def shift_groups():
+    limits = [0, 1, 3599, 3600, 3601, 50400, 50401, 2**31, 2**32 - 50401, 2**32 - 50400, 2**32 - 3600, 2**32 - 1]
+    middle = 2**31
+    for time in limits:
+        for k in range(10):
+            if k % 5 != 0 and time not in (0, 3600, 50400, 2**32 - 50400):
+                continue
+            times = [middle] * 10
+            times[k] = time
+            file = timed(*times)
+            label = "time-%d-at-%d" % (time, k)
+            yield file, [shift(label, file, z, len(file)) for z in (60, -60, 840, -840, 839, -839, 0, 61, -61)]
+    for time in (0, 1, 50400, 50401, 2**32 - 1, 2**32 - 50401, 3600):
+        file = timed(*[time] * 10)
+        label = "all-times-%d" % time
+        calls = [shift(label, file, z, len(file) + 8) for z in MINUTES]
+        yield file, calls + [shift(label, file, z, 0) for z in (841, 0, 60, -840)]
+    file = timed(*range(10**6, 10**6 + 10))
+    yield file, [shift("apart", file, z, room) for z in MINUTES[:7] for room in (len(file), len(file) - 1, 4000)]
+    file = [files.ftyp("isom"), Box("mvhd", w(0, 5, 6, 7)), Box("moov", Box("tkhd", w(0, 1, 1)), files.mvhd(), files.trak(1))]
+    file += [Box("mdat", bytes(32))]
+    files.get(file, "trak").body[0:0] = [Box("mdhd", w(0, 1, 1)), Box("mvhd", w(0, 9, 9))]
+    patch(files.get(file, "mvhd"), 4, w(10**6, 10**6))
+    patch(files.get(file, "tkhd"), 4, w(0, 10**6))
+    patch(files.get(file, "mdhd"), 4, w(10**6, 0))
+    data = files.build(file)
+    yield data, [shift("strays", data, z, len(data)) for z in (60, -60, 840)]
+
+
+# ---- Refusal 23
+
+
+def marked_file(where, code, payload=b"any"):
+    a, b = media(24, 1), media(16, 99)
+    file = [files.ftyp(*ALL_BRANDS), a, Box("moov", files.mvhd(), *dict(films())["h263"](a, b)), b]
+    set_times(file, *[10**9] * 10)
+    box = Box(code, payload)
+    if where == "top-last":
+        file.append(box)
+    elif where == "top-second":
+        file.insert(1, box)
+    elif where == "mdat":
+        file.append(Box("mdat", one(box)))
+    elif where == "udta":
+        boxes_body(file).append(Box("udta", box))
+    elif where == "entry-mdia":
+        files.get(file, "mdia", 1).body.append(Box("stbl", box))
+    else:
+        name, track = where.rsplit("-", 1)
+        files.get(file, name, int(track) - 1).body.append(box)
+    return made(file)
+
+
+def marked_files():
+    tops, stbls = ("moof", "mfra", "sidx", "meta"), ("co64", "saio")
+    for code in tops:
+        for where in ("top-last", "top-second"):
+            yield code, where
+    for where in ("moov-1", "trak-1", "trak-2"):
+        yield "meta", where
+    for code in stbls:
+        for where in ("stbl-1", "stbl-2"):
+            yield code, where
+    # places that don't count
+    for code in ("moof", "mfra", "sidx"):
+        for where in ("moov-1", "trak-2", "stbl-1", "mdat"):
+            yield code, where
+    for where in ("mdia-1", "minf-2", "dinf-1", "stbl-2", "udta", "mdat"):
+        yield "meta", where
+    for code in stbls:
+        for where in ("top-last", "top-second", "moov-1", "trak-1", "mdia-2", "minf-1", "dinf-2", "entry-mdia"):
+            yield code, where
+    for code in ("MOOF", "meTa", "sidy", "saiz"):
+        yield code, "top-last"
+        yield code, "stbl-1"
+
+
+def marked_groups():
+    for code, where in marked_files():
+        for payload in (b"any", b""):
+            if payload == b"" and where not in ("top-last", "stbl-2", "trak-2", "moov-1"):
+                continue
+            file = marked_file(where, code, payload)
+            label = "%s-in-%s-%d" % (code, where, len(payload))
+            n = len(file)
+            calls = [shift(label, file, 60, n), shift(label, file, 0, n - 1), shift(label, file, 841, n), move(label, file, n)]
+            calls += [move(label, file, 0), brand(label, file, "3gp6"), tracks(label, file)]
+            for entry, what, record in ((1, "d263", one(d263())), (1, "short", one(d263())[:14]), (2, "d263", one(d263()))):
+                calls.append(replace(label, file, entry, what, record, n))
+            calls.append(replace(label, file, 1, "d263", one(d263()), 0))
+            calls.append(replace(label, file, 2, "83ff", one(damr(0x83FF)), 0))
+            yield file, calls
+    times = [10**9] * 9
+    file = set_times(files.movie(files.trak(1), files.trak(2)), *times, 3599)
+    data = files.build(file + [Box("moof")])
+    calls = [shift("moof-and-3599", data, z, room) for z in (60, 0, -60, 840, 841) for room in (0, len(data))]
+    yield data, calls
+
+
+# ---- Records that are given
+
+
+def given_records():
+    good = one(damr())
+    for what, record in (("damr", good), ("all-modes", one(damr(0x83FF))), ("modes-0", one(damr(0)))):
+        yield what, record
+    for fields in ((0x81FF, 0, 15), (0x81FF, 0, 16), (0x81FF, 0, 0), (1, 2, 6), (1, 4, 6), (1, 6, 2), (1, 30, 15), (0x4000, 0, 1)):
+        yield "damr-%x-%d-%d" % fields, one(damr(*fields))
+    yield "vendor", bent(good, 8, b"\xff\xfe\xfd\xfc\xfb")
+    for n in range(0, 17):
+        yield "damr-first-%d" % n, good[:n]
+    yield "damr-and-0", good + b"\0"
+    yield "damr-twice", good + good
+    for size in (0, 1, 8, 15, 16, 18, 2**32 - 1, 17 + 2**24):
+        yield "damr-size-%d" % size, w(size) + good[4:]
+    yield "damr-of-18", one(Box("damr", good[8:], b"\0"))
+    yield "damr-of-16", one(Box("damr", good[8:-1]))
+    for code in ("DAMR", "d263", "damq", "free", "samr"):
+        yield "17-of-" + code, bent(good, 4, code.encode())
+    yield "code-only", w(8) + b"damr"
+    yield "code-only-d263", w(8) + b"d263"
+    plain, rates = one(d263()), one(d263(bitr()))
+    yield "d263", plain
+    yield "d263-rates", rates
+    yield "d263-other-rates", one(Box("d263", b"\xff" * 7, Box("bitr", b"\xff" * 8)))
+    for n in (7, 8, 14, 16, 22, 23, 30):
+        yield "d263-rates-first-%d" % n, rates[:n]
+        yield "d263-rates-first-%d-sized" % n, w(n) + rates[4:n] if n >= 8 else w(n) + rates[4:n]
+    yield "d263-and-0", plain + b"\0"
+    yield "d263-rates-and-0", rates + b"\0"
+    yield "d263-size-15-of-31", w(15) + rates[4:]
+    yield "d263-size-31-of-15", w(31) + plain[4:]
+    yield "bitr-outside", plain + one(bitr())
+    yield "bitr-size-15", bent(rates, 15, w(15))
+    yield "bitr-size-17", bent(rates, 15, w(17))
+    yield "bitr-code", bent(rates, 19, b"BITR")
+    yield "bitr-twice", one(d263(bitr(), bitr()))
+    yield "empty", b""
+
+
+def record_groups():
+    a, b = media(24, 1), media(16, 99)
+    entries = [files.samr(), sawb(), other(), audio("mp4a", esds())]
+    sound = chunked(1, entries, b"soun", 8000, [(a, 0, 1), (b, 0, 1)])
+    vision = chunked(2, [visual("s263", d263()), visual("s263", d263(bitr())), avc1()], b"vide", 15, [(a, 4, 4), (b, 5, 5)])
+    file = made([files.ftyp(*ALL_BRANDS), a, Box("moov", files.mvhd(), sound, vision), b])
+    calls = []
+    for what, record in given_records():
+        for entry in range(1, 8):
+            calls.append(replace("seven", file, entry, what, record, len(file) + 16))
+        calls.append(replace("seven", file, 0, what, record, 0))
+        calls.append(replace("seven", file, 8, what, record, 0))
+        calls.append(replace("seven", file, 1, what, record, 0))
+        calls.append(replace("seven", file, 5, what, record, 0))
+    for entry in HUGE:
+        calls.append(replace("seven", file, entry, "damr", one(damr()), 4000))
+    yield file, calls
+
+
+# ---- The newer of two
+
+
+def dated(time, *tracks_given):
+    file = files.movie(*tracks_given)
+    patch(files.get(file, "mvhd"), 4, w(77, time))
+    return files.build(file)
+
+
+def newest_groups():
+    """The two files stand one after the other, and the room says where the first ends."""
+
+    def two(time):
+        return dated(time, files.trak(1), files.visual_track(avc1(), visual("s263", d263()), number=2))
+
+    pairs = [(10**9, 10**9), (10**9, 10**9 + 1), (10**9 + 1, 10**9), (0, 0), (0, 1), (1, 0), (0, 3600), (3600, 0)]
+    pairs += [(2**32 - 1, 0), (0, 2**32 - 1), (50400, 50400), (0, 100800), (100801, 0), (2**31, 2**31 + 60)]
+    zones = [(0, 0), (60, 0), (0, 60), (-60, 0), (0, -60), (840, -840), (-840, 840), (840, 840), (-840, -840), (1, 2)]
+    zones += [(-1, -2), (841, 0), (0, 841), (0, -841), (-841, 841), (2**63 - 1, -(2**63)), (-(2**63), 0), (0, 2**63 - 1)]
+    for first, second in pairs:
+        one_file, other_file = two(first), dated(second)
+        label = "%d-%d" % (first, second)
+        calls = [newest(label, one_file, y, other_file, z, n) for y, z in zones for n in (1, 2)]
+        calls += [newest(label, one_file, 0, other_file, 0, n) for n in (0, 3, 4, *HUGE)]
+        calls += [newest(label, one_file, 841, other_file, 0, 0), newest(label, one_file, 0, other_file, 60, 3)]
+        yield one_file + other_file, calls
+        yield other_file + one_file, [newest("back-" + label, other_file, y, one_file, z, n) for y, z in zones[:10] for n in (1, 3)]
+    good = two(10**9)
+    bad = {}
+    for name, parts, _ in files.cases():
+        file = files.build(parts)
+        if name[:2] != "0-" and len(file) < 1500:
+            bad.setdefault(name.split("-")[0], (name, file))
+    for name, file in bad.values():
+        yield good + file, [newest("good-and-" + name, good, y, file, 0, n) for y in (0, 841) for n in (0, 1)]
+        yield file + good, [newest(name + "-and-good", file, y, good, 0, n) for y in (0, 841) for n in (0, 1)]
+    values = list(bad.values())
+    for (a, first), (b, second) in zip(values, values[1:] + values[:1]):
+        yield first + second, [newest("%s-and-%s" % (a, b), first, 0, second, 841, 0)]
+
+
+# ---- Single files
+
+
+def plain_files():
+    yield "example", files.build(files.movie())
+    f = files.movie()
+    yield "example-moov-last", files.build([f[0], f[2], f[1]])
+    yield "example-free-between", files.build(files.movie()[:1] + [Box("free")] + files.movie()[1:])
+    yield "moov-in-place-far", files.build(files.movie() + [Box("free", bytes(300)), Box("mdat", b"more")])
+    none = [files.stts(), files.stsc(), files.stsz(), files.stco()]
+    yield "no-chunks", files.build(files.movie(files.trak(tables=none))[:2])
+    many = [files.stts((150, 3), (0, 9), (50, 2**32 - 1)), files.stsc((1, 1, 1)), Box("stsz", w(0, 1, 200))]
+    yield "200-chunks", files.build(files.movie(files.trak(tables=many + [files.stco(*[k % 32 for k in range(200)])])))
+    empty = Box("mdat")
+    moov = Box("moov", files.mvhd(), chunked(1, [visual("s263", d263())], b"vide", 15, [(empty, 0, 0)]))
+    yield "empty-mdat-before-moov", made([files.ftyp("isom", "3gp6"), Box("free", b"12"), empty, moov])
+    empty = Box("mdat")
+    moov = Box("moov", files.mvhd(), chunked(1, [visual("s263", d263())], b"vide", 15, [(empty, 0, 0)]))
+    yield "empty-mdat-after-moov", made([files.ftyp("isom", "3gp6"), moov, Box("free", b"12"), empty])
+    a = media(6, 5)
+    moov = Box("moov", files.mvhd(), chunked(1, [visual("s263", d263(bitr()))], b"vide", 15, [(a, 6, 0), (a, 0, 6), (a, 6, 0)]))
+    yield "nothing-at-the-end-before-moov", made([files.ftyp("isom", "3gp6"), Box("skip", b"123"), a, moov, media(3, 1)])
+    a = media(32, 5)
+    moov = Box("moov", files.mvhd(), Box("mdat", b"in moov"), chunked(1, [files.samr()], b"soun", 8000, [(a, 0, 32)]))
+    yield "mdat-in-moov", made([files.ftyp("isom", "3gp6"), Box("udta", one(Box("mdat", b"x"))), a, moov])
+    yield "four-tracks", files.build(files.movie(files.trak(9), files.trak(2**32 - 1), files.trak(3), files.trak(4)))
+    eight = [files.trak(1, [files.samr()] * 3), files.trak(2, [files.samr(), sawb()]), files.trak(3, [other()] * 3, b"text")]
+    yield "eight-entries", files.build(files.movie(*eight))
+    f = files.movie(files.trak(1), files.visual_track(visual("s263", d263()), number=2))
+    files.turned(f[1].body)
+    yield "turned", files.build([f[0], f[2], f[1]])
+    f = files.movie()
+    patch(files.get(f, "tkhd"), 20, w(2**32 - 1))
+    patch(files.get(f, "mdhd"), 16, w(2**32 - 2))
+    yield "far-ticks", files.build(f)
+
+
+def plain_groups():
+    for label, file in plain_files():
+        calls = [*reads_of(label, file), *edits_of(label, file), *replacements_of(label, file)]
+        for n in HUGE:
+            calls += [track(label, file, n), offsets(label, file, n)]
+        for room in range(0, 6):
+            calls.append(track(label, file, 1, room))
+        for track_number in (0, 1, 9):
+            for room in (0, 1, 2, 3, 199):
+                calls.append(offsets(label, file, track_number, room))
+            calls.append(track(label, file, track_number, 2 if track_number != 1 else 7))
+        yield file, calls
+
+
+def real_groups():
+    for path in sorted(REAL.glob("*.3gp")):
+        label, file = path.stem, path.read_bytes()
+        n = len(file)
+        calls = [listing(label, file, 900), listing(label, file, 5), tracks(label, file), sheet(label, file, 600)]
+        calls += [brand(label, file, name) for name in answers.BRANDS]
+        for k in (1, 2, 3):
+            calls += [track(label, file, k), offsets(label, file, k), offsets(label, file, k, 0)]
+            calls.append(replace(label, file, k, "damr", one(damr()), n))
+        calls += [shift(label, file, z, n) for z in (0, 60, -60, 840)]
+        calls += [move(label, file, n), move(label, file, n - 1), move(label, file, n + 100)]
+        yield file, calls
+
+
+def groups():
+    yield from plain_groups()
+    yield from film_groups()
+    yield from refused_groups()
+    yield from brand_groups()
+    yield from table_groups()
+    yield from shift_groups()
+    yield from marked_groups()
+    yield from record_groups()
+    yield from newest_groups()
+    yield from real_groups()
+
+
+# ---- Files and sheets at the limits of length: a start, and zeros behind it
+
+
+def long_film(total):
+    """A film whose last box, a `free`, fills the file; the start of it."""
+    file = film(dict(films())["h263"], lambda moov, a, b: [Box("free", b"12"), a, moov, b])
+    return made(file + [Box("free", size=total - len(made(file)))])
+
+
+def long_edits(label, file):
+    n, plain, rates = len(file), one(d263()), one(d263(bitr()))
+    yield move(label, file, n)
+    yield shift(label, file, -60, n)
+    for room in (0, n - 1):
+        yield move(label, file, room)
+        yield shift(label, file, 840, room)
+    for room in (0, n, n + 15, n + 16):
+        yield replace(label, file, 1, "d263", plain, room)
+        yield replace(label, file, 1, "d263-rates", rates, room)
+    yield replace(label, file, 1, "bitr-code", bent(rates, 19, b"BITR"), 0)
+    yield replace(label, file, 3, "d263-rates", rates, 0)
+    yield shift(label, file, 841, 0)
+    yield sheet(label, file, 400)
+    yield listing(label, file, 400)
+
+
+def long_groups():
+    """(name, start, whole length, calls)."""
+    longest = files.LONGEST
+    for more in (-17, -16, -15, 0, 1):
+        total = longest + more
+        start = long_film(total)
+        file = start.ljust(total, b"\0")
+        yield "film-%d" % total, start, total, long_edits("film-%d" % total, file)
+    for size in (longest - 16, longest - 15):
+        start = sheet_of((1, OTHER), (2, Box_bytes("tx3g", bytes(8)).ljust(size, b"\0")))
+        start = bent(start, start.index(b"tx3g", 120) - 4, w(size))
+        given = start.ljust(100 + len(OTHER) + size, b"\0")
+        label, start = "body-%d" % size, start.rstrip(b"\0")
+        calls = [table(label, given, track, room) for track in (0, 1, 2, 3) for room in (0, longest - 1, longest, longest + 20)]
+        yield label, start, len(given), calls
+        yield label + "-more", start, len(given) + 1, [table(label + "-more", given + b"\0", 2, room) for room in (0, longest)]
+        yield label + "-less", start, len(given) - 1, [table(label + "-less", given[:-1], 2, room) for room in (0, longest)]
+
+
+# ---- The packs
+
+
+def behind_length(data):
+    return w(len(data)) + data
+
+
+def packed(call):
+    kind, name, room, numbers, more, _ = call
+    assert len(name) < 256, name
+    start = bytes([KINDS[kind]]) + w(room)
+    for n in (tuple(numbers) + (0, 0, 0))[:3]:
+        start += n.to_bytes(8, "big")
+    return behind_length(start + bytes([len(name)]) + name.encode() + more)
+
+
+def ready():
+    """The kinds of call that the program makes: those whose crates it uses."""
+    uses = [line for line in (ROOT / "crates.txt").read_text().splitlines() if line.startswith("calls:")][0].split()
+    return [kind for kind in KINDS if kind not in NEEDS or NEEDS[kind] in uses]
+
+
+def packs_of(all_groups, kinds):
+    """The packs and the lines that the program writes of them."""
+    packs, lines, names, counts = [b""], [], {}, dict.fromkeys(kinds, 0)
+    for file, calls in all_groups:
+        left = [call for call in calls if call[0] in kinds]
+        while left:
+            group, size = b"", len(file) + 8
+            while left and size + len(group) + len(packed(left[0])) <= PACK:
+                call = left.pop(0)
+                if call[1] in names:
+                    assert names[call[1]] == (file, call), call[1]
+                    continue
+                assert call[2] <= ROOM, call[1]
+                names[call[1]] = (file, call)
+                counts[call[0]] += 1
+                group += packed(call)
+                lines.append(call[1] + call[5])
+            one_group = behind_length(behind_length(file) + group)
+            if len(packs[-1]) + len(one_group) > PACK:
+                packs.append(b"")
+            packs[-1] += one_group
+    return packs, lines, counts
+
+
+def check_reader():
+    example = b"file 0\ntrack 1 soun 160/8000\nentry 1 track 1 samr place 397 size 53\n"
+    example += b"brand 3gp4 no\nbrand 3gp5 no\nbrand 3gp6 yes\nbrand 3gr6 no\n"
+    assert answers.listing(files.build(files.movie(files.trak()))) == example
+    for label, file in [*all_films(), *plain_files()]:
+        assert files.judge(file) == (0, 0), label
+        assert files.judge(answers.move(file)) == (0, 0), label
+        assert answers.move(answers.move(file)) == answers.move(file), label
+    for _, given in good_sheets():
+        answers.sheet_bodies(given)
+
+
+def main():
+    check_reader()
+    (CALLS / "data").mkdir(exist_ok=True)
+    for old in (CALLS / "data").glob("*"):
+        old.unlink()
+    packs, lines, counts = packs_of(groups(), ready())
+    for k, pack in enumerate(packs):
+        assert len(pack) <= PACK
+        (CALLS / "data" / ("pack%02d" % (k + 1))).write_bytes(pack)
+    for name, start, total, calls in long_groups():
+        assert total <= LONG_ROOM
+        data = w(total, len(start)) + start
+        for call in calls:
+            if call[0] in counts:
+                assert call[2] <= LONG_ROOM, call[1]
+                counts[call[0]] += 1
+                data += packed(call)
+                lines.append(call[1] + call[5])
+        (CALLS / "data" / name).write_bytes(data)
+    (CALLS / "stdout").write_text("\n".join(lines) + "\n")
+    program = (CALLS / "src" / "main.rt").read_text()
+    for path in (CALLS / "data").glob("*"):
+        if '(b"%s")' % path.name not in program:
+            print(path.name, "isn't run by main.rt")
+    print(counts, sum(counts.values()), "calls in", len(packs), "packs")
+
+
+if __name__ == "__main__":
+    main()
