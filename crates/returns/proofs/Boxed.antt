@@ -1,7 +1,7 @@
 -- The boxes of `moov`, one by one: a track whose payload is as it should be, or another box. Assumes nothing.
-use Prim.Native.Nat.{ℕ, zero, suc, _+_, _<_}
+use Prim.Native.Nat.{ℕ, suc, _+_, _<_}
 use native.Mathlib.Omega.{arith}
-use mathlib.Core.Path.{_≡_, refl, sym, ap, _∙_}
+use mathlib.Core.Path.{_≡_, refl, sym}
 use mathlib.Core.Bool.{Bool, true, false}
 use mathlib.Core.List.{List, [], _∷_, _++_}
 use lib.Dec.{eqb}
@@ -10,7 +10,7 @@ use Rattle.wire.specs.Tests.{ifEq}
 use Rattle.wire.specs.Codes.{TRAK}
 use Rattle.wire.proofs.Tests.{eq-yea, eq-nay}
 use Rattle.boxes.specs.Box.{Box, size}
-use Rattle.boxes.specs.Seek.{ANY, meant, count, nth, placeBy, startIn}
+use Rattle.boxes.specs.Seek.{meant, count, nth, placeBy, startIn}
 use Rattle.boxes.proofs.Seeking.{meant-yes, meant-no}
 use Rattle.movie.specs.Entries.{entriesOf, entriesAfter}
 

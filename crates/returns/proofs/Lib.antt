@@ -2,8 +2,9 @@ pub mod Alone
 pub mod Track
 pub mod Boxed
 pub mod Tracks
+pub mod Found
+pub mod Standing
 pub mod Small
 pub mod Own
 pub mod Written
-pub mod Found
 pub mod Returned

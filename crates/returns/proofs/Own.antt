@@ -1,7 +1,7 @@
 -- Of the entries of a file, those of one track are the boxes that its `stsd` lists. Assumes nothing.
 use Prim.Native.Nat.{ℕ, zero, suc, _+_, _≤_, _<_}
 use native.Mathlib.Omega.{arith}
-use mathlib.Core.Path.{_≡_, refl, sym, ap, _∙_}
+use mathlib.Core.Path.{_≡_, refl, sym, ap}
 use mathlib.Core.Bool.{Bool, true, false}
 use mathlib.Core.List.{List, [], _∷_, _++_, append-nil}
 use lib.Dec.{eqb}
@@ -9,7 +9,6 @@ use Rattle.wire.specs.Tests.{pick, ifEq}
 use Rattle.wire.specs.Codes.{TRAK}
 use Rattle.wire.proofs.Tests.{eq-yea, eq-nay}
 use Rattle.boxes.specs.Box.{Box, size, header}
-use Rattle.boxes.specs.Boxes.{boxes}
 use Rattle.boxes.specs.Seek.{count, nth, startIn}
 use Rattle.movie.specs.Entries.{Entry, entriesFrom, entriesOf, entriesAfter}
 use Rattle.table.specs.Table.{own}

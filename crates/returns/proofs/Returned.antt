@@ -1,28 +1,26 @@
 -- An accepted file's own sheet has the form, and the tables written from it are the file's. Assumes nothing.
-use Prim.Native.Nat.{ℕ, _+_, _-_, _≤_, _<_}
+use Prim.Native.Nat.{ℕ, _+_, _-_, _≤_}
 use native.Mathlib.Omega.{arith}
-use mathlib.Core.Path.{_≡_, refl, sym, ap, _∙_}
+use mathlib.Core.Path.{_≡_, refl, sym}
 use mathlib.Core.Bool.{true}
-use mathlib.Core.List.{List, _++_}
-use lib.ListN.{length, length-append}
+use mathlib.Core.List.{List}
+use lib.ListN.{length, take, drop}
 use Rattle.wire.specs.Tests.{ifEq}
-use Rattle.wire.specs.Codes.{MOOV, TRAK, MDIA, MINF, STBL, STSD}
+use Rattle.wire.specs.Codes.{MOOV, TRAK, STSD}
 use Rattle.wire.specs.Numbers.{Bytes}
 use Rattle.wire.proofs.Tests.{eq-nay, lt-nay}
-use Rattle.boxes.specs.Box.{header}
 use Rattle.boxes.specs.Boxes.{boxes}
 use Rattle.boxes.specs.Containers.{FILE, parent, kindIn}
 use Rattle.boxes.specs.Seek.{find, startIn}
-use Rattle.boxes.proofs.Whole.{length-header}
 use Rattle.boxes.proofs.Reading.{parts}
 use Rattle.boxes.proofs.Placing.{total-is}
-use Rattle.verdict.specs.Answers.{inRoom}
+use Rattle.verdict.specs.Answers.{inRoom, outBy}
 use Rattle.shape.specs.Shape.{needed}
 use Rattle.shape.specs.Rules.{threeRule}
 use Rattle.shape.proofs.Shape.{shape-tracks}
 use Rattle.judge.specs.Acceptance.{Meets}
-use Rattle.movie.specs.Movie.{movie, tracks, track, minf, table}
-use Rattle.movie.specs.Entries.{FRONT, entriesStart, entriesOf, entries}
+use Rattle.movie.specs.Movie.{movie, tracks, track, table}
+use Rattle.movie.specs.Entries.{entriesOf, entries}
 use Rattle.movie.proofs.Lying.{bytes-lies, lies-found}
 use Rattle.movie.proofs.Naming.{lies-track}
 use Rattle.sheet.specs.Sheet.{SLOTS}
@@ -30,12 +28,13 @@ use Rattle.sheet.specs.Reader.{sheetOf}
 use Rattle.sheet.proofs.Accepted.{accepted-fits}
 use Rattle.reads.proofs.Descent.{node-holds, needed-node}
 use Rattle.table.specs.Form.{unsheet, formed}
-use Rattle.table.specs.Table.{own, tableOf, tableAnswer}
-use Rattle.table.proofs.RoundTrip.{AllSmall, unsheet-sheet, table-sheet, formed-sheet}
-use Rattle.returns.specs.Stsd.{stsdOf, stsdBytes}
+use Rattle.table.specs.Table.{own, tableOf, tableAnswer, tableOut}
+use Rattle.table.proofs.RoundTrip.{AllSmall, unsheet-sheet, formed-sheet}
+use Rattle.returns.specs.Stsd.{stsdBytes, stsdPlace}
 use Rattle.returns.proofs.Track.{Described, described}
 use Rattle.returns.proofs.Boxed.{Each, each}
 use Rattle.returns.proofs.Tracks.{some-of, after-steps, after-meet, after-some}
+use Rattle.returns.proofs.Standing.{stsd-lies}
 use Rattle.returns.proofs.Small.{bytes-stsd, small-after}
 use Rattle.returns.proofs.Own.{own-after}
 use Rattle.returns.proofs.Written.{table-written}
@@ -82,3 +81,17 @@ module _ (xs : List ℕ) (m : Meets xs) where
           let d = described xs m (t - 1) (omega arith) in
           let w = bytes-stsd (track xs (t - 1)) (bytes-lies (lies-track xs (t - 1) v) v) in
           rw (own-unsheet, own-entries) (table-written (table STSD (track xs (t - 1))) w (d .listed) t _)
+
+      -- and those are the bytes that stand at its place in the file
+      pub table-stands : take (length (tableOf SLOTS (sheetOf xs) t)) (drop (stsdPlace xs t) xs) ≡ tableOf SLOTS (sheetOf xs) t
+      table-stands = rw table-returns (stsd-lies xs m v t h k .is)
+
+      -- 30, 20 and 24 cannot happen: the writer answers its length, or 25
+      pub answer-returns : (out : List ℕ) → tableAnswer SLOTS (sheetOf xs) t out ≡ inRoom (stsdBytes xs t) out
+      unfolding tableAnswer
+      answer-returns out =
+          let n : 1 ≤ length (own t (entries xs)) = rw own-entries (some-of t (track xs (t - 1)) _ (described xs m (t - 1) (omega arith))) in
+          rw (own-formed, own-unsheet, table-returns) (sym (eq-nay _ _ _ _ _ (λ z. omega arith) (lt-nay _ _ _ _ _ (omega (arith, stsd-lies xs m v t h k .inside, m .most)) refl)))
+
+      pub out-returns : (out : List ℕ) → tableOut SLOTS (sheetOf xs) t out ≡ outBy (inRoom (stsdBytes xs t) out) (stsdBytes xs t) out
+      out-returns out = rw (answer-returns out, table-returns)

@@ -1,14 +1,13 @@
 -- Every entry lies in its file, so that its place and its length fit a slot. Assumes nothing.
-use Prim.Native.Nat.{ℕ, _+_, _^_, _≤_, _<_}
+use Prim.Native.Nat.{ℕ, _+_, _^_, _<_}
 use native.Mathlib.Omega.{arith}
-use mathlib.Core.Path.{_≡_, refl}
-use mathlib.Core.List.{List, [], _∷_, _++_}
+use mathlib.Core.List.{List, _++_}
 use lib.ListN.{length, drop, length-append, length-drop}
 use Rattle.wire.specs.Codes.{MDIA, MINF, STBL, STSD}
 use Rattle.wire.specs.Numbers.{Bytes}
 use Rattle.wire.proofs.Numbers.{bytes-drop}
 use Rattle.boxes.specs.Box.{Box, size, header}
-use Rattle.boxes.specs.Boxes.{boxes, total, after}
+use Rattle.boxes.specs.Boxes.{boxes, total}
 use Rattle.boxes.specs.Seek.{find, startIn}
 use Rattle.boxes.proofs.Whole.{Good, length-header}
 use Rattle.boxes.proofs.Reading.{All, Filled, parts}
@@ -20,17 +19,14 @@ use Rattle.movie.proofs.Lying.{Lies, bytes-lies, lies-in, lies-found}
 use Rattle.table.proofs.RoundTrip.{Small, AllSmall}
 use Rattle.table.proofs.RoundTrip.AllSmall.{none as no-entry, more}
 use Rattle.returns.proofs.Track.{Described}
+use Rattle.returns.proofs.Standing.{lies-stbl}
 use Rattle.returns.proofs.Boxed.{Each, after-hit, after-miss}
 use Rattle.returns.proofs.Boxed.Each.{none, track, other}
 
 -- the payload of the `stsd` of a track whose payload is b
-pub lies-stsd : (b : List ℕ) → Bytes b → Lies (table STSD b) b (startIn MDIA 0 (boxes b) + startIn MINF 0 (mdia b) + startIn STBL 0 (minf b) + startIn STSD 0 (stbl b))
+lies-stsd : (b : List ℕ) → Bytes b → Lies (table STSD b) b (startIn MDIA 0 (boxes b) + startIn MINF 0 (mdia b) + startIn STBL 0 (minf b) + startIn STSD 0 (stbl b))
 unfolding table
-lies-stsd b v =
-    let m = lies-found MDIA 0 b v in
-    let n = lies-in m (lies-found MINF 0 (find MDIA (boxes b)) (bytes-lies m v)) in
-    let s = lies-in n (lies-found STBL 0 (find MINF (mdia b)) (bytes-lies n v)) in
-    lies-in s (lies-found STSD 0 (find STBL (minf b)) (bytes-lies s v))
+lies-stsd b v = let s = lies-stbl b v in lies-in s (lies-found STSD 0 (find STBL (minf b)) (bytes-lies s v))
 
 pub bytes-stsd : (b : List ℕ) → Bytes b → Bytes (table STSD b)
 bytes-stsd b v = bytes-lies (lies-stsd b v) v

@@ -5,7 +5,7 @@ use mathlib.Core.Path.{_≡_, refl}
 use mathlib.Core.Bool.{true}
 use mathlib.Core.List.{List}
 use Rattle.wire.specs.Tests.{ifEq}
-use Rattle.wire.specs.Codes.{TRAK, MDIA, MINF, STBL, STSD}
+use Rattle.wire.specs.Codes.{TRAK, MDIA, STBL, STSD}
 use Rattle.boxes.specs.Boxes.{boxes}
 use Rattle.boxes.specs.Containers.{parent, kindIn}
 use Rattle.boxes.specs.Seek.{find}

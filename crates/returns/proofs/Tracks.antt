@@ -1,17 +1,15 @@
 -- The entries of a file by their tracks: numbers that start at 1 and never fall or skip. Assumes nothing.
-use Prim.Native.Nat.{ℕ, zero, suc, _+_, _≤_, _<_}
+use Prim.Native.Nat.{ℕ, _+_, _≤_}
 use native.Mathlib.Omega.{arith}
-use mathlib.Core.Path.{_≡_, refl, sym, ap, _∙_}
-use mathlib.Core.Bool.{Bool, true}
+use mathlib.Core.Path.{_≡_, refl, sym}
+use mathlib.Core.Bool.{true}
 use mathlib.Core.List.{List, [], _∷_, _++_}
 use lib.ListN.{length, length-append}
-use Rattle.wire.specs.Codes.{TRAK, STSD}
+use Rattle.wire.specs.Codes.{TRAK}
 use Rattle.wire.proofs.Clauses.{is-le, holds, done}
 use Rattle.boxes.specs.Box.{Box, size}
 use Rattle.boxes.specs.Boxes.{boxes}
-use Rattle.boxes.specs.Seek.{ANY, count}
-use Rattle.lists.specs.Forms.{stored}
-use Rattle.movie.specs.Movie.{table}
+use Rattle.boxes.specs.Seek.{count}
 use Rattle.movie.specs.Entries.{Entry, entriesStart, entriesFrom, entriesOf, entriesAfter}
 use Rattle.movie.specs.Named.{listIn}
 use Rattle.movie.proofs.Counting.{length-of}
