@@ -8,3 +8,9 @@ pub mod Small
 pub mod Own
 pub mod Written
 pub mod Returned
+pub mod Room
+pub mod Answered
+pub mod Numbered
+pub mod Records
+pub mod Recorded
+pub mod Trips

@@ -51,12 +51,21 @@ not-of t u b p h = not-from t u _ _ h
 
 module _ {P : List ℕ → Type 0} where
   -- a track that was passed has none further on
-  not-after : (t u : ℕ) {l : List Box} (p : ℕ) → Each P l → u ≤ t → own u (entriesAfter t l p) ≡ []
+  pub not-after : (t u : ℕ) {l : List Box} (p : ℕ) → Each P l → u ≤ t → own u (entriesAfter t l p) ≡ []
   unfolding own entriesAfter
   not-after t u p none h = refl
   not-after t u p (track {x} {l} e d a) h =
       rw (after-hit x l e t p, own-append, not-of (t + 1) u (x .body) (p + x .head) (λ z. omega arith)) (not-after (t + 1) u (p + size x) a (omega arith))
   not-after t u p (other {x} {l} e a) h = rw (after-miss x l e t p) (not-after t u (p + size x) a h)
+
+  -- nor has a track that there is not
+  pub not-there : (t u : ℕ) {l : List Box} (p : ℕ) → Each P l → t + count TRAK l < u → own u (entriesAfter t l p) ≡ []
+  unfolding own entriesAfter
+  not-there t u p none h = refl
+  not-there t u p (track {x} {l} e d a) h =
+      let n = count-hit x l e in
+      rw (after-hit x l e t p, own-append, not-of (t + 1) u (x .body) (p + x .head) (λ z. omega arith)) (not-there (t + 1) u (p + size x) a (omega arith))
+  not-there t u p (other {x} {l} e a) h = rw (after-miss x l e t p) (not-there t u (p + size x) a (omega (arith, count-miss x l e)))
 
   -- after t tracks, those of track n from there on
   pub own-after : (t n u : ℕ) {l : List Box} (p : ℕ) → Each P l → n < count TRAK l → u ≡ t + 1 + n → own u (entriesAfter t l p) ≡ entriesOf u (nth TRAK n l) (p + startIn TRAK n l)

@@ -1,20 +1,19 @@
 -- An accepted file's own sheet has the form, and the tables written from it are the file's. Assumes nothing.
-use Prim.Native.Nat.{ℕ, _+_, _-_, _≤_}
+use Prim.Native.Nat.{ℕ, _+_, _-_, _≤_, _<_}
 use native.Mathlib.Omega.{arith}
-use mathlib.Core.Path.{_≡_, refl, sym}
+use mathlib.Core.Path.{_≡_, refl}
 use mathlib.Core.Bool.{true}
-use mathlib.Core.List.{List}
+use mathlib.Core.List.{List, []}
+use mathlib.Core.Logic.{_⊎_, ⊎-elim}
 use lib.ListN.{length, take, drop}
 use Rattle.wire.specs.Tests.{ifEq}
 use Rattle.wire.specs.Codes.{MOOV, TRAK, STSD}
 use Rattle.wire.specs.Numbers.{Bytes}
-use Rattle.wire.proofs.Tests.{eq-nay, lt-nay}
 use Rattle.boxes.specs.Boxes.{boxes}
 use Rattle.boxes.specs.Containers.{FILE, parent, kindIn}
 use Rattle.boxes.specs.Seek.{find, startIn}
 use Rattle.boxes.proofs.Reading.{parts}
 use Rattle.boxes.proofs.Placing.{total-is}
-use Rattle.verdict.specs.Answers.{inRoom, outBy}
 use Rattle.shape.specs.Shape.{needed}
 use Rattle.shape.specs.Rules.{threeRule}
 use Rattle.shape.proofs.Shape.{shape-tracks}
@@ -28,7 +27,7 @@ use Rattle.sheet.specs.Reader.{sheetOf}
 use Rattle.sheet.proofs.Accepted.{accepted-fits}
 use Rattle.reads.proofs.Descent.{node-holds, needed-node}
 use Rattle.table.specs.Form.{unsheet, formed}
-use Rattle.table.specs.Table.{own, tableOf, tableAnswer, tableOut}
+use Rattle.table.specs.Table.{own, tableOf}
 use Rattle.table.proofs.RoundTrip.{AllSmall, unsheet-sheet, formed-sheet}
 use Rattle.returns.specs.Stsd.{stsdBytes, stsdPlace}
 use Rattle.returns.proofs.Track.{Described, described}
@@ -36,7 +35,7 @@ use Rattle.returns.proofs.Boxed.{Each, each}
 use Rattle.returns.proofs.Tracks.{some-of, after-steps, after-meet, after-some}
 use Rattle.returns.proofs.Standing.{stsd-lies}
 use Rattle.returns.proofs.Small.{bytes-stsd, small-after}
-use Rattle.returns.proofs.Own.{own-after}
+use Rattle.returns.proofs.Own.{not-after, not-there, own-after}
 use Rattle.returns.proofs.Written.{table-written}
 
 module _ (xs : List ℕ) (m : Meets xs) where
@@ -69,10 +68,20 @@ module _ (xs : List ℕ) (m : Meets xs) where
     unfolding sheetOf
     own-unsheet = unsheet-sheet SLOTS (entries xs) (accepted-fits xs m .few) entries-small
 
+    -- track 0 has no entry, nor has one above the last
+    pub own-none : (t : ℕ) → (t ≡ 0) ⊎ (tracks xs < t) → own t (entries xs) ≡ []
+    unfolding entries
+    own-none t h =
+        let p = startIn MOOV 0 (boxes xs) in
+        ⊎-elim (λ e. not-after 0 t p each-track (omega arith)) (λ k. not-there 0 t p each-track (omega arith)) h
+
     module _ (t : ℕ) (h : 1 ≤ t) (k : t ≤ tracks xs) where
       own-entries : own t (entries xs) ≡ entriesOf t (track xs (t - 1)) (startIn MOOV 0 (boxes xs) + startIn TRAK (t - 1) (movie xs))
       unfolding entries track
       own-entries = own-after 0 (t - 1) t (startIn MOOV 0 (boxes xs)) each-track (omega arith) (omega arith)
+
+      pub own-some : 1 ≤ length (own t (entries xs))
+      own-some = rw own-entries (some-of t (track xs (t - 1)) _ (described xs m (t - 1) (omega arith)))
 
       -- the table that is written from it is that track's `stsd`, byte for byte
       pub table-returns : tableOf SLOTS (sheetOf xs) t ≡ stsdBytes xs t
@@ -85,13 +94,3 @@ module _ (xs : List ℕ) (m : Meets xs) where
       -- and those are the bytes that stand at its place in the file
       pub table-stands : take (length (tableOf SLOTS (sheetOf xs) t)) (drop (stsdPlace xs t) xs) ≡ tableOf SLOTS (sheetOf xs) t
       table-stands = rw table-returns (stsd-lies xs m v t h k .is)
-
-      -- 30, 20 and 24 cannot happen: the writer answers its length, or 25
-      pub answer-returns : (out : List ℕ) → tableAnswer SLOTS (sheetOf xs) t out ≡ inRoom (stsdBytes xs t) out
-      unfolding tableAnswer
-      answer-returns out =
-          let n : 1 ≤ length (own t (entries xs)) = rw own-entries (some-of t (track xs (t - 1)) _ (described xs m (t - 1) (omega arith))) in
-          rw (own-formed, own-unsheet, table-returns) (sym (eq-nay _ _ _ _ _ (λ z. omega arith) (lt-nay _ _ _ _ _ (omega (arith, stsd-lies xs m v t h k .inside, m .most)) refl)))
-
-      pub out-returns : (out : List ℕ) → tableOut SLOTS (sheetOf xs) t out ≡ outBy (inRoom (stsdBytes xs t) out) (stsdBytes xs t) out
-      out-returns out = rw (answer-returns out, table-returns)

@@ -1,1 +1,2 @@
 pub mod Stsd
+pub mod Gives
