@@ -10,7 +10,4 @@ pub mod Written
 pub mod Returned
 pub mod Room
 pub mod Answered
-pub mod Numbered
-pub mod Records
-pub mod Recorded
 pub mod Trips

@@ -23,11 +23,11 @@ use Rattle.table.specs.Form.{unsheet, formed}
 use Rattle.table.specs.Table.{tableOf, tableAnswer, tableOut}
 use Rattle.table.proofs.RoundTrip as roundTrip
 use Rattle.fields.specs.Numbers.{readAnswer, readOut, writeAnswer, writeOut}
+use Rattle.fields.proofs.Returning.{written-back, read-back}
 use Rattle.returns.specs.Gives.{Gives}
 use Rattle.returns.specs.Stsd.{stsdBytes, stsdPlace}
 use Rattle.returns.proofs.Returned.{own-formed, own-unsheet, table-returns, table-stands}
 use Rattle.returns.proofs.Answered as answered
-use Rattle.returns.proofs.Recorded as recorded
 
 -- ---- a file that meets the rules
 
@@ -87,12 +87,12 @@ bytes-back most xs v r e b = let a = read-writes most xs v r e b in (a .rule, a 
 -- numbers that the writer took: the reader gives them back
 pub write-read : (ns out : List ℕ) (n : ℕ) → writeAnswer ns out ≡ Done n → (room : List ℕ)
     → Gives ns room (readAnswer (take n (writeOut ns out)) room) (readOut (take n (writeOut ns out)) room)
-write-read = recorded.write-read
+write-read = written-back
 
 -- bytes that the reader took: the writer gives them back
 pub read-write : (xs : List ℕ) → Bytes xs → (out : List ℕ) (n : ℕ) → readAnswer xs out ≡ Done n → (room : List ℕ)
     → Gives xs room (writeAnswer (take n (readOut xs out)) room) (writeOut (take n (readOut xs out)) room)
-read-write = recorded.read-write
+read-write xs v out n e room = read-back xs out n v e room
 
 -- two results that an exact promise allows are equal
 pub one-answer : {A B : Type 0} {a : A} {b : B} {r s : A} {o p : B} → (r ≡ a) × (o ≡ b) → (s ≡ a) × (p ≡ b) → (r ≡ s) × (o ≡ p)
