@@ -28,10 +28,15 @@ fn main() {
     feed::run(b"pack21");
     feed::run(b"pack22");
     long::run(b"film-1048559");
+    long::run(b"film-and-1048559");
     long::run(b"film-1048560");
+    long::run(b"film-and-1048560");
     long::run(b"film-1048561");
+    long::run(b"film-and-1048561");
     long::run(b"film-1048576");
+    long::run(b"film-and-1048576");
     long::run(b"film-1048577");
+    long::run(b"film-and-1048577");
     long::run(b"body-1048560");
     long::run(b"body-1048560-more");
     long::run(b"body-1048560-less");
