@@ -462,6 +462,8 @@ def bent_sheets():
         yield name + "-cut", given[:-1]
         yield name + "-first-byte-of-6", bent(given, 108, [1])
         yield name + "-last-byte-of-6", bent(given, 113, [1])
+    for front in ([1, 0], [1, 1], [1, 9], [0, 0]):
+        yield "empty-%d-%d" % tuple(front), bytes(front).ljust(100, b"\0")
     two = sheet_of((1, SAMR), (1, OTHER))
     yield "lengths-shifted", bent(bent(two, 12, w(len(SAMR) + 1)), 24, w(len(OTHER) - 1))
     yield "length-0", bent(two, 24, w(0))
@@ -487,7 +489,7 @@ def table_groups():
     for k, (name, given) in enumerate(bent_sheets()):
         label = "bent-" + name
         calls = [table(label, given, 1)]
-        if k % 4 == 0:
+        if k % 4 == 0 or name.startswith("empty"):
             calls += [table(label, given, 0), table(label, given, 9, 0), table(label, given, 1, 0)]
         yield given, calls
     for label, file in all_films():
