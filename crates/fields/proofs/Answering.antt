@@ -6,7 +6,7 @@ use mathlib.Core.List.{List, []}
 use lib.ListN.{length}
 use lib.Seq.{sets, sets-eq}
 use Rattle.records.specs.declared.field.Record.{Record}
-use Rattle.records.specs.declared.field.Record.the-variants.{Speech, Picture, Broken}
+use Rattle.records.specs.declared.field.Record.the-variants.{Broken}
 use Rattle.records.specs.declared.record.Written.{Written}
 use Rattle.records.specs.Records.{fieldsOf, readOf, writtenOf, outOf}
 use Rattle.verdict.specs.declared.Answer.{Answer}

@@ -1,1 +1,3 @@
 pub mod Answering
+pub mod Rooms
+pub mod Returning

@@ -1,7 +1,7 @@
 -- The spot of an entry as a function, by the walk over the boxes of `moov`; and its bytes. Assumes nothing.
 use Prim.Native.Nat.{ℕ, zero, suc, _+_, _-_, _≤_, _<_}
 use native.Mathlib.Omega.{arith}
-use mathlib.Core.Path.{_≡_, refl, sym, ap, subst, _∙_}
+use mathlib.Core.Path.{_≡_, refl, sym, ap, _∙_}
 use mathlib.Core.List.{List, [], _∷_, _++_}
 use lib.ListN.{length, drop}
 use Rattle.wire.specs.Codes.{MOOV, TRAK}
@@ -9,15 +9,14 @@ use Rattle.wire.specs.Numbers.{Bytes}
 use Rattle.wire.proofs.Tests.{lt-yea, lt-nay}
 use Rattle.boxes.specs.declared.walk.Walk.{Walk}
 use Rattle.boxes.specs.declared.walk.BoxAt.{BoxAt}
-use Rattle.boxes.specs.Box.{Box, header}
+use Rattle.boxes.specs.Box.{header}
 use Rattle.boxes.specs.Boxes.{boxes}
 use Rattle.boxes.specs.Walk.{payload, boxAt, Ran, Over}
-use Rattle.boxes.specs.Seek.{ANY, meant, byNumber, find, Cut}
-use Rattle.movie.specs.declared.entry.Spot.{Spot}
+use Rattle.boxes.specs.Seek.{ANY, meant, find, Cut}
 use Rattle.movie.specs.declared.entry.Spot.the-variants.{In, Past}
-use Rattle.movie.specs.Movie.{movie, track}
+use Rattle.movie.specs.Movie.{track}
 use Rattle.movie.specs.Entries.{Entry, entries}
-use Rattle.movie.specs.Named.{listIn, held, heldIn, InTrack, SpotAs, spotIn, bytesAt}
+use Rattle.movie.specs.Named.{listIn, held, InTrack, SpotAs, spotIn, bytesAt}
 use Rattle.movie.proofs.Spotting.{Gone, gone-none, gone-more, gone-in, gone-past}
 use Rattle.movie.proofs.Naming.{cut-is}
 

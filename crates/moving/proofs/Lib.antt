@@ -3,3 +3,4 @@ pub mod Pieces
 pub mod Parted
 pub mod Moved
 pub mod Calls
+pub mod Staying

@@ -41,20 +41,24 @@ mdia handler entry place =
     ∷ plain MINF (write (minf entry place))
     ∷ []
 
-abbrev pub moov : List Box → List Box
-moov m =
-    plain MVHD (zeros 12 ++ bytes 4 8000 ++ zeros 84)
+-- created at a time
+abbrev pub moov : ℕ → List Box → List Box
+moov time m =
+    plain MVHD (zeros 4 ++ bytes 4 time ++ zeros 4 ++ bytes 4 8000 ++ zeros 84)
     ∷ plain TRAK (write (plain TKHD (zeros 12 ++ bytes 4 1 ++ zeros 68) ∷ plain MDIA (write m) ∷ []))
     ∷ []
 
 -- compatible `3gp6`, `isom`; the payload of `mdat` starts 501 bytes and the entry into the file
-abbrev pub fileOf : ℕ → List ℕ → List ℕ
-fileOf handler entry =
+abbrev pub fileAt : ℕ → ℕ → List ℕ → List ℕ
+fileAt time handler entry =
     write
     (plain FTYP (bytes 4 GP6 ++ zeros 4 ++ bytes 4 GP6 ++ bytes 4 ISOM)
-    ∷ plain MOOV (write (moov (mdia handler entry (501 + length entry))))
+    ∷ plain MOOV (write (moov time (mdia handler entry (501 + length entry))))
     ∷ plain MDAT (60 ∷ [])
     ∷ [])
+
+abbrev pub fileOf : ℕ → List ℕ → List ℕ
+fileOf handler entry = fileAt 0 handler entry
 
 -- ---- entries of each kind
 

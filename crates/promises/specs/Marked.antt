@@ -1,4 +1,4 @@
--- The marked cases M1 to M11, as one table. (M12 joins with the edits.)
+-- The marked cases M1 to M12, as one table.
 use Prim.Native.Nat.{ℕ}
 use mathlib.Core.Bool.{Bool, true, _&&_}
 use mathlib.Core.List.{List, [], _∷_, _++_, map}
@@ -7,6 +7,10 @@ use Rattle.wire.specs.Numbers.{bytes}
 use Rattle.wire.specs.Codes.{SAMR, SAWB, SOUN}
 use Rattle.entries.specs.declared.rule.Around.the-variants.{Track, Alone}
 use Rattle.entries.specs.Entries.{entryRule}
+use lib.IntN.{ℤ, pos}
+use Rattle.verdict.specs.Answers as answer
+use Rattle.shift.specs.Shift.{shiftAnswer}
+use Rattle.promises.specs.Example.{fileAt, speech}
 use Rattle.judge.specs.Judgement.{judged, number, place}
 
 -- M1 with another code, TimeScale, mode_set, period and frames, and whether it is accepted
@@ -42,18 +46,25 @@ cases =
     ∷ case SAMR 8000 0x81FF 6 2 1
     ∷ []
 
--- an entry, and whether it is accepted; a file, and its refusal with the place
+-- an entry, and whether it is accepted; a file, and its refusal with the place; a file and minutes, and the refusal of that shift
 pub data Row : Type 0 where
   ofEntry : Case → Row
   ofFile : List ℕ → ℕ → ℕ → Row
+  ofShift : List ℕ → ℤ → ℕ → Row
 
--- M1 to M9 are entries. M10: length 0. M11: eight bytes, size 0
+-- M1 to M9 are entries. M10: length 0. M11: eight bytes, size 0. M12: time 3600, 60 minutes
 abbrev pub table : List Row
-table = map ofEntry cases ++ ofFile [] 1 0 ∷ ofFile (bytes 4 0 ++ bytes 4 0x66726565) 2 0 ∷ []
+table =
+    map ofEntry cases
+    ++ ofFile [] 1 0
+    ∷ ofFile (bytes 4 0 ++ bytes 4 0x66726565) 2 0
+    ∷ ofShift (fileAt 3600 SOUN (speech SAMR)) (pos 60) 22
+    ∷ []
 
 abbrev pub asMarked : Row → Bool
 asMarked (ofEntry c) = eqb (entryRule (Track (c .scale) SOUN 1) 15 (entry c)) (c .fine) && eqb (entryRule Alone 15 (entry c)) (c .fine)
 asMarked (ofFile xs n p) = eqb (number (judged xs)) n && eqb (place (judged xs)) p
+asMarked (ofShift xs z n) = eqb (answer.number (shiftAnswer z xs [])) n
 
 abbrev pub allMarked : List Row → Bool
 allMarked [] = true

@@ -1,22 +1,21 @@
 -- Of the top-level boxes only `moov` changes, so a chunk offset past it moves by as much as the file grows. Assumes nothing.
-use Prim.Native.Nat.{ℕ, _+_, _-_, _≤_, _<_}
+use Prim.Native.Nat.{ℕ, _+_, _<_}
 use native.Mathlib.Omega.{arith}
-use mathlib.Core.Path.{_≡_, refl, sym, ap, _∙_}
+use mathlib.Core.Path.{_≡_, refl, ap, _∙_}
 use mathlib.Core.Bool.{true}
-use mathlib.Core.List.{List, [], _∷_, _++_}
-use mathlib.Core.Logic.{_⊎_, inl, inr, ⊎-elim}
+use mathlib.Core.List.{List, _∷_, _++_}
+use mathlib.Core.Logic.{⊎-elim}
 use lib.ListN.{length, length-append, length-take, length-drop}
 use Rattle.wire.specs.Tests.{ifLt}
-use Rattle.wire.specs.Codes.{MOOV, TRAK, MDIA, MINF, STBL, STSD, STCO, MDAT}
+use Rattle.wire.specs.Codes.{MOOV, TRAK, MDIA, MINF, STBL, STSD}
 use Rattle.wire.specs.Numbers.{Bytes}
 use Rattle.boxes.specs.declared.walk.BoxAt.{BoxAt}
-use Rattle.boxes.specs.declared.way.Turn.{Turn}
 use Rattle.boxes.specs.declared.words.By.{By}
 use Rattle.boxes.specs.Box.{Box, size, write, remade}
 use Rattle.boxes.specs.Boxes.{boxes, after}
 use Rattle.boxes.specs.Containers.{FILE, DEPTH}
 use Rattle.boxes.specs.Walk.{payload, boxAt}
-use Rattle.boxes.specs.Seek.{ANY, Cut}
+use Rattle.boxes.specs.Seek.{Cut}
 use Rattle.boxes.specs.Words.{moved, rewordLeaf}
 use Rattle.boxes.specs.Way.{nthBy, overNth, overTurn, editWay, tailBy}
 use Rattle.boxes.specs.Rewrite.{editIn}
@@ -34,7 +33,7 @@ use Rattle.replace.specs.Replace.{turn, recordAt}
 use Rattle.replace.specs.Fitting.{grown}
 use Rattle.replace.proofs.Nth.{nth-by, boxes-nth, after-nth}
 use Rattle.replace.proofs.Kinship.{Once}
-use Rattle.replace.proofs.Changing.{toEntry, entryBy, record-kin}
+use Rattle.replace.proofs.Changing.{toEntry, record-kin}
 
 -- numbers that move what is past a limit by the same amount
 moved-same : (a b : By) → a .limit ≡ b .limit → a .low ≡ b .low → a .high + b .less ≡ b .high + a .less → (o : ℕ) → moved a o ≡ moved b o

@@ -2,9 +2,8 @@
 use Prim.Native.Nat.{ℕ, _+_, _-_, _≤_, _<_}
 use native.Mathlib.Omega.{arith}
 use mathlib.Core.Path.{_≡_, refl, sym, ap, _∙_}
-use mathlib.Core.Bool.{true, false}
-use mathlib.Core.List.{List, [], _∷_}
-use mathlib.Core.Logic.{_⊎_, inl, inr, ⊎-elim}
+use mathlib.Core.List.{List, []}
+use mathlib.Core.Logic.{⊎-elim}
 use lib.ListN.{length, take, drop}
 use borrow.Rule.Slice.PartMut.{midOf}
 use Rattle.wire.specs.Tests.{ifEq}
@@ -18,7 +17,7 @@ use Rattle.heads.proofs.Meeting.{eq-ways, eq-met}
 use Rattle.entries.specs.Decoders.{damrRule, d263Rule, recordRule}
 use Rattle.movie.specs.declared.entry.EntryAt.{EntryAt}
 use Rattle.movie.specs.Entries.{entries}
-use Rattle.movie.specs.Named.{EntryIs, bytesAt}
+use Rattle.movie.specs.Named.{EntryIs}
 use Rattle.movie.proofs.Spots.{bytes-at, bytes-none}
 use Rattle.settle.proofs.One.{code-or}
 use Rattle.replace.specs.Replace.{kindAt, recordCode, takes}

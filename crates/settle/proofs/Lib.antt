@@ -6,3 +6,4 @@ pub mod Placed
 pub mod Agreement
 pub mod Settled
 pub mod Accepted
+pub mod Staying

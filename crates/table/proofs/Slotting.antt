@@ -15,31 +15,6 @@ use Rattle.sheet.specs.Sheet.{slot, slotOf, slots}
 use Rattle.table.specs.Form.{firstOf, read}
 use Rattle.table.proofs.Reading.{Past, read-none, read-more}
 
--- ---- a slot
-
-either : (m n a b : ℕ) → a < 256 → b < 256 → ifEq m n a b < 256
-unfolding ifEq
-either m n a b k l = go (eqb m n)
-  where
-    go : (t : Bool) → pick t a b < 256
-    go true = k
-    go false = l
-
-pub kind-byte : (code : ℕ) → kindOf code < 256
-unfolding kindOf
-kind-byte code =
-    either _ _ _ _ (omega arith)
-    (either _ _ _ _ (omega arith)
-    (either _ _ _ _ (omega arith)
-    (either _ _ _ _ (omega arith) (either _ _ _ _ (omega arith) (either _ _ _ _ (omega arith) (omega arith))))))
-
-pub slot-is : (kind track place size : ℕ) → kind < 256 → track < 256 → bytes 1 kind ++ bytes 1 track ++ bytes 2 0 ++ bytes 4 place ++ bytes 4 size ≡ slot kind track place size
-unfolding slot bytes bytesOn
-slot-is kind track place size h k =
-    let e : kind % 256 ≡ kind = omega arith in
-    let f : track % 256 ≡ track = omega arith in
-    rw (e, f)
-
 -- edition, count, and two zeros
 pub start-is : (n : ℕ) → n < 256 → bytes 1 1 ++ bytes 1 n ++ bytes 2 0 ≡ 1 ∷ n ∷ 0 ∷ 0 ∷ []
 unfolding bytes bytesOn

@@ -9,7 +9,7 @@ ghost use Prim.Native.Nat.{_+_, _*_, _≤_, _<_};
 ghost use lib.ListN.{length, take, drop};
 ghost use Rattle.wire.specs.Numbers.{word};
 ghost use Rattle.wire.specs.Writing.{Put};
-ghost use Rattle.sheet.specs.Sheet.{slot as slotText, slotOf, slots as slotsText, bodies as bodiesText};
+ghost use Rattle.sheet.specs.Sheet.{slotOf, slots as slotsText, bodies as bodiesText};
 ghost use Rattle.table.specs.Form.{firstOf, read};
 
 // The length of a slot.
@@ -40,33 +40,14 @@ pub fn size(slots: &[u8], bodies: &[u8], n: usize) -> usize
     first + size(lend::rest(slots, SLOT), past(slots, bodies), n - 1)
 }
 
-// Writes a slot.
-fn put_slot(
-    out: &mut [u8],
-    at: usize,
-    kind: usize,
-    track: usize,
-    place: usize,
-    size: usize,
-) -> usize
-    requires { ⌜ (at < 65000) × (kind < 256) × (track < 256) ⌝ }
-    ensures { λ r. ⌜ Put (slotText kind track place size) (now (out .entry)) at r (now (out .exit)) × (r ≡ at + 12) ⌝ }
-{
-    let a = put::number(out, at, 1, kind);
-    let b = put::number(out, a, 1, track);
-    let c = put::number(out, b, 2, 0);
-    let d = put::number(out, c, 4, place);
-    put::number(out, d, 4, size)
-}
-
 // Writes the first slot as it should be.
 fn put_first(out: &mut [u8], at: usize, slots: &[u8], bodies: &[u8]) -> usize
-    requires { ⌜ at < 65000 ⌝ }
+    requires { ⌜ at < 60000 ⌝ }
     ensures { λ r. ⌜ Put (slotOf (firstOf (now (slots .entry)) (now (bodies .entry)))) (now (out .entry)) at r (now (out .exit)) × (r ≡ at + 12) ⌝ }
 {
     let first = body(slots, bodies);
     let kind = kind::of_code(number::word32(first, 4));
-    put_slot(
+    sheet::put_slot(
         out,
         at,
         kind,
@@ -78,7 +59,7 @@ fn put_first(out: &mut [u8], at: usize, slots: &[u8], bodies: &[u8]) -> usize
 
 // Writes n slots as they should be.
 fn put_slots(out: &mut [u8], at: usize, slots: &[u8], bodies: &[u8], n: usize) -> usize
-    requires { ⌜ at + 12 * n < 65000 ⌝ }
+    requires { ⌜ at + 12 * n < 60000 ⌝ }
     ensures { λ r. ⌜ Put (slotsText (read n (now (slots .entry)) (now (bodies .entry)))) (now (out .entry)) at r (now (out .exit)) ⌝ }
 {
     if n == 0 {

@@ -1,6 +1,5 @@
 use borrow.Author.Needs.{needs}
 use Rattle.replace.proofs.Taking.{kind-part}
-use native.Mathlib.Omega.{arith}
 use Rattle.replace.proofs.record.kind_of.Statement.{statement}
 use Rattle.replace.proofs.record.kind_of.Tie as tie
 

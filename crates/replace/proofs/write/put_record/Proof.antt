@@ -1,5 +1,4 @@
 use borrow.Author.Needs.{needs}
-use native.Mathlib.Omega.{arith}
 use Rattle.replace.proofs.write.put_record.Statement.{statement}
 use Rattle.replace.proofs.write.put_record.Tie as tie
 

@@ -1,5 +1,6 @@
 use borrow.Author.Needs.{needs}
-use Rattle.table.proofs.Slotting.{kind-byte, first-put}
+use Rattle.sheet.proofs.Slots.{kind-byte}
+use Rattle.table.proofs.Slotting.{first-put}
 use native.Mathlib.Omega.{arith}
 use Rattle.table.proofs.slots.put_first.Statement.{statement}
 use Rattle.table.proofs.slots.put_first.Tie as tie

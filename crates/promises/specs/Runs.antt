@@ -1,0 +1,62 @@
+-- Demand 3: any run of edits on an accepted file.
+use Prim.Native.Nat.{ℕ}
+use mathlib.Core.Path.{_≡_}
+use mathlib.Core.List.{List, [], _∷_}
+use lib.IntN.{ℤ}
+use lib.ListN.{take}
+use Rattle.wire.specs.Numbers.{Bytes}
+use Rattle.verdict.specs.declared.Answer.{Answer}
+use Rattle.verdict.specs.declared.Answer.the-variants.{Done, Refused}
+use Rattle.verdict.specs.Answers.{outBy}
+use Rattle.shift.specs.Shift.{shiftOf, shiftAnswer}
+use Rattle.replace.specs.Replace.{replaceOf, replaceAnswer}
+use Rattle.moving.specs.Moving.{moveOf, moveAnswer}
+
+-- an edit, with what it is given
+pub data Edit : Type 0 where
+  shift : ℤ → Edit
+  replace : ℕ → List ℕ → Edit
+  move : Edit
+
+-- what the paper says that it makes of a file
+abbrev pub meaning : Edit → List ℕ → List ℕ
+meaning (shift z) xs = shiftOf z xs
+meaning (replace i new) xs = replaceOf xs i new
+meaning move xs = moveOf xs
+
+-- what it answers, being lent the buffer out, and what it leaves there: the promises of the three calls
+abbrev pub answer : Edit → List ℕ → List ℕ → Answer
+answer (shift z) xs out = shiftAnswer z xs out
+answer (replace i new) xs out = replaceAnswer xs i new out
+answer move xs out = moveAnswer xs out
+
+abbrev pub left : Edit → List ℕ → List ℕ → List ℕ
+left e xs out = outBy (answer e xs out) (meaning e xs) out
+
+-- the file that the caller goes on with: as many bytes of the buffer as the edit says, and the old file where it is refused
+abbrev pub goOn : Answer → List ℕ → List ℕ → List ℕ
+goOn (Done n) xs out = take n out
+goOn (Refused n p) xs out = xs
+
+abbrev pub next : Edit → List ℕ → List ℕ → List ℕ
+next e xs out = goOn (answer e xs out) xs (left e xs out)
+
+-- an edit and the buffer that it is lent
+pub record Lent : Type 0 where
+  pub edit : Edit
+  pub out : List ℕ
+
+-- one edit after the other, each on the file that the one before it left
+unfoldable pub run : List Lent → List ℕ → List ℕ
+run [] xs = xs
+run (e ∷ es) xs = run es (next (e .edit) xs (e .out))
+
+-- what is given are bytes, as in every call
+abbrev pub Given : Edit → Type 0
+Given (shift z) = Unit
+Given (replace i new) = Bytes new
+Given move = Unit
+
+pub data AllGiven : List Lent → Type 0 where
+  none : AllGiven []
+  more : {e : Lent} {es : List Lent} → Given (e .edit) → AllGiven es → AllGiven (e ∷ es)

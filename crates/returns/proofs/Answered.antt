@@ -1,0 +1,63 @@
+-- What the table writer answers on a file's own sheet, and the two calls one after the other. Assumes nothing.
+use Prim.Native.Nat.{ℕ, _≤_, _<_}
+use native.Mathlib.Omega.{arith}
+use mathlib.Core.Path.{_≡_, refl, sym}
+use mathlib.Core.List.{List}
+use mathlib.Core.Logic.{_⊎_}
+use lib.ListN.{length, take}
+use Rattle.wire.specs.Numbers.{Bytes}
+use Rattle.wire.proofs.Tests.{eq-yea, eq-nay, lt-nay}
+use Rattle.verdict.specs.declared.Answer.{Answer}
+use Rattle.verdict.specs.declared.Answer.the-variants.{Done, Refused}
+use Rattle.verdict.specs.Answers.{inRoom, outBy}
+use Rattle.judge.specs.declared.Judgement.{Judgement}
+use Rattle.judge.specs.declared.Judgement.the-variants as judgement
+use Rattle.judge.specs.Judgement.{judged, whenAccepted}
+use Rattle.judge.specs.Acceptance.{Meets}
+use Rattle.judge.proofs.Exact.{accepted-meets}
+use Rattle.movie.specs.Movie.{tracks}
+use Rattle.movie.specs.Entries.{entries}
+use Rattle.sheet.specs.Sheet.{SLOTS}
+use Rattle.sheet.specs.Reader.{sheetOf, sheetAnswer, sheetOut}
+use Rattle.table.specs.Table.{own, tableAnswer, tableOut}
+use Rattle.returns.specs.Stsd.{stsdBytes}
+use Rattle.returns.proofs.Standing.{stsd-lies}
+use Rattle.returns.proofs.Returned.{own-formed, own-unsheet, own-none, own-some, table-returns}
+use Rattle.returns.proofs.Room.{refused-not, room-taken}
+
+module _ (xs : List ℕ) (m : Meets xs) (v : Bytes xs) (t : ℕ) (out : List ℕ) where
+  -- 30 cannot happen
+  pub answer-none : (t ≡ 0) ⊎ (tracks xs < t) → tableAnswer SLOTS (sheetOf xs) t out ≡ Refused 20 0
+  unfolding tableAnswer
+  answer-none h = rw (own-formed xs m v, own-unsheet xs m v, own-none xs m v t h) (sym (eq-yea _ _ _ _ _ refl refl))
+
+  module _ (h : 1 ≤ t) (k : t ≤ tracks xs) where
+    -- nor can 20, nor 24, since the result is no longer than the file: the length, or 25
+    pub answer-returns : tableAnswer SLOTS (sheetOf xs) t out ≡ inRoom (stsdBytes xs t) out
+    unfolding tableAnswer
+    answer-returns =
+        let n : 1 ≤ length (own t (entries xs)) = own-some xs m v t h k in
+        rw (own-formed xs m v, own-unsheet xs m v, table-returns xs m v t h k)
+        (sym (eq-nay _ _ _ _ _ (λ z. omega arith) (lt-nay _ _ _ _ _ (omega (arith, stsd-lies xs m v t h k .inside, m .most)) refl)))
+
+    pub out-returns : tableOut SLOTS (sheetOf xs) t out ≡ outBy (inRoom (stsdBytes xs t) out) (stsdBytes xs t) out
+    out-returns = rw (answer-returns, table-returns xs m v t h k)
+
+-- ---- the sheet reader, and then the table writer
+
+when-done : (j : Judgement) (a : Answer) (n : ℕ) → whenAccepted j a ≡ Done n → (j ≡ judgement.Accepted) × (a ≡ Done n)
+unfolding whenAccepted
+when-done judgement.Accepted a n e = (refl, e)
+when-done (judgement.Refused k p) a n e = absurd (refused-not k p n e)
+
+module _ (xs : List ℕ) (out : List ℕ) (n : ℕ) (e : sheetAnswer xs out ≡ Done n) where
+  -- a file whose sheet is read is accepted, and what was written is its sheet
+  pub sheet-meets : Meets xs
+  unfolding sheetAnswer
+  sheet-meets = accepted-meets xs (when-done (judged xs) _ n e .0)
+
+  pub sheet-taken : take n (sheetOut xs out) ≡ sheetOf xs
+  unfolding sheetAnswer whenAccepted
+  sheet-taken =
+      let d = when-done (judged xs) (inRoom (sheetOf xs) out) n e in
+      rw (d .0) (room-taken (sheetOf xs) out n (d .1))

@@ -1,0 +1,16 @@
+pub mod Alone
+pub mod Track
+pub mod Boxed
+pub mod Tracks
+pub mod Found
+pub mod Standing
+pub mod Small
+pub mod Own
+pub mod Written
+pub mod Returned
+pub mod Room
+pub mod Answered
+pub mod Numbered
+pub mod Records
+pub mod Recorded
+pub mod Trips

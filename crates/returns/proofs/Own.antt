@@ -1,0 +1,83 @@
+-- Of the entries of a file, those of one track are the boxes that its `stsd` lists. Assumes nothing.
+use Prim.Native.Nat.{ℕ, zero, suc, _+_, _≤_, _<_}
+use native.Mathlib.Omega.{arith}
+use mathlib.Core.Path.{_≡_, refl, sym, ap}
+use mathlib.Core.Bool.{Bool, true, false}
+use mathlib.Core.List.{List, [], _∷_, _++_, append-nil}
+use lib.Dec.{eqb}
+use Rattle.wire.specs.Tests.{pick, ifEq}
+use Rattle.wire.specs.Codes.{TRAK}
+use Rattle.wire.proofs.Tests.{eq-yea, eq-nay}
+use Rattle.boxes.specs.Box.{Box, size, header}
+use Rattle.boxes.specs.Seek.{count, nth, startIn}
+use Rattle.movie.specs.Entries.{Entry, entriesFrom, entriesOf, entriesAfter}
+use Rattle.table.specs.Table.{own}
+use Rattle.returns.proofs.Boxed.{Each, count-hit, count-miss, nth-here, nth-next, nth-miss, start-here, start-next, start-miss, after-hit, after-miss}
+use Rattle.returns.proofs.Boxed.Each.{none, track, other}
+
+own-append : (u : ℕ) (d e : List Entry) → own u (d ++ e) ≡ own u d ++ own u e
+unfolding own ifEq
+own-append u [] e = refl
+own-append u (x ∷ d) e = go (eqb (x .track) u) (own-append u d e)
+  where
+    go : (t : Bool) → own u (d ++ e) ≡ own u d ++ own u e → pick t (x ∷ own u (d ++ e)) (own u (d ++ e)) ≡ pick t (x ∷ own u d) (own u d) ++ own u e
+    go true ih = ap (λ (k : List Entry). x ∷ k) ih
+    go false ih = ih
+
+-- ---- one track
+
+own-from : (u : ℕ) (l : List Box) (p : ℕ) → own u (entriesFrom u l p) ≡ entriesFrom u l p
+unfolding own entriesFrom
+own-from u [] p = refl
+own-from u (x ∷ l) p =
+    let e : Entry = record { track = u; place = p; bytes = header x ++ x .body } in
+    let d = entriesFrom u l (p + size x) in
+    sym (eq-yea u u (e ∷ own u d) (own u d) (e ∷ d) refl (ap (λ (k : List Entry). e ∷ k) (sym (own-from u l (p + size x)))))
+
+not-from : (t u : ℕ) (l : List Box) (p : ℕ) → (t ≡ u → ⊥) → own u (entriesFrom t l p) ≡ []
+unfolding own entriesFrom
+not-from t u [] p h = refl
+not-from t u (x ∷ l) p h = sym (eq-nay _ _ _ _ _ h (sym (not-from t u l (p + size x) h)))
+
+own-of : (u : ℕ) (b : List ℕ) (p : ℕ) → own u (entriesOf u b p) ≡ entriesOf u b p
+unfolding entriesOf
+own-of u b p = own-from u _ _
+
+not-of : (t u : ℕ) (b : List ℕ) (p : ℕ) → (t ≡ u → ⊥) → own u (entriesOf t b p) ≡ []
+unfolding entriesOf
+not-of t u b p h = not-from t u _ _ h
+
+-- ---- all of them
+
+module _ {P : List ℕ → Type 0} where
+  -- a track that was passed has none further on
+  pub not-after : (t u : ℕ) {l : List Box} (p : ℕ) → Each P l → u ≤ t → own u (entriesAfter t l p) ≡ []
+  unfolding own entriesAfter
+  not-after t u p none h = refl
+  not-after t u p (track {x} {l} e d a) h =
+      rw (after-hit x l e t p, own-append, not-of (t + 1) u (x .body) (p + x .head) (λ z. omega arith)) (not-after (t + 1) u (p + size x) a (omega arith))
+  not-after t u p (other {x} {l} e a) h = rw (after-miss x l e t p) (not-after t u (p + size x) a h)
+
+  -- nor has a track that there is not
+  pub not-there : (t u : ℕ) {l : List Box} (p : ℕ) → Each P l → t + count TRAK l < u → own u (entriesAfter t l p) ≡ []
+  unfolding own entriesAfter
+  not-there t u p none h = refl
+  not-there t u p (track {x} {l} e d a) h =
+      let n = count-hit x l e in
+      rw (after-hit x l e t p, own-append, not-of (t + 1) u (x .body) (p + x .head) (λ z. omega arith)) (not-there (t + 1) u (p + size x) a (omega arith))
+  not-there t u p (other {x} {l} e a) h = rw (after-miss x l e t p) (not-there t u (p + size x) a (omega (arith, count-miss x l e)))
+
+  -- after t tracks, those of track n from there on
+  pub own-after : (t n u : ℕ) {l : List Box} (p : ℕ) → Each P l → n < count TRAK l → u ≡ t + 1 + n → own u (entriesAfter t l p) ≡ entriesOf u (nth TRAK n l) (p + startIn TRAK n l)
+  unfolding count
+  own-after t n u p none h q = absurd (omega arith)
+  own-after t zero u p (track {x} {l} e d a) h q =
+      let z : u ≡ t + 1 = omega arith in
+      rw (z, after-hit x l e t p, nth-here x l e, start-here x l e, own-append, own-of, not-after (t + 1) (t + 1) (p + size x) a (omega arith)) (append-nil (entriesOf (t + 1) (x .body) (p + x .head)))
+  own-after t (suc n) u p (track {x} {l} e d a) h q =
+      let s : p + (size x + startIn TRAK n l) ≡ p + size x + startIn TRAK n l = omega arith in
+      rw (after-hit x l e t p, nth-next x l e, start-next x l e, own-append, not-of (t + 1) u (x .body) (p + x .head) (λ z. omega arith), s)
+      (own-after (t + 1) n u (p + size x) a (omega (arith, count-hit x l e)) (omega arith))
+  own-after t n u p (other {x} {l} e a) h q =
+      let s : p + (size x + startIn TRAK n l) ≡ p + size x + startIn TRAK n l = omega arith in
+      rw (after-miss x l e t p, nth-miss x l e, start-miss x l e, s) (own-after t n u (p + size x) a (omega (arith, count-miss x l e)) q)

@@ -1,0 +1,96 @@
+-- An accepted file's own sheet has the form, and the tables written from it are the file's. Assumes nothing.
+use Prim.Native.Nat.{ℕ, _+_, _-_, _≤_, _<_}
+use native.Mathlib.Omega.{arith}
+use mathlib.Core.Path.{_≡_, refl}
+use mathlib.Core.Bool.{true}
+use mathlib.Core.List.{List, []}
+use mathlib.Core.Logic.{_⊎_, ⊎-elim}
+use lib.ListN.{length, take, drop}
+use Rattle.wire.specs.Tests.{ifEq}
+use Rattle.wire.specs.Codes.{MOOV, TRAK, STSD}
+use Rattle.wire.specs.Numbers.{Bytes}
+use Rattle.boxes.specs.Boxes.{boxes}
+use Rattle.boxes.specs.Containers.{FILE, parent, kindIn}
+use Rattle.boxes.specs.Seek.{find, startIn}
+use Rattle.boxes.proofs.Reading.{parts}
+use Rattle.boxes.proofs.Placing.{total-is}
+use Rattle.shape.specs.Shape.{needed}
+use Rattle.shape.specs.Rules.{threeRule}
+use Rattle.shape.proofs.Shape.{shape-tracks}
+use Rattle.judge.specs.Acceptance.{Meets}
+use Rattle.movie.specs.Movie.{movie, tracks, track, table}
+use Rattle.movie.specs.Entries.{entriesOf, entries}
+use Rattle.movie.proofs.Lying.{bytes-lies, lies-found}
+use Rattle.movie.proofs.Naming.{lies-track}
+use Rattle.sheet.specs.Sheet.{SLOTS}
+use Rattle.sheet.specs.Reader.{sheetOf}
+use Rattle.sheet.proofs.Accepted.{accepted-fits}
+use Rattle.reads.proofs.Descent.{node-holds, needed-node}
+use Rattle.table.specs.Form.{unsheet, formed}
+use Rattle.table.specs.Table.{own, tableOf}
+use Rattle.table.proofs.RoundTrip.{AllSmall, unsheet-sheet, formed-sheet}
+use Rattle.returns.specs.Stsd.{stsdBytes, stsdPlace}
+use Rattle.returns.proofs.Track.{Described, described}
+use Rattle.returns.proofs.Boxed.{Each, each}
+use Rattle.returns.proofs.Tracks.{some-of, after-steps, after-meet, after-some}
+use Rattle.returns.proofs.Standing.{stsd-lies}
+use Rattle.returns.proofs.Small.{bytes-stsd, small-after}
+use Rattle.returns.proofs.Own.{not-after, not-there, own-after}
+use Rattle.returns.proofs.Written.{table-written}
+
+module _ (xs : List ℕ) (m : Meets xs) where
+  each-track : Each Described (movie xs)
+  unfolding track
+  each-track = each Described (movie xs) (λ n k. described xs m n k)
+
+  some-tracks : (1 ≤ tracks xs) × (tracks xs ≤ 4)
+  unfolding needed kindIn parent ifEq
+  some-tracks =
+      let h = needed-node 5 FILE xs (m .three) 1 MOOV (omega arith) refl threeRule (λ z. omega arith) refl (m .three) in
+      shape-tracks (movie xs) (node-holds threeRule 4 MOOV (find MOOV (boxes xs)) h)
+
+  module _ (v : Bytes xs) where
+    pub entries-small : AllSmall (entries xs)
+    unfolding entries
+    entries-small =
+        let l = lies-found MOOV 0 xs v in
+        let w = bytes-lies l v in
+        small-after 0 (startIn MOOV 0 (boxes xs)) (parts (find MOOV (boxes xs)) w .filled) each-track (omega (arith, l .inside, total-is (find MOOV (boxes xs)) w, m .most))
+
+    -- the sheet that is read from an accepted file has the form
+    pub own-formed : formed SLOTS (sheetOf xs) ≡ true
+    unfolding sheetOf entries
+    own-formed =
+        let p = startIn MOOV 0 (boxes xs) in
+        formed-sheet SLOTS (entries xs) (after-some 0 p each-track (some-tracks .0)) (accepted-fits xs m .few) entries-small (after-steps 0 p each-track (omega (arith, some-tracks .1))) (after-meet 0 p each-track)
+
+    pub own-unsheet : unsheet SLOTS (sheetOf xs) ≡ entries xs
+    unfolding sheetOf
+    own-unsheet = unsheet-sheet SLOTS (entries xs) (accepted-fits xs m .few) entries-small
+
+    -- track 0 has no entry, nor has one above the last
+    pub own-none : (t : ℕ) → (t ≡ 0) ⊎ (tracks xs < t) → own t (entries xs) ≡ []
+    unfolding entries
+    own-none t h =
+        let p = startIn MOOV 0 (boxes xs) in
+        ⊎-elim (λ e. not-after 0 t p each-track (omega arith)) (λ k. not-there 0 t p each-track (omega arith)) h
+
+    module _ (t : ℕ) (h : 1 ≤ t) (k : t ≤ tracks xs) where
+      own-entries : own t (entries xs) ≡ entriesOf t (track xs (t - 1)) (startIn MOOV 0 (boxes xs) + startIn TRAK (t - 1) (movie xs))
+      unfolding entries track
+      own-entries = own-after 0 (t - 1) t (startIn MOOV 0 (boxes xs)) each-track (omega arith) (omega arith)
+
+      pub own-some : 1 ≤ length (own t (entries xs))
+      own-some = rw own-entries (some-of t (track xs (t - 1)) _ (described xs m (t - 1) (omega arith)))
+
+      -- the table that is written from it is that track's `stsd`, byte for byte
+      pub table-returns : tableOf SLOTS (sheetOf xs) t ≡ stsdBytes xs t
+      unfolding tableOf entriesOf stsdBytes
+      table-returns =
+          let d = described xs m (t - 1) (omega arith) in
+          let w = bytes-stsd (track xs (t - 1)) (bytes-lies (lies-track xs (t - 1) v) v) in
+          rw (own-unsheet, own-entries) (table-written (table STSD (track xs (t - 1))) w (d .listed) t _)
+
+      -- and those are the bytes that stand at its place in the file
+      pub table-stands : take (length (tableOf SLOTS (sheetOf xs) t)) (drop (stsdPlace xs t) xs) ≡ tableOf SLOTS (sheetOf xs) t
+      table-stands = rw table-returns (stsd-lies xs m v t h k .is)

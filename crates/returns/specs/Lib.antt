@@ -1,0 +1,2 @@
+pub mod Stsd
+pub mod Gives
