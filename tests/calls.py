@@ -6,14 +6,14 @@ import pathlib
 
 import answers
 import files
-from files import Box, audio, bitr, d263, damr, esds, h, listed, num, patch, visual, w
+from files import Box, audio, bitr, d263, damr, esds, h, num, patch, visual, w
 
 ROOT = pathlib.Path(__file__).resolve().parent.parent
 CALLS = ROOT / "crates" / "calls"
 REAL = ROOT / "crates" / "cases" / "data"
 PACK = 60000
 ROOM = 40000
-LONG_ROOM = 1048700
+LONG_ROOM = 1050000
 FILL = 0xAA
 KINDS = {"sheet": 1, "table": 2, "brand": 3, "tracks": 4, "track": 5, "offsets": 6, "shift": 7, "move": 8}
 KINDS.update({"listing": 9, "replace": 10, "newest": 11})
@@ -120,7 +120,7 @@ def replace(label, file, entry, what, record, room):
 def newest(label, first, y, second, z, entry):
     line = line_newest(lambda: answers.newest(first, y, second, z, entry))
     numbers = (MINUTES.index(y), MINUTES.index(z), entry)
-    return "newest", "newest %s %d %d entry %d" % (label, y, z, entry), len(first), numbers, b"", line
+    return "newest", "newest %s %d %d entry %d" % (label, y, z, entry), 0, numbers, w(len(first)), line
 
 
 # ---- Files. A chunk's offset is counted from the payload of its own mdat.
@@ -462,6 +462,8 @@ def bent_sheets():
         yield name + "-cut", given[:-1]
         yield name + "-first-byte-of-6", bent(given, 108, [1])
         yield name + "-last-byte-of-6", bent(given, 113, [1])
+    for front in ([1, 0], [1, 1], [1, 9], [0, 0]):
+        yield "empty-%d-%d" % tuple(front), bytes(front).ljust(100, b"\0")
     two = sheet_of((1, SAMR), (1, OTHER))
     yield "lengths-shifted", bent(bent(two, 12, w(len(SAMR) + 1)), 24, w(len(OTHER) - 1))
     yield "length-0", bent(two, 24, w(0))
@@ -470,15 +472,11 @@ def bent_sheets():
     yield "box-after", two + one(Box("free"))
     for n in (0, 1, 2, 4, 8, 16, 50, 99, 100, 101, 104, 108, 152, 153, 160):
         yield "first-%d" % n, two[:n]
-    yield "other-of-15", sheet_of((1, Box_bytes("text", bytes(7))))
-    yield "other-of-8", sheet_of((1, Box_bytes("text", b"")))
+    yield "other-of-15", sheet_of((1, one(Box("text", bytes(7)))))
+    yield "other-of-8", sheet_of((1, one(Box("text"))))
     for what, entry, _, _ in files.entry_cases():
         reference = "reference" in what or "scale" in what or "-for-" in what
         yield ("rule-but-" if reference else "rule-") + what, sheet_of((1, one(entry)))
-
-
-def Box_bytes(code, body):
-    return one(Box(code, body))
 
 
 def table_groups():
@@ -491,7 +489,7 @@ def table_groups():
     for k, (name, given) in enumerate(bent_sheets()):
         label = "bent-" + name
         calls = [table(label, given, 1)]
-        if k % 4 == 0:
+        if k % 4 == 0 or name.startswith("empty"):
             calls += [table(label, given, 0), table(label, given, 9, 0), table(label, given, 1, 0)]
         yield given, calls
     for label, file in all_films():
@@ -635,7 +633,7 @@ def given_records():
     yield "d263-other-rates", one(Box("d263", b"\xff" * 7, Box("bitr", b"\xff" * 8)))
     for n in (7, 8, 14, 16, 22, 23, 30):
         yield "d263-rates-first-%d" % n, rates[:n]
-        yield "d263-rates-first-%d-sized" % n, w(n) + rates[4:n] if n >= 8 else w(n) + rates[4:n]
+        yield "d263-rates-first-%d-sized" % n, w(n) + rates[4:n]
     yield "d263-and-0", plain + b"\0"
     yield "d263-rates-and-0", rates + b"\0"
     yield "d263-size-15-of-31", w(15) + rates[4:]
@@ -677,7 +675,7 @@ def dated(time, *tracks_given):
 
 
 def newest_groups():
-    """The two files stand one after the other, and the room says where the first ends."""
+    """The two files stand one after the other, and the call says where the first ends."""
 
     def two(time):
         return dated(time, files.trak(1), files.visual_track(avc1(), visual("s263", d263()), number=2))
@@ -721,6 +719,8 @@ def plain_files():
     yield "no-chunks", files.build(files.movie(files.trak(tables=none))[:2])
     many = [files.stts((150, 3), (0, 9), (50, 2**32 - 1)), files.stsc((1, 1, 1)), Box("stsz", w(0, 1, 200))]
     yield "200-chunks", files.build(files.movie(files.trak(tables=many + [files.stco(*[k % 32 for k in range(200)])])))
+    most = [files.stts((65536, 2**32 - 1)), files.stsc((1, 256, 1)), Box("stsz", w(0, 1, 65536)), files.stco(*[0] * 256)]
+    yield "65536-samples", files.build(files.movie(files.trak(tables=most), data=256))
     empty = Box("mdat")
     moov = Box("moov", files.mvhd(), chunked(1, [visual("s263", d263())], b"vide", 15, [(empty, 0, 0)]))
     yield "empty-mdat-before-moov", made([files.ftyp("isom", "3gp6"), Box("free", b"12"), empty, moov])
@@ -810,6 +810,11 @@ def long_edits(label, file):
     yield shift(label, file, 841, 0)
     yield sheet(label, file, 400)
     yield listing(label, file, 400)
+    yield tracks(label, file)
+    yield brand(label, file, "3gp6")
+    yield track(label, file, 2)
+    yield offsets(label, file, 2)
+    yield newest(label + "-and-nothing", file, 841, b"", 0, 0)
 
 
 def long_groups():
@@ -820,8 +825,11 @@ def long_groups():
         start = long_film(total)
         file = start.ljust(total, b"\0")
         yield "film-%d" % total, start, total, long_edits("film-%d" % total, file)
+        first = made(film(dict(films())["speech"], lambda moov, a, b: [a, moov, b]))
+        calls = [newest("film-and-%d" % total, first, y, file, 0, n) for y in (0, 840, -840) for n in (0, 1, 3)]
+        yield "film-and-%d" % total, first + start, len(first) + total, calls
     for size in (longest - 16, longest - 15):
-        start = sheet_of((1, OTHER), (2, Box_bytes("tx3g", bytes(8)).ljust(size, b"\0")))
+        start = sheet_of((1, OTHER), (2, one(Box("tx3g", bytes(8))).ljust(size, b"\0")))
         start = bent(start, start.index(b"tx3g", 120) - 4, w(size))
         given = start.ljust(100 + len(OTHER) + size, b"\0")
         label, start = "body-%d" % size, start.rstrip(b"\0")

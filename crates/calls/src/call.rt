@@ -4,6 +4,9 @@ use heads::lend;
 use verdict::Answer;
 use wire::number;
 
+// The longest room of a call that isn't a long one.
+pub const ROOM: usize = 40000;
+
 const SHEET: usize = 1;
 
 const TABLE: usize = 2;
@@ -26,7 +29,8 @@ const REPLACE: usize = 10;
 
 const NEWEST: usize = 11;
 
-fn asked(call: &[u8]) -> usize {
+// How long the room is to be.
+pub fn asked(call: &[u8]) -> usize {
     number::word32(call, 1)
 }
 
@@ -118,8 +122,9 @@ fn make_list(file: &[u8], call: &[u8], all: &mut [u32]) {
 
 // Of two files that stand one after the other.
 fn make_newest(files: &[u8], call: &[u8]) {
-    let first = lend::front(files, asked(call));
-    let second = lend::rest(files, asked(call));
+    let n = number::word32(more(call), 0);
+    let first = lend::front(files, n);
+    let second = lend::rest(files, n);
     let y = minutes(wide(call, 5));
     let z = minutes(wide(call, 13));
     room::say_newest(newer::newest(first, y, second, z, wide(call, 21)));

@@ -6,28 +6,32 @@ use wire::number;
 use wire::pen;
 ghost use Prim.Native.Nat.{_≤_};
 
-fn zeros() -> [u8; 1048700] {
-    [0; 1048700]
+fn zeros() -> [u8; 1050000] {
+    [0; 1050000]
 }
 
-fn fresh() -> [u8; 1048700] {
-    [0xAA; 1048700]
+fn fresh() -> [u8; 1050000] {
+    [0xAA; 1050000]
 }
 
 // Lays a start into the front of a room.
-fn lay(room: &mut [u8; 1048700], start: &[u8]) {
-    if start.len() <= 1048700 {
+fn lay(room: &mut [u8; 1050000], start: &[u8]) {
+    if start.len() <= 1050000 {
         pen::copy(room, start);
     }
 }
 
-fn make(file: &[u8; 1048700], n: usize, call: &[u8]) {
+fn make(file: &[u8; 1050000], n: usize, call: &[u8]) {
+    if call::asked(call) <= call::ROOM {
+        call::make(lend::front(file, n), call);
+        return;
+    }
     let mut room = fresh();
     call::make_long(lend::front(file, n), call, &mut room);
 }
 
 // The calls in turn, each behind its length.
-fn make_all(file: &[u8; 1048700], n: usize, calls: &[u8]) {
+fn make_all(file: &[u8; 1050000], n: usize, calls: &[u8]) {
     let mut at = 0;
     while at + 4 <= calls.len() {
         let size = number::word32_in(calls, at);
