@@ -44,14 +44,8 @@ abbrev μ-put-turn : Measures 3 put-turn-kinds.ps ℕ
 abbrev μ-put-way : Measures 3 put-way-kinds.ps ℕ
 μ-put-way κs a = 4 * (7 - a .1 .1 .1 .1 .0)
 
-abbrev put-around-at : ℕ → In 3 put-around-kinds.ps
-put-around-at t = and 3 put-around-kinds.ps (is 3 put-around-kinds.ps μ-put-around t) put-around.Pre
-
 abbrev put-around-below : ℕ → In 3 put-around-kinds.ps
 put-around-below t = and 3 put-around-kinds.ps (falls 3 put-around-kinds.ps _<_ μ-put-around t) put-around.Pre
-
-abbrev put-box-at : ℕ → In 3 put-box-kinds.ps
-put-box-at t = and 3 put-box-kinds.ps (is 3 put-box-kinds.ps μ-put-box t) put-box.Pre
 
 abbrev put-box-below : ℕ → In 3 put-box-kinds.ps
 put-box-below t = and 3 put-box-kinds.ps (falls 3 put-box-kinds.ps _<_ μ-put-box t) put-box.Pre
@@ -70,7 +64,7 @@ put-way-below t = and 3 put-way-kinds.ps (falls 3 put-way-kinds.ps _<_ μ-put-wa
 
 pub +put-around+put-box+put-turn+put-way-spec : {M : Type 1} → statement M
 +put-around+put-box+put-turn+put-way-spec = close μ-put-around μ-put-box μ-put-turn μ-put-way
-    (λ t. put-around-lts.spec (put-part-reads.Asked, put-part-reads.Learnt, body-reads.Asked, body-reads.Learnt, put-box-below t, put-box.Post) (put-around-at t) put-around.Post
+    (λ t. put-around-lts.spec (put-part-reads.Asked, put-part-reads.Learnt, body-reads.Asked, body-reads.Learnt, put-box-below t, put-box.Post) (and 3 put-around-kinds.ps (is 3 put-around-kinds.ps μ-put-around t) put-around.Pre) put-around.Post
     (λ c. search needs)
     (λ c. take-size _ _ (omega arith))
     (λ c κs. rw length-take (omega arith))
@@ -83,7 +77,7 @@ pub +put-around+put-box+put-turn+put-way-spec : {M : Type 1} → statement M
     let h = around-end (a .src .now) (a .b) (p .1) (p .2) (p .3) (c .before .before .before .before .before .before .before .before .before .put-part .ensures) _ (c .before .before .before .before .before .body .ensures) (editWay (drop (a .i) (a .way)) (tailBy (a .keep) (a .new .now)) _) _ _ (way-length (drop (a .i) (a .way)) (a .keep) (a .new .now) _) (c .before .before .before .before .put-box .ensures) in omega arith)
     (λ c. search needs)
     (λ c. let a = c .before .before .before .before .before .before .before .before .before .before .before .before .before .before .before .before .before .before .before .args in around-put (a .src .now) (a .b) _ (c .before .before .before .before .before .before .before .before .before .before .before .before .put-part .ensures) (rw (c .before .before .before .before .before .before .before .before .body .ensures) at (c .before .before .before .before .before .before .before .put-box .ensures)) (c .before .before .put-part2 .ensures) (omega arith)))
-    (λ t. put-box-lts.spec (put-way-below t, put-way.Post, put-header-reads.Asked, put-header-reads.Learnt) (put-box-at t) put-box.Post
+    (λ t. put-box-lts.spec (put-way-below t, put-way.Post, put-header-reads.Asked, put-header-reads.Learnt) (and 3 put-box-kinds.ps (is 3 put-box-kinds.ps μ-put-box t) put-box.Pre) put-box.Post
     (λ c. search needs)
     (λ c κs. search needs)
     (λ c κs. let a = c .before .before .before .before .before .before .before .before .args in let h = way-length (drop (a .i) (a .way)) (a .keep) (a .new .now) (a .body .now) in let e = c .before .before .before .put-way .ensures .next in (omega arith, omega arith))
