@@ -1,0 +1,4 @@
+pub mod Less
+pub mod Bodies
+pub mod Moving
+pub mod Timing
