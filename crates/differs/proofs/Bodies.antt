@@ -1,16 +1,11 @@
 -- Bodies that are the same but for a stretch. Assumes nothing.
-use Prim.Native.Nat.{ℕ, _+_, _≤_}
+use Prim.Native.Nat.{ℕ, _+_}
 use native.Mathlib.Omega.{arith}
 use mathlib.Core.Path.{_≡_, refl, sym, ap, _∙_}
-use mathlib.Core.Bool.{Bool, true, false}
-use mathlib.Core.List.{List, [], _++_, append-assoc}
-use lib.Dec.{eqb}
+use mathlib.Core.List.{List, _++_, append-assoc}
 use lib.ListN.{length, take, drop, length-append, length-take, length-drop, drop-of-length-le}
 use lib.Seq.{take-at, drop-at, length-take-le}
-use borrow.Author.Tests.{eqb-true, eqb-false}
-use Rattle.wire.specs.Tests.{pick, ifEq}
-use Rattle.boxes.specs.declared.words.Target.{Target}
-use Rattle.boxes.specs.Words.{eachWord, reword, rewordLeaf}
+use Rattle.boxes.specs.Words.{eachWord, reword}
 use Rattle.boxes.proofs.Wording.{each-length, reword-length, reword-past}
 use Rattle.media.proofs.Payloads.{either}
 use Rattle.differs.specs.Differs.{But}

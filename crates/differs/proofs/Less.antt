@@ -1,6 +1,5 @@
 -- What relates the opaque boxes of two files may be weakened. Assumes nothing.
 use Prim.Native.Nat.{ℕ, zero, suc}
-use mathlib.Core.Path.{_≡_}
 use mathlib.Core.List.{List}
 use Rattle.boxes.specs.Box.{Box}
 use Rattle.boxes.specs.Containers.{kindIn}

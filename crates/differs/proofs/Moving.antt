@@ -2,14 +2,14 @@
 use Prim.Native.Nat.{ℕ, _<_}
 use native.Mathlib.Omega.{arith}
 use mathlib.Core.Path.{_≡_, refl, sym, _∙_}
-use mathlib.Core.List.{List, []}
+use mathlib.Core.List.{List}
 use lib.ListN.{length}
-use Rattle.wire.specs.Codes.{STBL, STCO}
+use Rattle.wire.specs.Codes.{STBL}
 use Rattle.wire.specs.Numbers.{Bytes}
 use Rattle.boxes.specs.Box.{write}
-use Rattle.boxes.specs.Boxes.{boxes, after}
+use Rattle.boxes.specs.Boxes.{boxes}
 use Rattle.boxes.specs.Containers.{FILE, DEPTH}
-use Rattle.boxes.specs.Words.{reword, rewordLeaf}
+use Rattle.boxes.specs.Words.{rewordLeaf}
 use Rattle.boxes.specs.Kin.{Kin}
 use Rattle.boxes.proofs.Kin.{Made, kin-edit}
 use Rattle.boxes.proofs.Wording.{leaf-hit, leaf-code, leaf-kind}

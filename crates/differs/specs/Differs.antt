@@ -6,7 +6,6 @@ use mathlib.Core.List.{List}
 use mathlib.Core.Logic.{_⊎_}
 use lib.ListN.{length, take, drop}
 use Rattle.wire.specs.Codes.{MOOV, MVHD, TRAK, TKHD, MDIA, MDHD, STBL, STSD, STCO}
-use Rattle.boxes.specs.declared.way.Turn.{Turn}
 use Rattle.boxes.specs.Boxes.{HEAD}
 use Rattle.boxes.specs.Containers.{FILE, DEPTH}
 use Rattle.boxes.specs.Seek.{ANY}
@@ -64,3 +63,21 @@ pub record OnlyRecord (n keep : ℕ) (new : List ℕ) (k c : ℕ) (b b′ : List
   pub offsets : Offsets k c → But 8 (length b) b b′
   pub entry : Described k c → (b ≡ b′) ⊎ (b′ ≡ withRecord n keep new b)
   pub rest : (Offsets k c → ⊥) → (Described k c → ⊥) → b ≡ b′
+
+-- of an entry of the file's kind, the bytes of its payload before the record
+abbrev pub keptOf : List ℕ → ℕ → ℕ
+keptOf xs i = headSize (kindAt xs i) - HEAD
+
+-- the depth of a track: the containers from `trak` on
+abbrev pub TRACK : ℕ
+TRACK = DEPTH - 2
+
+-- ys is xs with another record of entry i, which is entry n of track t, both from 0: besides chunk offsets nothing differs in
+-- another track, and in that track there is only the record
+pub record Replaces (xs : List ℕ) (i : ℕ) (new ys : List ℕ) : Type 0 where
+  pub t : ℕ
+  pub n : ℕ
+  pub spot : spotIn 0 (movie xs) (i - 1) ≡ In t n
+  pub differs : Kin (OnlyRecord n (keptOf xs i) new) DEPTH FILE xs ys
+  pub there : table STSD (track ys t) ≡ withRecord n (keptOf xs i) new (table STSD (track xs t))
+  pub elsewhere : (u : ℕ) → (u ≡ t → ⊥) → Kin OnlyOffsets TRACK TRAK (track xs u) (track ys u)

@@ -19,7 +19,7 @@ use Rattle.descriptions.specs.Ten.{MOST}
 use Rattle.judge.specs.declared.Judgement.{Judgement}
 use Rattle.judge.specs.declared.Judgement.the-variants as judgement
 use Rattle.judge.specs.Judgement.{LONGEST, judged, whenAccepted}
-use Rattle.judge.specs.Acceptance.{plain}
+use Rattle.judge.specs.Acceptance.{Meets, plain}
 use Rattle.judge.proofs.Exact.{accepted-meets, meets-accepted}
 use Rattle.moving.specs.Moving.{moveOf, moveAnswer}
 use Rattle.shift.specs.Shift.{shiftOf, shiftAnswer}
@@ -52,25 +52,36 @@ room-done : (new out : List ℕ) {n : ℕ} → roomAnswer new out ≡ Done n →
 unfolding roomAnswer
 room-done new out e = either LONGEST (length new) (λ h. absurd (refused-not 24 0 _ (lt-yea _ _ _ _ _ h refl ∙ e))) (λ h. h)
 
--- ---- the calls
+-- ---- what a call that is done has passed
 
--- a move that is done
-pub done-move : (xs out : List ℕ) {n : ℕ} → Bytes xs → moveAnswer xs out ≡ Done n → Kept xs (moveOf xs)
+pub move-passed : (xs out : List ℕ) {n : ℕ} → moveAnswer xs out ≡ Done n → Meets xs
 unfolding moveAnswer
-done-move xs out w e = keeps-move xs w (accepted-meets xs (when-done (judged xs) _ e .0))
+move-passed xs out e = accepted-meets xs (when-done (judged xs) _ e .0)
 
--- a shift that is done
-pub done-shift : (z : ℤ) (xs out : List ℕ) {n : ℕ} → Bytes xs → shiftAnswer z xs out ≡ Done n → Kept xs (shiftOf z xs)
+pub shift-passed : (z : ℤ) (xs out : List ℕ) {n : ℕ} → shiftAnswer z xs out ≡ Done n → Meets xs
 unfolding shiftAnswer
-done-shift z xs out w e = keeps-shift z xs w (accepted-meets xs (when-done (judged xs) _ e .0))
+shift-passed z xs out e = accepted-meets xs (when-done (judged xs) _ e .0)
 
--- a replacement that is done
-pub done-replace : (xs : List ℕ) (i : ℕ) (new out : List ℕ) {n : ℕ} → Bytes xs → Bytes new → replaceAnswer xs i new out ≡ Done n → Kept xs (replaceOf xs i new)
+pub replace-passed : (xs : List ℕ) (i : ℕ) (new out : List ℕ) {n : ℕ} → replaceAnswer xs i new out ≡ Done n → Meets xs × (recordRule (kindAt xs i) MOST new ≡ 1) × (length (replaceOf xs i new) ≤ LONGEST)
 unfolding replaceAnswer takenAnswer settledAnswer
-done-replace xs i new out w v e =
+replace-passed xs i new out e =
     let a = when-done (judged xs) _ e in
     let s = pick (plain xs) (roomAnswer (replaceOf xs i new) out) (Refused 23 0) in
     let b = pick-done (takes (kindAt xs i) new) (ifEq (recordRule (kindAt xs i) MOST new) 1 s (Refused 21 0)) 20 0 (a .1) in
     let c = equal-done (recordRule (kindAt xs i) MOST new) 1 s 21 0 (b .1) in
     let d = pick-done (plain xs) (roomAnswer (replaceOf xs i new) out) 23 0 (c .1) in
-    keeps-replace xs i new w v (accepted-meets xs (a .0)) (c .0) (room-done (replaceOf xs i new) out (d .1))
+    (accepted-meets xs (a .0), c .0, room-done (replaceOf xs i new) out (d .1))
+
+-- ---- the calls
+
+-- a move that is done
+pub done-move : (xs out : List ℕ) {n : ℕ} → Bytes xs → moveAnswer xs out ≡ Done n → Kept xs (moveOf xs)
+done-move xs out w e = keeps-move xs w (move-passed xs out e)
+
+-- a shift that is done
+pub done-shift : (z : ℤ) (xs out : List ℕ) {n : ℕ} → Bytes xs → shiftAnswer z xs out ≡ Done n → Kept xs (shiftOf z xs)
+done-shift z xs out w e = keeps-shift z xs w (shift-passed z xs out e)
+
+-- a replacement that is done
+pub done-replace : (xs : List ℕ) (i : ℕ) (new out : List ℕ) {n : ℕ} → Bytes xs → Bytes new → replaceAnswer xs i new out ≡ Done n → Kept xs (replaceOf xs i new)
+done-replace xs i new out w v e = let p = replace-passed xs i new out e in keeps-replace xs i new w v (p .0) (p .1) (p .2)
