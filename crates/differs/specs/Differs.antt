@@ -24,6 +24,14 @@ pub record But (from to : ℕ) (b b′ : List ℕ) : Type 0 where
   pub before : take from b ≡ take from b′
   pub behind : drop to b ≡ drop to b′
 
+-- an `stco`: all but the chunk offsets, which follow version, flags and count
+abbrev pub ButOffsets : List ℕ → List ℕ → Type 0
+ButOffsets b b′ = But 8 (length b) b b′
+
+-- a header: all but "creation time at 4, modification at 8"
+abbrev pub ButTimes : List ℕ → List ℕ → Type 0
+ButTimes b b′ = But 4 12 b b′
+
 -- ---- the boxes with such fields, by the container's kind k and the code c
 
 -- chunk offsets: `stco` in `stbl`
@@ -40,16 +48,16 @@ Described k c = (k ≡ STBL) × (c ≡ STSD)
 
 -- ---- a move
 
--- chunk offsets, which are all past version, flags and count; every other opaque box is the same
+-- chunk offsets; every other opaque box is the same
 pub record OnlyOffsets (k c : ℕ) (b b′ : List ℕ) : Type 0 where
-  pub offsets : Offsets k c → But 8 (length b) b b′
+  pub offsets : Offsets k c → ButOffsets b b′
   pub rest : (Offsets k c → ⊥) → b ≡ b′
 
 -- ---- a shift
 
--- "creation time at 4, modification at 8"; every other opaque box is the same, and so are chunk offsets, since nothing moves
+-- times; every other opaque box is the same, and so are chunk offsets, since nothing moves
 pub record OnlyTimes (k c : ℕ) (b b′ : List ℕ) : Type 0 where
-  pub times : Timed k c → But 4 12 b b′
+  pub times : Timed k c → ButTimes b b′
   pub rest : (Timed k c → ⊥) → b ≡ b′
 
 -- ---- a replacement
@@ -60,11 +68,11 @@ withRecord n keep new b = overTurn (record { skip = FRONT; code = ANY; nth = n }
 
 -- one record in an `stsd`, and chunk offsets; every other opaque box is the same
 pub record OnlyRecord (n keep : ℕ) (new : List ℕ) (k c : ℕ) (b b′ : List ℕ) : Type 0 where
-  pub offsets : Offsets k c → But 8 (length b) b b′
+  pub offsets : Offsets k c → ButOffsets b b′
   pub entry : Described k c → (b ≡ b′) ⊎ (b′ ≡ withRecord n keep new b)
   pub rest : (Offsets k c → ⊥) → (Described k c → ⊥) → b ≡ b′
 
--- of an entry of the file's kind, the bytes of its payload before the record
+-- how many bytes of the payload of entry i stand before its record
 abbrev pub keptOf : List ℕ → ℕ → ℕ
 keptOf xs i = headSize (kindAt xs i) - HEAD
 
@@ -72,8 +80,8 @@ keptOf xs i = headSize (kindAt xs i) - HEAD
 abbrev pub TRACK : ℕ
 TRACK = DEPTH - 2
 
--- ys is xs with another record of entry i, which is entry n of track t, both from 0: besides chunk offsets nothing differs in
--- another track, and in that track there is only the record
+-- ys is xs with another record of entry i, which is entry n of track t, both from 0: that track has the record there, and in any
+-- other track only chunk offsets differ
 pub record Replaces (xs : List ℕ) (i : ℕ) (new ys : List ℕ) : Type 0 where
   pub t : ℕ
   pub n : ℕ
