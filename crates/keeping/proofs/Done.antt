@@ -7,23 +7,22 @@ use mathlib.Core.List.{List}
 use mathlib.Core.Logic.{⊎-elim}
 use lib.IntN.{ℤ}
 use lib.ListN.{length}
-use Rattle.wire.specs.Tests.{pick, ifEq, ifLt}
+use Rattle.wire.specs.Tests.{pick, ifEq}
 use Rattle.wire.specs.Numbers.{Bytes}
-use Rattle.wire.proofs.Tests.{lt-yea, lt-nay}
+use Rattle.wire.proofs.Tests.{lt-yea}
 use Rattle.heads.proofs.Meeting.{eq-ways}
 use Rattle.entries.specs.Decoders.{recordRule}
 use Rattle.media.proofs.Payloads.{either}
 use Rattle.verdict.specs.declared.Answer.{Answer}
 use Rattle.verdict.specs.declared.Answer.the-variants.{Done, Refused}
-use Rattle.verdict.specs.Answers.{inRoom}
 use Rattle.descriptions.specs.Ten.{MOST}
 use Rattle.judge.specs.declared.Judgement.{Judgement}
 use Rattle.judge.specs.declared.Judgement.the-variants as judgement
 use Rattle.judge.specs.Judgement.{LONGEST, judged, whenAccepted}
-use Rattle.judge.specs.Acceptance.{plain}
+use Rattle.judge.specs.Acceptance.{Meets, plain}
 use Rattle.judge.proofs.Exact.{accepted-meets, meets-accepted}
 use Rattle.moving.specs.Moving.{moveOf, moveAnswer}
-use Rattle.shift.specs.Shift.{shiftable, shiftOf, acceptedAnswer, shiftAnswer}
+use Rattle.shift.specs.Shift.{shiftOf, shiftAnswer}
 use Rattle.replace.specs.Replace.{kindAt, takes, replaceOf, roomAnswer, settledAnswer, takenAnswer, replaceAnswer}
 use Rattle.keeping.specs.Kept.{Kept}
 use Rattle.keeping.proofs.Edits.{keeps-move, keeps-shift, keeps-replace}
@@ -34,77 +33,55 @@ kept-accepted xs ys k = meets-accepted ys (k .accepted)
 
 -- ---- what an answer that is done says
 
-refused-not : (k p n : ℕ) → Refused k p ≡ Done n → ⊥
+pub refused-not : (k p n : ℕ) → Refused k p ≡ Done n → ⊥
 refused-not k p n e = let z : _≡_ {A = ℕ} 0 1 = cc in omega arith
 
-when-done : (j : Judgement) (a : Answer) {n : ℕ} → whenAccepted j a ≡ Done n → (j ≡ judgement.Accepted) × (a ≡ Done n)
+pub when-done : (j : Judgement) (a : Answer) {n : ℕ} → whenAccepted j a ≡ Done n → (j ≡ judgement.Accepted) × (a ≡ Done n)
 unfolding whenAccepted
 when-done judgement.Accepted a e = (refl, e)
 when-done (judgement.Refused k p) a e = absurd (refused-not k p _ e)
 
-pick-done : (t : Bool) (a : Answer) (k p : ℕ) {n : ℕ} → pick t a (Refused k p) ≡ Done n → (t ≡ true) × (a ≡ Done n)
+pub pick-done : (t : Bool) (a : Answer) (k p : ℕ) {n : ℕ} → pick t a (Refused k p) ≡ Done n → (t ≡ true) × (a ≡ Done n)
 pick-done true a k p e = (refl, e)
 pick-done false a k p e = absurd (refused-not k p _ e)
 
-equal-done : (m r : ℕ) (a : Answer) (k p : ℕ) {n : ℕ} → ifEq m r a (Refused k p) ≡ Done n → (m ≡ r) × (a ≡ Done n)
+pub equal-done : (m r : ℕ) (a : Answer) (k p : ℕ) {n : ℕ} → ifEq m r a (Refused k p) ≡ Done n → (m ≡ r) × (a ≡ Done n)
 equal-done m r a k p e = ⊎-elim (λ w. w) (λ w. absurd (refused-not k p _ (w .1))) (eq-ways _ _ _ _ _ e)
 
 room-done : (new out : List ℕ) {n : ℕ} → roomAnswer new out ≡ Done n → length new ≤ LONGEST
 unfolding roomAnswer
 room-done new out e = either LONGEST (length new) (λ h. absurd (refused-not 24 0 _ (lt-yea _ _ _ _ _ h refl ∙ e))) (λ h. h)
 
--- its number is the result's length
-fits-done : (new out : List ℕ) {n : ℕ} → inRoom new out ≡ Done n → n ≡ length new
-unfolding inRoom
-fits-done new out {n} e =
-    either (length out) (length new)
-    (λ h. absurd (refused-not 25 0 _ (lt-yea _ _ _ _ _ h refl ∙ e)))
-    (λ h. let q : Done (length new) ≡ Done n = lt-nay _ _ _ _ _ h refl ∙ e in cc)
+-- ---- what a call that is done has passed
 
--- ---- the calls
-
--- a move that is done
-pub done-move : (xs out : List ℕ) {n : ℕ} → Bytes xs → moveAnswer xs out ≡ Done n → Kept xs (moveOf xs)
+pub move-passed : (xs out : List ℕ) {n : ℕ} → moveAnswer xs out ≡ Done n → Meets xs
 unfolding moveAnswer
-done-move xs out w e = keeps-move xs w (accepted-meets xs (when-done (judged xs) _ e .0))
+move-passed xs out e = accepted-meets xs (when-done (judged xs) _ e .0)
 
--- a shift that is done
-pub done-shift : (z : ℤ) (xs out : List ℕ) {n : ℕ} → Bytes xs → shiftAnswer z xs out ≡ Done n → Kept xs (shiftOf z xs)
+pub shift-passed : (z : ℤ) (xs out : List ℕ) {n : ℕ} → shiftAnswer z xs out ≡ Done n → Meets xs
 unfolding shiftAnswer
-done-shift z xs out w e = keeps-shift z xs w (accepted-meets xs (when-done (judged xs) _ e .0))
+shift-passed z xs out e = accepted-meets xs (when-done (judged xs) _ e .0)
 
--- a replacement that is done
-pub done-replace : (xs : List ℕ) (i : ℕ) (new out : List ℕ) {n : ℕ} → Bytes xs → Bytes new → replaceAnswer xs i new out ≡ Done n → Kept xs (replaceOf xs i new)
+pub replace-passed : (xs : List ℕ) (i : ℕ) (new out : List ℕ) {n : ℕ} → replaceAnswer xs i new out ≡ Done n → Meets xs × (recordRule (kindAt xs i) MOST new ≡ 1) × (length (replaceOf xs i new) ≤ LONGEST)
 unfolding replaceAnswer takenAnswer settledAnswer
-done-replace xs i new out w v e =
+replace-passed xs i new out e =
     let a = when-done (judged xs) _ e in
     let s = pick (plain xs) (roomAnswer (replaceOf xs i new) out) (Refused 23 0) in
     let b = pick-done (takes (kindAt xs i) new) (ifEq (recordRule (kindAt xs i) MOST new) 1 s (Refused 21 0)) 20 0 (a .1) in
     let c = equal-done (recordRule (kindAt xs i) MOST new) 1 s 21 0 (b .1) in
     let d = pick-done (plain xs) (roomAnswer (replaceOf xs i new) out) 23 0 (c .1) in
-    keeps-replace xs i new w v (accepted-meets xs (a .0)) (c .0) (room-done (replaceOf xs i new) out (d .1))
+    (accepted-meets xs (a .0), c .0, room-done (replaceOf xs i new) out (d .1))
 
--- ---- how long the result is
+-- ---- the calls
 
-pub move-size : (xs out : List ℕ) {n : ℕ} → moveAnswer xs out ≡ Done n → n ≡ length (moveOf xs)
-unfolding moveAnswer
-move-size xs out e = fits-done (moveOf xs) out (pick-done (plain xs) _ 23 0 (when-done (judged xs) _ e .1) .1)
+-- a move that is done
+pub done-move : (xs out : List ℕ) {n : ℕ} → Bytes xs → moveAnswer xs out ≡ Done n → Kept xs (moveOf xs)
+done-move xs out w e = keeps-move xs w (move-passed xs out e)
 
-pub shift-size : (z : ℤ) (xs out : List ℕ) {n : ℕ} → shiftAnswer z xs out ≡ Done n → n ≡ length (shiftOf z xs)
-unfolding shiftAnswer acceptedAnswer
-shift-size z xs out e =
-    let a = when-done (judged xs) _ e in
-    let b = pick-done (shiftable z xs) (pick (plain xs) (inRoom (shiftOf z xs) out) (Refused 23 0)) 22 0 (a .1) in
-    fits-done (shiftOf z xs) out (pick-done (plain xs) _ 23 0 (b .1) .1)
+-- a shift that is done
+pub done-shift : (z : ℤ) (xs out : List ℕ) {n : ℕ} → Bytes xs → shiftAnswer z xs out ≡ Done n → Kept xs (shiftOf z xs)
+done-shift z xs out w e = keeps-shift z xs w (shift-passed z xs out e)
 
-pub replace-size : (xs : List ℕ) (i : ℕ) (new out : List ℕ) {n : ℕ} → replaceAnswer xs i new out ≡ Done n → n ≡ length (replaceOf xs i new)
-unfolding replaceAnswer takenAnswer settledAnswer roomAnswer
-replace-size xs i new out e =
-    let a = when-done (judged xs) _ e in
-    let s = pick (plain xs) (ifLt LONGEST (length (replaceOf xs i new)) (Refused 24 0) (inRoom (replaceOf xs i new) out)) (Refused 23 0) in
-    let b = pick-done (takes (kindAt xs i) new) (ifEq (recordRule (kindAt xs i) MOST new) 1 s (Refused 21 0)) 20 0 (a .1) in
-    let c = equal-done (recordRule (kindAt xs i) MOST new) 1 s 21 0 (b .1) in
-    let d = pick-done (plain xs) (ifLt LONGEST (length (replaceOf xs i new)) (Refused 24 0) (inRoom (replaceOf xs i new) out)) 23 0 (c .1) in
-    either LONGEST (length (replaceOf xs i new))
-    (λ h. absurd (refused-not 24 0 _ (lt-yea _ _ _ _ _ h refl ∙ d .1)))
-    (λ h. fits-done (replaceOf xs i new) out (lt-nay _ _ _ _ _ h refl ∙ d .1))
+-- a replacement that is done
+pub done-replace : (xs : List ℕ) (i : ℕ) (new out : List ℕ) {n : ℕ} → Bytes xs → Bytes new → replaceAnswer xs i new out ≡ Done n → Kept xs (replaceOf xs i new)
+done-replace xs i new out w v e = let p = replace-passed xs i new out e in keeps-replace xs i new w v (p .0) (p .1) (p .2)

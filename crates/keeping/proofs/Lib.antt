@@ -27,3 +27,4 @@ pub mod Named
 pub mod Replacing
 pub mod Edits
 pub mod Done
+pub mod Size

@@ -16,7 +16,8 @@ use Rattle.movie.specs.Movie.{tracks}
 use Rattle.keeping.specs.Samples.{samples}
 use Rattle.keeping.specs.Kept.{Kept}
 use Rattle.keeping.proofs.Keeping.{kept-refl, kept-then}
-use Rattle.keeping.proofs.Done.{done-move, done-shift, done-replace, move-size, shift-size, replace-size}
+use Rattle.keeping.proofs.Done.{done-move, done-shift, done-replace}
+use Rattle.keeping.proofs.Size.{move-size, shift-size, replace-size}
 use Rattle.promises.specs.Runs.{Edit, shift, replace, move, meaning, answer, left, goOn, next, Lent, run, Given, AllGiven, none, more}
 
 -- an edit that is done keeps the file
