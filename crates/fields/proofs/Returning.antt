@@ -18,7 +18,8 @@ use Rattle.records.proofs.Rewriting.{read-writes}
 use Rattle.verdict.specs.declared.Answer.the-variants.{Done}
 use Rattle.verdict.specs.Answers.{inRoom, outBy}
 use Rattle.fields.specs.Numbers.{MOST, recordOf, readAnswer, readOut, writeAnswer, writeOut}
-use Rattle.fields.proofs.Rooms.{room-front, when-some, some-read, rule-room, rule-done, rule-some}
+use Rattle.verdict.proofs.Answers.{room-taken}
+use Rattle.fields.proofs.Rooms.{when-some, some-read, rule-room, rule-done, rule-some}
 
 -- ---- records and their numbers
 
@@ -62,7 +63,7 @@ unfolding writeAnswer readAnswer
 written-back ns out n e room =
     let a = rule-done (recordOf ns) out n e in
     let b = rule-room (recordOf ns) out a in
-    let t : take n (writeOut ns out) ≡ textOf (recordOf ns) = ap (take n) (b .1) ∙ room-front (textOf (recordOf ns)) out n (sym (b .0) ∙ e) in
+    let t : take n (writeOut ns out) ≡ textOf (recordOf ns) = ap (take n) (b .1) ∙ room-taken (textOf (recordOf ns)) out n (sym (b .0) ∙ e) in
     let r : readOf MOST (take n (writeOut ns out)) ≡ recordOf ns = ap (readOf MOST) t ∙ written-reads MOST (recordOf ns) a in
     let f = fields-back ns (rule-some (recordOf ns) a) in
     let s = when-some (recordOf ns) (inRoom ns room) (rule-some (recordOf ns) a) in
@@ -75,7 +76,7 @@ unfolding writeAnswer readAnswer
 read-back xs room n b e out =
     let h = some-read (readOf MOST xs) _ n e in
     let s = when-some (readOf MOST xs) (inRoom (fieldsOf (readOf MOST xs)) room) h in
-    let t : take n (readOut xs room) ≡ fieldsOf (readOf MOST xs) = rw s (room-front (fieldsOf (readOf MOST xs)) room n (sym s ∙ e)) in
+    let t : take n (readOut xs room) ≡ fieldsOf (readOf MOST xs) = rw s (room-taken (fieldsOf (readOf MOST xs)) room n (sym s ∙ e)) in
     let a = read-writes MOST xs b (readOf MOST xs) refl h in
     let g = rule-room (readOf MOST xs) out (a .rule) in
     rw (t, record-back (readOf MOST xs)) (rw (a .text) at g)

@@ -1,4 +1,4 @@
--- What stands in the room of a call that is done, and the answers of a record that meets its rule. Assumes nothing.
+-- The answers of a record that meets its rule. Assumes nothing.
 use Prim.Native.Nat.{ℕ}
 use native.Mathlib.Omega.{arith}
 use mathlib.Core.Path.{_≡_, refl, sym, ap, _∙_}
@@ -6,8 +6,7 @@ use mathlib.Core.Bool.{Bool, true, false}
 use mathlib.Core.List.{List, _++_}
 use mathlib.Core.Logic.{⊎-elim}
 use lib.Dec.{ltb}
-use lib.ListN.{length, take, drop}
-use lib.Seq.{take-at}
+use lib.ListN.{length, drop}
 use Rattle.wire.specs.Tests.{pick, ifLt}
 use Rattle.wire.proofs.Tests.{eq-yea}
 use Rattle.heads.proofs.Meeting.{eq-ways}
@@ -19,21 +18,9 @@ use Rattle.records.specs.Texts.{textOf}
 use Rattle.records.specs.Records.{writtenOf, outOf}
 use Rattle.verdict.specs.declared.Answer.{Answer}
 use Rattle.verdict.specs.declared.Answer.the-variants.{Done, Refused}
-use Rattle.verdict.specs.Answers.{number, value, inRoom, outBy}
+use Rattle.verdict.specs.Answers.{inRoom, outBy}
+use Rattle.verdict.proofs.Answers.{refused-not}
 use Rattle.fields.specs.Numbers.{MOST, whenRead, answerOf}
-
--- no refusal is done
-pub not-done : (m p n : ℕ) → (m ≡ 0 → ⊥) → Refused m p ≡ Done n → ⊥
-not-done m p n h e = h (ap number e)
-
--- a result that found room stands at its front
-pub room-front : (xs out : List ℕ) (n : ℕ) → inRoom xs out ≡ Done n → take n (outBy (inRoom xs out) xs out) ≡ xs
-unfolding inRoom ifLt outBy
-room-front xs out n = go (ltb (length out) (length xs))
-  where
-    go : (t : Bool) → pick t (Refused 25 0) (Done (length xs)) ≡ Done n → take n (outBy (pick t (Refused 25 0) (Done (length xs))) xs out) ≡ xs
-    go true e = absurd (not-done 25 0 n (λ z. omega arith) e)
-    go false e = take-at xs (drop (length xs) out) n (ap value e)
 
 -- ---- the reader
 
@@ -43,7 +30,7 @@ when-some (Picture f) a h = refl
 when-some Broken a h = absurd (h refl)
 
 pub some-read : (r : Record) (a : Answer) (n : ℕ) → whenRead r a ≡ Done n → r ≡ Broken → ⊥
-some-read r a n e g = not-done 21 0 n (λ z. omega arith) (sym (ap (λ (s : Record). whenRead s a) g) ∙ e)
+some-read r a n e g = refused-not 21 0 n (sym (ap (λ (s : Record). whenRead s a) g) ∙ e)
 
 -- ---- the writer
 
@@ -65,7 +52,7 @@ module _ (r : Record) where
   pub rule-done : (out : List ℕ) (n : ℕ) → answerOf (writtenOf MOST r out) ≡ Done n → fieldsRule MOST r ≡ 1
   unfolding writtenOf
   rule-done out n e =
-      ⊎-elim (λ w. w .0) (λ w. absurd (not-done 21 0 n (λ z. omega arith) (ap answerOf (w .1) ∙ e))) (eq-ways (fieldsRule MOST r) 1 _ written.BadFields _ refl)
+      ⊎-elim (λ w. w .0) (λ w. absurd (refused-not 21 0 n (ap answerOf (w .1) ∙ e))) (eq-ways (fieldsRule MOST r) 1 _ written.BadFields _ refl)
 
   pub rule-some : fieldsRule MOST r ≡ 1 → r ≡ Broken → ⊥
   rule-some e g = absurd (omega (arith, sym e ∙ ap (fieldsRule MOST) g))

@@ -1,10 +1,11 @@
 -- What a call answers once it knows the judgement of its file. Assumes nothing.
 use Prim.Native.Nat.{ℕ, _≤_}
-use mathlib.Core.Path.{_≡_, sym, _∙_}
+use mathlib.Core.Path.{_≡_, refl, sym, _∙_}
 use mathlib.Core.List.{List}
 use lib.ListN.{length}
 use Rattle.verdict.specs.declared.Answer.{Answer}
 use Rattle.verdict.specs.declared.Answer.the-variants as answer
+use Rattle.verdict.proofs.Answers.{refused-not}
 use Rattle.judge.specs.declared.Judgement.{Judgement}
 use Rattle.judge.specs.declared.Judgement.the-variants.{Accepted, Refused}
 use Rattle.judge.specs.Judgement.{LONGEST, judged, whenAccepted}
@@ -23,3 +24,9 @@ module _ (xs : List ℕ) {j : Judgement} (e : j ≡ judged xs) where
   -- what a call may go by then
   pub met : j ≡ Accepted → Meets xs
   met f = accepted-meets xs (sym e ∙ f)
+
+-- a call that is done was given an accepted file
+pub when-done : (j : Judgement) (a : Answer) {n : ℕ} → whenAccepted j a ≡ answer.Done n → (j ≡ Accepted) × (a ≡ answer.Done n)
+unfolding whenAccepted
+when-done Accepted a e = (refl, e)
+when-done (Refused k p) a e = absurd (refused-not k p _ e)

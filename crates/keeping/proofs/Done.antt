@@ -16,10 +16,11 @@ use Rattle.media.proofs.Payloads.{either}
 use Rattle.verdict.specs.declared.Answer.{Answer}
 use Rattle.verdict.specs.declared.Answer.the-variants.{Done, Refused}
 use Rattle.descriptions.specs.Ten.{MOST}
-use Rattle.judge.specs.declared.Judgement.{Judgement}
 use Rattle.judge.specs.declared.Judgement.the-variants as judgement
-use Rattle.judge.specs.Judgement.{LONGEST, judged, whenAccepted}
+use Rattle.judge.specs.Judgement.{LONGEST, judged}
 use Rattle.judge.specs.Acceptance.{Meets, plain}
+use Rattle.verdict.proofs.Answers.{refused-not}
+use Rattle.judge.proofs.Calls.{when-done}
 use Rattle.judge.proofs.Exact.{accepted-meets, meets-accepted}
 use Rattle.moving.specs.Moving.{moveOf, moveAnswer}
 use Rattle.shift.specs.Shift.{shiftOf, shiftAnswer}
@@ -32,14 +33,6 @@ pub kept-accepted : (xs ys : List ℕ) → Kept xs ys → judged ys ≡ judgemen
 kept-accepted xs ys k = meets-accepted ys (k .accepted)
 
 -- ---- what an answer that is done says
-
-pub refused-not : (k p n : ℕ) → Refused k p ≡ Done n → ⊥
-refused-not k p n e = let z : _≡_ {A = ℕ} 0 1 = cc in omega arith
-
-pub when-done : (j : Judgement) (a : Answer) {n : ℕ} → whenAccepted j a ≡ Done n → (j ≡ judgement.Accepted) × (a ≡ Done n)
-unfolding whenAccepted
-when-done judgement.Accepted a e = (refl, e)
-when-done (judgement.Refused k p) a e = absurd (refused-not k p _ e)
 
 pub pick-done : (t : Bool) (a : Answer) (k p : ℕ) {n : ℕ} → pick t a (Refused k p) ≡ Done n → (t ≡ true) × (a ≡ Done n)
 pick-done true a k p e = (refl, e)

@@ -17,20 +17,14 @@ use Rattle.judge.specs.Acceptance.{plain}
 use Rattle.moving.specs.Moving.{moveOf, moveAnswer}
 use Rattle.shift.specs.Shift.{shiftable, shiftOf, acceptedAnswer, shiftAnswer}
 use Rattle.replace.specs.Replace.{kindAt, takes, replaceOf, roomAnswer, settledAnswer, takenAnswer, replaceAnswer}
-use Rattle.keeping.proofs.Done.{refused-not, when-done, pick-done, equal-done}
-
--- its number is the result's length
-fits-done : (new out : List ℕ) {n : ℕ} → inRoom new out ≡ Done n → n ≡ length new
-unfolding inRoom
-fits-done new out {n} e =
-    either (length out) (length new)
-    (λ h. absurd (refused-not 25 0 _ (lt-yea _ _ _ _ _ h refl ∙ e)))
-    (λ h. let q : Done (length new) ≡ Done n = lt-nay _ _ _ _ _ h refl ∙ e in cc)
+use Rattle.verdict.proofs.Answers.{refused-not, room-size}
+use Rattle.judge.proofs.Calls.{when-done}
+use Rattle.keeping.proofs.Done.{pick-done, equal-done}
 
 -- of a move
 pub move-size : (xs out : List ℕ) {n : ℕ} → moveAnswer xs out ≡ Done n → n ≡ length (moveOf xs)
 unfolding moveAnswer
-move-size xs out e = fits-done (moveOf xs) out (pick-done (plain xs) _ 23 0 (when-done (judged xs) _ e .1) .1)
+move-size xs out e = room-size (moveOf xs) out (pick-done (plain xs) _ 23 0 (when-done (judged xs) _ e .1) .1)
 
 -- of a shift
 pub shift-size : (z : ℤ) (xs out : List ℕ) {n : ℕ} → shiftAnswer z xs out ≡ Done n → n ≡ length (shiftOf z xs)
@@ -38,7 +32,7 @@ unfolding shiftAnswer acceptedAnswer
 shift-size z xs out e =
     let a = when-done (judged xs) _ e in
     let b = pick-done (shiftable z xs) (pick (plain xs) (inRoom (shiftOf z xs) out) (Refused 23 0)) 22 0 (a .1) in
-    fits-done (shiftOf z xs) out (pick-done (plain xs) _ 23 0 (b .1) .1)
+    room-size (shiftOf z xs) out (pick-done (plain xs) _ 23 0 (b .1) .1)
 
 -- of a replacement
 pub replace-size : (xs : List ℕ) (i : ℕ) (new out : List ℕ) {n : ℕ} → replaceAnswer xs i new out ≡ Done n → n ≡ length (replaceOf xs i new)
@@ -51,4 +45,4 @@ replace-size xs i new out e =
     let d = pick-done (plain xs) (ifLt LONGEST (length (replaceOf xs i new)) (Refused 24 0) (inRoom (replaceOf xs i new) out)) 23 0 (c .1) in
     either LONGEST (length (replaceOf xs i new))
     (λ h. absurd (refused-not 24 0 _ (lt-yea _ _ _ _ _ h refl ∙ d .1)))
-    (λ h. fits-done (replaceOf xs i new) out (lt-nay _ _ _ _ _ h refl ∙ d .1))
+    (λ h. room-size (replaceOf xs i new) out (lt-nay _ _ _ _ _ h refl ∙ d .1))

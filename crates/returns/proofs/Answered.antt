@@ -7,13 +7,12 @@ use mathlib.Core.Logic.{_⊎_}
 use lib.ListN.{length, take}
 use Rattle.wire.specs.Numbers.{Bytes}
 use Rattle.wire.proofs.Tests.{eq-yea, eq-nay, lt-nay}
-use Rattle.verdict.specs.declared.Answer.{Answer}
 use Rattle.verdict.specs.declared.Answer.the-variants.{Done, Refused}
 use Rattle.verdict.specs.Answers.{inRoom, outBy}
-use Rattle.judge.specs.declared.Judgement.{Judgement}
-use Rattle.judge.specs.declared.Judgement.the-variants as judgement
 use Rattle.judge.specs.Judgement.{judged, whenAccepted}
 use Rattle.judge.specs.Acceptance.{Meets}
+use Rattle.verdict.proofs.Answers.{room-taken}
+use Rattle.judge.proofs.Calls.{when-done}
 use Rattle.judge.proofs.Exact.{accepted-meets}
 use Rattle.movie.specs.Movie.{tracks}
 use Rattle.movie.specs.Entries.{entries}
@@ -23,7 +22,6 @@ use Rattle.table.specs.Table.{own, tableAnswer, tableOut}
 use Rattle.returns.specs.Stsd.{stsdBytes}
 use Rattle.returns.proofs.Standing.{stsd-lies}
 use Rattle.returns.proofs.Returned.{own-formed, own-unsheet, own-none, own-some, table-returns}
-use Rattle.returns.proofs.Room.{refused-not, room-taken}
 
 module _ (xs : List ℕ) (m : Meets xs) (v : Bytes xs) (t : ℕ) (out : List ℕ) where
   -- 30 cannot happen
@@ -45,19 +43,14 @@ module _ (xs : List ℕ) (m : Meets xs) (v : Bytes xs) (t : ℕ) (out : List ℕ
 
 -- ---- the sheet reader, and then the table writer
 
-when-done : (j : Judgement) (a : Answer) (n : ℕ) → whenAccepted j a ≡ Done n → (j ≡ judgement.Accepted) × (a ≡ Done n)
-unfolding whenAccepted
-when-done judgement.Accepted a n e = (refl, e)
-when-done (judgement.Refused k p) a n e = absurd (refused-not k p n e)
-
 module _ (xs : List ℕ) (out : List ℕ) (n : ℕ) (e : sheetAnswer xs out ≡ Done n) where
   -- a file whose sheet is read is accepted, and what was written is its sheet
   pub sheet-meets : Meets xs
   unfolding sheetAnswer
-  sheet-meets = accepted-meets xs (when-done (judged xs) _ n e .0)
+  sheet-meets = accepted-meets xs (when-done (judged xs) _ e .0)
 
   pub sheet-taken : take n (sheetOut xs out) ≡ sheetOf xs
   unfolding sheetAnswer whenAccepted
   sheet-taken =
-      let d = when-done (judged xs) (inRoom (sheetOf xs) out) n e in
+      let d = when-done (judged xs) (inRoom (sheetOf xs) out) e in
       rw (d .0) (room-taken (sheetOf xs) out n (d .1))

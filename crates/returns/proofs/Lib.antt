@@ -8,6 +8,5 @@ pub mod Small
 pub mod Own
 pub mod Written
 pub mod Returned
-pub mod Room
 pub mod Answered
 pub mod Trips

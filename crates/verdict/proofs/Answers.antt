@@ -1,8 +1,13 @@
 -- What the answer of a call says, as code asks. Assumes nothing.
 use Prim.Native.Nat.{ℕ, _≤_, _<_}
+use native.Mathlib.Omega.{arith}
 use mathlib.Core.Path.{_≡_, refl, sym, ap, _∙_}
+use mathlib.Core.Bool.{Bool, true, false}
 use mathlib.Core.List.{List, _++_}
-use lib.ListN.{length, drop}
+use lib.Dec.{ltb}
+use lib.ListN.{length, take, drop}
+use lib.Seq.{take-at}
+use Rattle.wire.specs.Tests.{pick, ifLt}
 use Rattle.wire.specs.Writing.{Wrote}
 use Rattle.wire.proofs.Tests.{lt-yea, lt-nay}
 use Rattle.verdict.specs.declared.Answer.{Answer}
@@ -27,3 +32,22 @@ module _ (xs out : List ℕ) where
   pub out-wrote : (a : Answer) {n : ℕ} {after : List ℕ} → Done n ≡ a → Wrote xs out n after → after ≡ outBy a xs out
   unfolding outBy
   out-wrote a e w = rw (← e) (w .is ∙ ap (λ (m : ℕ). xs ++ drop m out) (w .size))
+
+-- ---- a call that is done
+
+pub refused-not : (k p n : ℕ) → Refused k p ≡ Done n → ⊥
+refused-not k p n e = let z : _≡_ {A = ℕ} 0 1 = cc in omega arith
+
+-- its number is the result's length
+pub room-size : (xs out : List ℕ) {n : ℕ} → inRoom xs out ≡ Done n → n ≡ length xs
+unfolding inRoom ifLt
+room-size xs out {n} = go (ltb (length out) (length xs))
+  where
+    go : (t : Bool) → pick t (Refused 25 0) (Done (length xs)) ≡ Done n → n ≡ length xs
+    go true e = absurd (refused-not 25 0 n e)
+    go false e = cc
+
+-- its result stands at the front
+pub room-taken : (xs out : List ℕ) (n : ℕ) → inRoom xs out ≡ Done n → take n (outBy (inRoom xs out) xs out) ≡ xs
+unfolding outBy
+room-taken xs out n e = rw e (take-at xs (drop (length xs) out) n (sym (room-size xs out e)))
