@@ -164,6 +164,44 @@ def table(sheet, track):
     return w(16 + sum(map(len, bodies))) + b"stsd" + w(0, len(bodies)) + b"".join(bodies)
 
 
+# ---- Records as numbers
+
+
+SPEECH = ((14, 2), (32, 2), (44, 4), (48, 1), (49, 2), (51, 1), (52, 1))
+PICTURE = ((14, 2), (32, 2), (34, 2), (94, 4), (98, 1), (99, 1), (100, 1))
+RATES = ((109, 4), (113, 4))
+
+
+def record_read(entry):
+    """The fields of an entry, kind first; of a picture the rates last, behind 1 where it has them."""
+    code = entry[4:8].decode("latin-1")
+    ask(code in RECORDS and num(entry, 0) == len(entry) and body_fits(code, entry[8:]), 21)
+    fields = [kind_of(code)] + [num(entry, at, width) for at, width in (PICTURE if code == "s263" else SPEECH)]
+    if code != "s263":
+        return fields
+    return fields + ([1] + [num(entry, at, width) for at, width in RATES] if len(entry) > 101 else [0, 0, 0])
+
+
+def blank(fields):
+    """An entry of the kind that fields say, and where each of them goes."""
+    if len(fields) == 8 and fields[0] in (3, 4):
+        return files.audio(KINDS[fields[0]], files.damr()), list(zip(fields[1:], SPEECH))
+    ask(len(fields) == 11 and fields[0] == 5, 21)
+    rates = [files.bitr()] if fields[8] else []
+    return files.visual("s263", files.d263(*rates)), list(zip(fields[1:8] + fields[9:], PICTURE + RATES * len(rates)))
+
+
+def record_write(fields):
+    """The entry of fields: it has to read back as these fields."""
+    box, placed = blank(fields)
+    entry = bytearray(files.lay([box], 0, 0))
+    for n, (at, width) in placed:
+        ask(n < 256**width, 21)
+        entry[at : at + width] = n.to_bytes(width, "big")
+    ask(record_read(bytes(entry)) == fields, 21)
+    return bytes(entry)
+
+
 # ---- Edits
 
 

@@ -5,19 +5,23 @@ The answers are those of tests/answers.py, which knows the documents and not the
 import pathlib
 
 import answers
+import cases
 import files
 from files import Box, audio, bitr, d263, damr, esds, h, num, patch, visual, w
 
 ROOT = pathlib.Path(__file__).resolve().parent.parent
 CALLS = ROOT / "crates" / "calls"
 REAL = ROOT / "crates" / "cases" / "data"
-PACK = 60000
+GROUP = 65536
 ROOM = 40000
 LONG_ROOM = 1050000
 FILL = 0xAA
-KINDS = {"sheet": 1, "table": 2, "brand": 3, "tracks": 4, "track": 5, "offsets": 6, "shift": 7, "move": 8}
-KINDS.update({"listing": 9, "replace": 10, "newest": 11})
-NEEDS = {"listing": "listing", "replace": "replace", "newest": "newer"}
+PLAIN = ["judge", "tracks", "brand"]
+NUMBERS = ["track", "record read", "newer"]
+BYTES = ["sheet", "table", "record write", "listing", "shift", "replace", "move"]
+# by the numbers that the program has for them, from 1
+KINDS = [*PLAIN, *NUMBERS, "offsets", "part", *BYTES]
+# by the numbers that the program has for them, from 0
 MINUTES = [0, 1, -1, 60, -60, 61, -61, 839, -839, 840, -840, 841, -841, 71582788, -71582788, 2**63 - 1, -(2**63)]
 MINUTES += [2, -2, 2**32, -(2**32)]
 HUGE = [2**32, 2**32 + 1, 2**63, 2**64 - 1]
@@ -49,7 +53,7 @@ def line_bytes(call, room):
 
 def line_numbers(call, room):
     text, result = told(lambda: answers.fit(call(), room))
-    return text + "".join(" %d" % n for n in ((result or []) + [0xAAAAAAAAAAAAAAAA] * 8)[:8])
+    return text + "".join(" %d" % n for n in (result or []) + [0xAAAAAAAAAAAAAAAA] * (room - len(result or [])))
 
 
 def line_list(call, room):
@@ -57,12 +61,21 @@ def line_list(call, room):
     return text + " sum %d" % checksum(((result or []) + [0xAAAAAAAA] * 200)[:200])
 
 
-def line_newest(call):
+def line_part(call, files_given):
+    """The part of the file that the entry stands in, and the order; an empty part where it is refused."""
     text, result = told(call)
-    return text if result is None else ": order %d file %d place %d size %d" % tuple(result)
+    if result is None:
+        return text + " sum %d" % checksum(b"")
+    order, chosen, place, size = result
+    return ": done %d sum %d" % (order, checksum(files_given[chosen - 1][place : place + size]))
 
 
 # ---- The calls. Each maker answers (kind, name, room, three numbers, more bytes, the line after the name).
+
+
+def judge(label, file):
+    number, place = files.judge(file)
+    return "judge", "judge %s" % label, 0, (), b"", ": %d at %d" % (number, place) if number else ": done 0"
 
 
 def sheet(label, file, room):
@@ -85,7 +98,7 @@ def tracks(label, file):
     return "tracks", "tracks %s" % label, 0, (), b"", told(lambda: answers.tracks(file))[0]
 
 
-def track(label, file, number, room=8):
+def track(label, file, number, room=5):
     line = line_numbers(lambda: answers.track(file, number), room)
     return "track", "track %d of %s room %d" % (number, label, room), room, (number,), b"", line
 
@@ -97,8 +110,7 @@ def offsets(label, file, number, room=200):
 
 def shift(label, file, minutes, room):
     line = line_bytes(lambda: answers.shift(file, minutes), room)
-    name = "shift %s by %d room %d" % (label, minutes, room)
-    return "shift", name, room, (MINUTES.index(minutes),), b"", line
+    return "shift", "shift %s by %d room %d" % (label, minutes, room), room, (MINUTES.index(minutes),), b"", line
 
 
 def move(label, file, room):
@@ -117,10 +129,31 @@ def replace(label, file, entry, what, record, room):
     return "replace", "replace %d of %s by %s room %d" % (entry, label, what, room), room, (entry,), record, line
 
 
-def newest(label, first, y, second, z, entry):
-    line = line_newest(lambda: answers.newest(first, y, second, z, entry))
-    numbers = (MINUTES.index(y), MINUTES.index(z), entry)
-    return "newest", "newest %s %d %d entry %d" % (label, y, z, entry), 0, numbers, w(len(first)), line
+def record_read(label, entry, room=12):
+    line = line_numbers(lambda: answers.record_read(entry), room)
+    return "record read", "record read %s room %d" % (label, room), room, (), b"", line
+
+
+def record_write(fields, room):
+    line = line_bytes(lambda: answers.record_write(fields), room)
+    name = "record write %s room %d" % (" ".join(map(str, fields)), room)
+    return "record write", name, room, (), b"", line
+
+
+def newest(label, first, y, second, z, entry, room=4):
+    line = line_numbers(lambda: answers.newest(first, y, second, z, entry), room)
+    name = "newer %s %d %d entry %d room %d" % (label, y, z, entry, room)
+    return "newer", name, room, (MINUTES.index(y), MINUTES.index(z), entry), w(len(first)), line
+
+
+def part(label, first, y, second, z, entry):
+    line = line_part(lambda: answers.newest(first, y, second, z, entry), (first, second))
+    return "part", "part %s %d %d entry %d" % (label, y, z, entry), 0, (MINUTES.index(y), MINUTES.index(z), entry), w(len(first)), line
+
+
+def both(*given):
+    """The newer of two, and its part."""
+    return [newest(*given), part(*given)]
 
 
 # ---- Files. A chunk's offset is counted from the payload of its own mdat.
@@ -230,7 +263,7 @@ def all_films():
             yield name + "-" + place, made(film(tracks_of, layout))
 
 
-# ---- Groups: (a file, the calls on it)
+# ---- What each file is lent to
 
 
 def rooms(n):
@@ -380,7 +413,7 @@ def brand_groups():
     for label, file in brand_files():
         calls = [brand(label, file, name) for name in answers.BRANDS]
         calls += [brand(label, file, name) for name in ("isom", "3gp7", "3GP6")]
-        calls += [brand(label, file, n) for n in (0, 2**32 + num(b"3gp6", 0), 2**64 - 1)]
+        calls += [brand(label, file, n) for n in (0, 2**32 - 1)]
         yield file, calls + [listing(label, file, 900), sheet(label, file, 1500), tracks(label, file)]
 
 
@@ -686,12 +719,14 @@ def newest_groups():
     zones += [(-1, -2), (841, 0), (0, 841), (0, -841), (-841, 841), (2**63 - 1, -(2**63)), (-(2**63), 0), (0, 2**63 - 1)]
     for first, second in pairs:
         one_file, other_file = two(first), dated(second)
-        label = "%d-%d" % (first, second)
-        calls = [newest(label, one_file, y, other_file, z, n) for y, z in zones for n in (1, 2)]
-        calls += [newest(label, one_file, 0, other_file, 0, n) for n in (0, 3, 4, *HUGE)]
-        calls += [newest(label, one_file, 841, other_file, 0, 0), newest(label, one_file, 0, other_file, 60, 3)]
+        label, back = "%d-%d" % (first, second), "back-%d-%d" % (first, second)
+        calls = [call for y, z in zones for n in (1, 2) for call in both(label, one_file, y, other_file, z, n)]
+        calls += [call for n in (0, 3, 4, *HUGE) for call in both(label, one_file, 0, other_file, 0, n)]
+        calls += [*both(label, one_file, 841, other_file, 0, 0), *both(label, one_file, 0, other_file, 60, 3)]
+        calls += [newest(label, one_file, y, other_file, 0, n, room) for y in (0, 841) for n in (1, 9) for room in (0, 3, 5)]
         yield one_file + other_file, calls
-        yield other_file + one_file, [newest("back-" + label, other_file, y, one_file, z, n) for y, z in zones[:10] for n in (1, 3)]
+        calls = [call for y, z in zones[:10] for n in (1, 3) for call in both(back, other_file, y, one_file, z, n)]
+        yield other_file + one_file, calls
     good = two(10**9)
     bad = {}
     for name, parts, _ in files.cases():
@@ -699,11 +734,60 @@ def newest_groups():
         if name[:2] != "0-" and len(file) < 1500:
             bad.setdefault(name.split("-")[0], (name, file))
     for name, file in bad.values():
-        yield good + file, [newest("good-and-" + name, good, y, file, 0, n) for y in (0, 841) for n in (0, 1)]
-        yield file + good, [newest(name + "-and-good", file, y, good, 0, n) for y in (0, 841) for n in (0, 1)]
+        label = "good-and-" + name
+        yield good + file, [call for y in (0, 841) for n in (0, 1) for call in both(label, good, y, file, 0, n)]
+        label = name + "-and-good"
+        yield file + good, [call for y in (0, 841) for n in (0, 1) for call in both(label, file, y, good, 0, n)]
     values = list(bad.values())
     for (a, first), (b, second) in zip(values, values[1:] + values[:1]):
-        yield first + second, [newest("%s-and-%s" % (a, b), first, 0, second, 841, 0)]
+        label = "%s-and-%s" % (a, b)
+        yield first + second, [*both(label, first, 0, second, 841, 0), newest(label, first, 0, second, 0, 1, 0)]
+
+
+# ---- Records as numbers
+
+SPEECH = [3, 1, 8000, 0x5658595A, 0, 0x81FF, 0, 1]
+WIDE = [4, 2, 16000, 1, 255, 0x83FF, 30, 15]
+PICTURE = [5, 1, 176, 144, 0x5658595A, 0, 10, 0, 0, 0, 0]
+RATED = PICTURE[:8] + [1, 64000, 128000]
+
+
+def with_field(fields, at, n):
+    return fields[:at] + [n] + fields[at + 1 :]
+
+
+def changed_fields():
+    """Fields of which one is at, or past, what its place holds, and fields that break a rule."""
+    for fields in (SPEECH, WIDE, PICTURE, RATED):
+        for at in range(len(fields)):
+            for n in (0, 1, 2, 3, 4, 5, 6, 255, 256, 2**16 - 1, 2**16, 2**32 - 1, 2**32, fields[at] + 2**32, 2**64 - 1):
+                yield with_field(fields, at, n)
+    for modes, period, frames in ((0x83FF, 0, 1), (0x81FF, 0, 0), (0x81FF, 0, 16), (1, 4, 6), (1, 2, 6), (0, 6, 2), (0x400, 0, 1)):
+        yield [3, *SPEECH[1:5], modes, period, frames]
+        yield [4, *SPEECH[1:5], modes, period, frames]
+    for rates in ((0, 1, 0), (0, 0, 1), (0, 2**32, 0), (1, 0, 0), (2, 0, 0), (1, 2**32, 0), (1, 0, 2**32)):
+        yield PICTURE[:8] + [*rates]
+    for n in [*range(0, 13), 20]:
+        for fields in (SPEECH, RATED):
+            yield (fields + [0] * 20)[:n]
+
+
+def field_groups():
+    for name, _, entry in [*cases.entries(), *cases.heads()]:
+        calls = [record_read(name, entry), record_read(name, entry, 0)]
+        if told(lambda: answers.record_read(entry))[1]:
+            n = len(answers.record_read(entry))
+            calls += [record_read(name, entry, room) for room in (1, n - 1, n, n + 1)]
+        yield entry, calls
+    for fields in (SPEECH, WIDE, PICTURE, RATED):
+        n = len(answers.record_write(fields))
+        yield numbers_of(fields), [record_write(fields, room) for room in (1, n - 1, n, n + 1)]
+    for fields in changed_fields():
+        yield numbers_of(fields), [record_write(fields, 0), record_write(fields, 130)]
+
+
+def numbers_of(fields):
+    return b"".join(n.to_bytes(8, "big") for n in fields)
 
 
 # ---- Single files
@@ -773,7 +857,8 @@ def real_groups():
         yield file, calls
 
 
-def groups():
+def short_groups():
+    """(a file, the calls on it)."""
     yield from plain_groups()
     yield from film_groups()
     yield from refused_groups()
@@ -783,6 +868,7 @@ def groups():
     yield from marked_groups()
     yield from record_groups()
     yield from newest_groups()
+    yield from field_groups()
     yield from real_groups()
 
 
@@ -818,28 +904,29 @@ def long_edits(label, file):
 
 
 def long_groups():
-    """(name, start, whole length, calls)."""
+    """(start, whole length, calls)."""
     longest = files.LONGEST
     for more in (-17, -16, -15, 0, 1):
         total = longest + more
         start = long_film(total)
         file = start.ljust(total, b"\0")
-        yield "film-%d" % total, start, total, long_edits("film-%d" % total, file)
+        yield start, total, long_edits("film-%d" % total, file)
         first = made(film(dict(films())["speech"], lambda moov, a, b: [a, moov, b]))
-        calls = [newest("film-and-%d" % total, first, y, file, 0, n) for y in (0, 840, -840) for n in (0, 1, 3)]
-        yield "film-and-%d" % total, first + start, len(first) + total, calls
+        label = "film-and-%d" % total
+        calls = [call for y in (0, 840, -840) for n in (0, 1, 3) for call in both(label, first, y, file, 0, n)]
+        yield first + start, len(first) + total, calls
     for size in (longest - 16, longest - 15):
         start = sheet_of((1, OTHER), (2, one(Box("tx3g", bytes(8))).ljust(size, b"\0")))
         start = bent(start, start.index(b"tx3g", 120) - 4, w(size))
         given = start.ljust(100 + len(OTHER) + size, b"\0")
         label, start = "body-%d" % size, start.rstrip(b"\0")
         calls = [table(label, given, track, room) for track in (0, 1, 2, 3) for room in (0, longest - 1, longest, longest + 20)]
-        yield label, start, len(given), calls
-        yield label + "-more", start, len(given) + 1, [table(label + "-more", given + b"\0", 2, room) for room in (0, longest)]
-        yield label + "-less", start, len(given) - 1, [table(label + "-less", given[:-1], 2, room) for room in (0, longest)]
+        yield start, len(given), calls
+        yield start, len(given) + 1, [table(label + "-more", given + b"\0", 2, room) for room in (0, longest)]
+        yield start, len(given) - 1, [table(label + "-less", given[:-1], 2, room) for room in (0, longest)]
 
 
-# ---- The packs
+# ---- The data of the program
 
 
 def behind_length(data):
@@ -848,41 +935,39 @@ def behind_length(data):
 
 def packed(call):
     kind, name, room, numbers, more, _ = call
-    assert len(name) < 256, name
-    start = bytes([KINDS[kind]]) + w(room)
+    assert len(name) < 256 and room <= LONG_ROOM, name
+    start = bytes([1 + KINDS.index(kind)]) + w(room)
     for n in (tuple(numbers) + (0, 0, 0))[:3]:
         start += n.to_bytes(8, "big")
     return behind_length(start + bytes([len(name)]) + name.encode() + more)
 
 
-def ready():
-    """The kinds of call that the program makes: those whose crates it uses."""
-    uses = [line for line in (ROOT / "crates.txt").read_text().splitlines() if line.startswith("calls:")][0].split()
-    return [kind for kind in KINDS if kind not in NEEDS or NEEDS[kind] in uses]
+def all_groups():
+    for name, start, length in files.checked():
+        yield start, length, [judge(name, start.ljust(length, b"\0"))]
+    for file, calls in short_groups():
+        yield file, len(file), calls
+    yield from long_groups()
 
 
-def packs_of(all_groups, kinds):
-    """The packs and the lines that the program writes of them."""
-    packs, lines, names, counts = [b""], [], {}, dict.fromkeys(kinds, 0)
-    for file, calls in all_groups:
-        left = [call for call in calls if call[0] in kinds]
-        while left:
-            group, size = b"", len(file) + 8
-            while left and size + len(group) + len(packed(left[0])) <= PACK:
-                call = left.pop(0)
-                if call[1] in names:
-                    assert names[call[1]] == (file, call), call[1]
-                    continue
-                assert call[2] <= ROOM, call[1]
-                names[call[1]] = (file, call)
-                counts[call[0]] += 1
-                group += packed(call)
-                lines.append(call[1] + call[5])
-            one_group = behind_length(behind_length(file) + group)
-            if len(packs[-1]) + len(one_group) > PACK:
-                packs.append(b"")
-            packs[-1] += one_group
-    return packs, lines, counts
+def fresh(start, length, calls, seen):
+    """The calls that were not made before; a name stands for one call."""
+    for call in calls:
+        assert seen.get(call[1], (start, length, call)) == (start, length, call), call[1]
+        if call[1] not in seen:
+            yield call
+        seen[call[1]] = (start, length, call)
+
+
+def split(start, length, calls):
+    """Groups of a file, each with as many of its calls as go into one."""
+    group = head = w(length, len(start)) + start
+    for call in map(packed, calls):
+        if len(group) + len(call) > GROUP:
+            yield group
+            group = head
+        group += call
+    yield group
 
 
 def check_reader():
@@ -899,29 +984,17 @@ def check_reader():
 
 def main():
     check_reader()
+    seen, groups, lines = {}, [], []
+    for start, length, calls in all_groups():
+        new = list(fresh(start, length, calls, seen))
+        groups += split(start, length, new)
+        lines += [call[1] + call[5] for call in new]
+    assert max(map(len, groups)) <= GROUP
     (CALLS / "data").mkdir(exist_ok=True)
-    for old in (CALLS / "data").glob("*"):
-        old.unlink()
-    packs, lines, counts = packs_of(groups(), ready())
-    for k, pack in enumerate(packs):
-        assert len(pack) <= PACK
-        (CALLS / "data" / ("pack%02d" % (k + 1))).write_bytes(pack)
-    for name, start, total, calls in long_groups():
-        assert total <= LONG_ROOM
-        data = w(total, len(start)) + start
-        for call in calls:
-            if call[0] in counts:
-                assert call[2] <= LONG_ROOM, call[1]
-                counts[call[0]] += 1
-                data += packed(call)
-                lines.append(call[1] + call[5])
-        (CALLS / "data" / name).write_bytes(data)
+    (CALLS / "data" / "groups").write_bytes(w(len(groups)) + b"".join(map(behind_length, groups)))
     (CALLS / "stdout").write_text("\n".join(lines) + "\n")
-    program = (CALLS / "src" / "main.rt").read_text()
-    for path in (CALLS / "data").glob("*"):
-        if '(b"%s")' % path.name not in program:
-            print(path.name, "isn't run by main.rt")
-    print(counts, sum(counts.values()), "calls in", len(packs), "packs")
+    kinds = [call[0] for _, _, call in seen.values()]
+    print(len(kinds), "calls in", len(groups), "groups:", {kind: kinds.count(kind) for kind in KINDS})
 
 
 if __name__ == "__main__":

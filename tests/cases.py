@@ -401,51 +401,11 @@ def heads():
         yield from cases()
 
 
-# ---- records
-
-
-def fields_in(e):
-    """The fields of an entry that the record reader accepts, kind first, or None."""
-    if e[4:8] not in (b"samr", b"sawb", b"s263") or not entry_rule(e):
-        return None
-    kind, reference = KINDS.index(e[4:8]), number(e, 14, 2)
-    if kind != 5:
-        return [kind, reference, number(e, 32, 2), number(e, 44, 4), e[48], number(e, 49, 2), e[51], e[52]]
-    size = [number(e, 32, 2), number(e, 34, 2)]
-    rates = [1, number(e, 109, 4), number(e, 113, 4)] if len(e) == 117 else [0, 0, 0]
-    return [kind, reference, *size, number(e, 94, 4), e[98], e[99], e[100], *rates]
-
-
-SPEECH_PLACES = (2, 2, 4, 1, 2, 1, 1)
-PICTURE_PLACES = (2, 2, 2, 4, 1, 1, 1)
-
-
-def entry_of(fields):
-    """The entry that fields make, or None where they make none that meets its rule."""
-    kind = fields[0] if fields else 0
-    if kind not in (3, 4, 5):
-        return None
-    places = SPEECH_PLACES if kind < 5 else PICTURE_PLACES
-    if any(n >= 256**width for n, width in zip(fields[1:], places)):
-        return None
-    if kind < 5:
-        reference, scale, vendor, version, modes, period, frames = fields[1:]
-        made = audio(KINDS[kind], damr(modes, period, frames, be(vendor, 4), version), reference, scale)
-        return made if entry_rule(made) else None
-    reference, width, height, vendor, version, level, profile, rates, average, maximum = fields[1:]
-    if rates > 1 or max(average, maximum) >= 2**32 or (rates == 0 and (average or maximum)):
-        return None
-    inner = bitr(average, maximum) if rates else b""
-    return visual(b"s263", d263(inner, be(vendor, 4), version, level, profile), reference, width, height)
+# ---- decoder records
 
 
 def show_entry(name, track, e):
-    fields = fields_in(e)
-    answers = "%s: track %d alone %d wider %d" % (name, entry_rule(e, track), entry_rule(e), entry_rule(e, most=255))
-    if fields is None:
-        return answers + " refused 21 write 21 0 same %d" % (e == bytes(len(e)))
-    made = entry_of(fields)
-    return answers + " read %s write 0 %d same %d" % (" ".join(map(str, fields)), len(made), made == e)
+    return "%s: track %d alone %d wider %d" % (name, entry_rule(e, track), entry_rule(e), entry_rule(e, most=255))
 
 
 def decoders():
@@ -475,63 +435,6 @@ def decoders():
 
 def record_rule(kind, part):
     return kind in (3, 4, 5) and inside_rule(KINDS[kind], part)
-
-
-SPEECH = [3, 1, 8000, 0x5658595A, 0, 0x81FF, 0, 1]
-PICTURE = [5, 1, 176, 144, 0x5658595A, 0, 10, 0, 0, 0, 0]
-RATED = PICTURE[:8] + [1, 64000, 128000]
-
-
-def with_field(fields, at, n):
-    return fields[:at] + [n] + fields[at + 1 :]
-
-
-def rooms():
-    """Each form in rooms of no byte, of one less than it takes, of just enough, and of more."""
-    wide = [4, 2, 16000, 1, 255, 0x83FF, 30, 15]
-    for name, form, fields, n in (
-        ("speech", 1, SPEECH, 53),
-        ("wide speech", 1, wide, 53),
-        ("picture", 2, PICTURE, 101),
-        ("rated", 2, RATED, 117),
-    ):
-        for room in (0, 1, n - 1, n, n + 1, 130):
-            yield "%s in %d" % (name, room), form, fields, room
-
-
-def changed_fields():
-    """A form and fields of which one is at, or past, what its place holds."""
-    forms = ((1, SPEECH, SPEECH_PLACES), (2, PICTURE, PICTURE_PLACES), (2, RATED, PICTURE_PLACES + (0, 4, 4)))
-    for form, fields, widths in forms:
-        for at, width in enumerate(widths, 1):
-            most = 256**width - 1
-            for n in (0, most, most + 1, fields[at] + 2**32, 2**64 - 1) if width else (2, 2**32, 1 + 2**32):
-                yield form, with_field(fields, at, n)
-    for kind in (0, 1, 2, 4, 5, 6, 3 + 2**32):
-        yield 1, with_field(SPEECH, 0, kind)
-    for rates in ((0, 1, 0), (0, 0, 1), (0, 2**32, 0), (1, 0, 0), (2, 0, 0)):
-        yield 2, PICTURE[:8] + [*rates]
-    for fields in ((0x83FF, 0, 1), (0x81FF, 0, 0), (0x81FF, 0, 16), (0x81FF, 4, 6), (0x81FF, 2, 6), (0, 6, 2)):
-        yield 1, SPEECH[:5] + [*fields]
-
-
-def writes():
-    """A form (0 none, 1 speech, 2 a picture), its fields, and the room: bad fields are refused before the room."""
-    yield from rooms()
-    for room in (0, 130):
-        yield "none in %d" % room, 0, [], room
-        for form, fields in changed_fields():
-            yield "%s in %d" % (" ".join(map(str, fields)), room), form, fields, room
-
-
-def written(form, fields, room):
-    """The writer's answer, and the bytes that it changes from the buffer's start on."""
-    made = None if form == 0 or (form == 1) != (fields[0] != 5) else entry_of(fields)
-    if made is None:
-        return "write 21 0", b""
-    if room < len(made):
-        return "write 25 0", b""
-    return "write 0 %d" % len(made), made
 
 
 # ---- sample tables: rules 6 and 7
@@ -747,10 +650,6 @@ def named(name, body):
     return be(len(name), 1) + name.encode() + body
 
 
-def numbers(*ns):
-    return b"".join(be(n, 8) for n in ns)
-
-
 def write(file, cases):
     data = behind_lengths(cases)
     assert len(data) <= 60000, (file, len(data))
@@ -764,14 +663,7 @@ def entry_lines(file, cases):
 
 def record_lines():
     write("decoders", (named(name, be(kind, 4) + part) for name, kind, part in decoders()))
-    lines = ["%s: %d" % (name, record_rule(kind, part)) for name, kind, part in decoders()]
-    packed = []
-    for name, form, fields, room in writes():
-        answer, made = written(form, fields, room)
-        packed.append(named(name, numbers(room, form, *(fields + [0] * 11)[:11]) + made))
-        lines.append("%s: %s bytes 1 past 1" % (name, answer))
-    write("writes", packed)
-    return lines
+    return ["%s: %d" % (name, record_rule(kind, part)) for name, kind, part in decoders()]
 
 
 def table_lines():
@@ -789,4 +681,5 @@ def main():
     (CASES / "stdout").write_text("\n".join(lines) + "\n")
 
 
-main()
+if __name__ == "__main__":
+    main()

@@ -1,14 +1,11 @@
-#!/usr/bin/env python3
-"""Writes what the program `files` is run on (crates/files/data) and what it must write (crates/files/stdout).
+"""Files to be judged, and what is said of each.
 
 Every file is made with the answer that the documents give for it: the number in its name (0: accepted) and the box
 whose place is named (of several, the first). A judge written here from the documents alone, apart from the library's
 code, must agree."""
 import pathlib
 
-CRATES = pathlib.Path(__file__).resolve().parent.parent / "crates"
-DATA = CRATES / "files" / "data"
-PACK = 60000
+REAL = pathlib.Path(__file__).resolve().parent.parent / "crates" / "cases" / "data"
 LONGEST = 1048576
 
 
@@ -1132,37 +1129,31 @@ def orders():
 
 
 def long_files():
-    """(name, start): the program lays the start into a room of zeros of 1,048,576 bytes and judges it all."""
+    """(name, start, length): a start with zeros behind it."""
     f = movie()
     at = len(build(f))
-    yield "0-long-free", build(f + [Box("free", size=LONGEST - at)])
-    yield "2-long-free-one-less", build(f + [Box("free", size=LONGEST - at - 1)])
-    yield "2-long-free-one-more", build(f + [Box("free", size=LONGEST - at + 1)])
+    for less, number in ((0, "0"), (1, "2"), (-1, "2")):
+        yield "%s-long-free-less-%d" % (number, less), build(f + [Box("free", size=LONGEST - at - less)]), LONGEST
     for offset in (0, 1):
         f = movie(data=0)
         at = len(build(f)) - 8
         f[2].size = LONGEST - at
         last = LONGEST - at - 8 - 32 + offset
         get(f, "stco").body[1] = Offset(last)
-        yield "%d-long-last-chunk-%d" % (8 if offset else 0, offset), build(f)
+        yield "%d-long-last-chunk-%d" % (8 if offset else 0, offset), build(f), LONGEST
     for n in (65536, 65537):
         f = movie(tabled([(n, 1)], [(1, n // 8, 1), (8, n // 8 + n % 8, 1)], [4], [7 * k for k in range(8)]), data=0)
         get(f, "stsz").body = [w(0, 16 - n % 2, n)]
         at = len(build(f)) - 8
         f[2].size = LONGEST - at
-        yield "%d-long-samples-%d" % (0 if n == 65536 else 7, n), build(f)
-
-
-def made_files():
-    """(name, file): what the program makes of the example and a `free` box that fills the rest, and parts of that."""
+        yield "%d-long-samples-%d" % (0 if n == 65536 else 7, n), build(f), LONGEST
     start = build(movie())
-    filled, over = [(start + w(n - len(start)) + b"free").ljust(n, b"\0") for n in (LONGEST, LONGEST + 1)]
-    yield "0-made-1048576", filled
-    yield "2-made-1048575", filled[:-1]
-    yield "2-made-8", filled[:8]
-    yield "1-made-7", filled[:7]
-    yield "1-made-1048577", over
-    yield "2-made-1048577-less-1", over[:-1]
+    filled, over = [start + w(n - len(start)) + b"free" for n in (LONGEST, LONGEST + 1)]
+    yield "2-filled-1048575", filled, LONGEST - 1
+    yield "2-filled-8", filled[:8], 8
+    yield "1-filled-7", filled[:7], 7
+    yield "1-over-1048577", over, LONGEST + 1
+    yield "2-over-1048576", over, LONGEST
 
 
 def check_builder():
@@ -1170,12 +1161,8 @@ def check_builder():
     file = build(f)
     assert judge(file) == (0, 0) and get(f, "stsd/samr").place == 397 and file[397:401] == w(53), "the example"
     real = {"c05_faststart_cut": (2, 602), "f04_amrwb": (10, 13763), "g01_amrnb": (10, 7473)}
-    for path in sorted((CRATES / "cases" / "data").glob("*.3gp")):
+    for path in sorted(REAL.glob("*.3gp")):
         assert judge(path.read_bytes()) == real.get(path.stem, (0, 0)), path.name
-
-
-def answer(number, place):
-    return "accepted" if number == 0 else "%d at %d" % (number, place)
 
 
 def wanted(name, place):
@@ -1192,40 +1179,14 @@ def cases():
         yield from group()
 
 
-def main():
+def checked():
+    """(name, start, length) of each file, on which the judge says what is wanted."""
     check_builder()
-    for old in DATA.glob("*"):
-        old.unlink()
-    lines, packs, names = [], [b""], set()
     for name, parts, place in cases():
         file = build(parts)
-        want = wanted(name, place)
-        assert judge(file) == want, (name, judge(file), want)
-        assert name not in names, name
-        names.add(name)
-        one = bytes([len(name)]) + h(len(file)) + name.encode() + file
-        if len(packs[-1]) + len(one) > PACK:
-            packs.append(b"")
-        packs[-1] += one
-        lines.append(name + " " + answer(*want))
-    for k, pack in enumerate(packs):
-        (DATA / ("pack%02d" % (k + 1))).write_bytes(pack)
-    for name, start in long_files():
-        got = judge(start + bytes(LONGEST - len(start)))
-        assert got[0] == wanted(name, None)[0], (name, got)
-        (DATA / name).write_bytes(start)
-        lines.append(name + " " + answer(*got))
-    (DATA / "example").write_bytes(build(movie()))
-    for name, file in made_files():
-        got = judge(file)
-        assert got[0] == wanted(name, None)[0], (name, got)
-        lines.append(name + " " + answer(*got))
-    (CRATES / "files" / "stdout").write_text("\n".join(lines) + "\n")
-    program = (CRATES / "files" / "src" / "main.rt").read_text()
-    for path in DATA.glob("*"):
-        assert '(b"%s")' % path.name in program, path.name + " isn't run by main.rt"
-    print(len(names), "files in", len(packs), "packs")
-
-
-if __name__ == "__main__":
-    main()
+        assert judge(file) == wanted(name, place), (name, judge(file))
+        yield name, file, len(file)
+    for name, start, length in long_files():
+        number, _ = judge(start.ljust(length, b"\0"))
+        assert number == wanted(name, None)[0], (name, number)
+        yield name, start, length

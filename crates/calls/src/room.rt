@@ -1,105 +1,91 @@
-// What is written of an answer, and of a room after it.
+// The room that a call is lent, and the line that is written of both.
+use crate::ask;
+use crate::call;
+use crate::print;
 use heads::lend;
-use newer::Outcome;
-use newer::Part;
-use verdict::Answer;
-ghost use Prim.Native.Nat.{_<_};
+use wire::number;
 
-fn text(words: &[u8], n: u64) {
-    io::write_all(1, words);
-    io::print_decimal(1, n);
+// The longest room but for the files of a megabyte.
+const SHORT: usize = 40000;
+
+fn numbers(file: &[u8], call: &[u8]) {
+    let mut list = [0xAAAAAAAAAAAAAAAAu64; 16];
+    let all: &mut [u64] = &mut list;
+    let n = number::least(call::asked(call), all.len());
+    print::answer(ask::numbers(file, call, &mut all[0..n]));
+    let written = &all[..];
+    print::all(&written[0..n]);
 }
 
-fn say_refusal(n: usize, p: usize) {
-    text(b": ", n as u64);
-    text(b" at ", p as u64);
+fn offsets(file: &[u8], call: &[u8]) {
+    let mut list = [0xAAAAAAAAu32; 200];
+    let all: &mut [u32] = &mut list;
+    let n = number::least(call::asked(call), all.len());
+    print::answer(threegp::threegp_offsets(file, call::first(call) as u64, &mut all[0..n]));
+    print::sum_numbers(all);
 }
 
-fn say_part(part: Part) {
-    text(b": order ", part.order as u64);
-    text(b" file ", part.file as u64);
-    text(b" place ", part.place as u64);
-    text(b" size ", part.size as u64);
+// The newer of two by the call that hands back a part of a file.
+fn part(files: &[u8], call: &[u8]) {
+    let n = number::word32(call::more(call), 0);
+    let y = call::minutes(call::first(call));
+    let z = call::minutes(call::second(call));
+    let mut answer = 0xAAAAAAAAAAAAAAAAu64;
+    let part = newer::newer(
+        lend::front(files, n),
+        y,
+        lend::rest(files, n),
+        z,
+        call::third(call),
+        &mut answer,
+    );
+    print::answer(answer);
+    print::sum(part);
 }
 
-pub fn say(answer: Answer) {
-    match answer {
-        Answer::Done(n) => {
-            text(b": done ", n as u64);
-        }
-        Answer::Refused(n, p) => {
-            say_refusal(n, p);
+fn bytes(file: &[u8], call: &[u8], all: &mut [u8]) {
+    let n = number::least(call::asked(call), all.len());
+    let answer = ask::bytes(file, call, &mut all[0..n]);
+    print::answer(answer);
+    print::sum(lend::front(all, n));
+    if call::kind(call) == 12 {
+        print::text(answer, all);
+    }
+}
+
+fn short(file: &[u8], call: &[u8]) {
+    let mut room = [0xAAu8; 40000];
+    bytes(file, call, &mut room);
+}
+
+fn fresh() -> [u8; 1050000] {
+    [0xAA; 1050000]
+}
+
+fn long(file: &[u8], call: &[u8]) {
+    let mut room = fresh();
+    bytes(file, call, &mut room);
+}
+
+fn make_kind(kind: usize, file: &[u8], call: &[u8]) {
+    match kind {
+        1 | 2 | 3 => print::answer(ask::plain(file, call)),
+        4 | 5 | 6 => numbers(file, call),
+        7 => offsets(file, call),
+        8 => part(file, call),
+        _ => {
+            if call::asked(call) <= SHORT {
+                short(file, call);
+                return;
+            }
+            long(file, call);
         }
     }
 }
 
-// The text that a room begins with, on lines of its own.
-pub fn say_text(answer: Answer, room: &[u8]) {
-    match answer {
-        Answer::Done(n) => {
-            io::write_all(1, b"\n");
-            io::write_all(1, lend::front(room, n));
-        }
-        Answer::Refused(n, p) => {
-            return;
-        }
-    }
-}
-
-pub fn say_newest(answer: Outcome) {
-    match answer {
-        Outcome::Found(part) => {
-            say_part(part);
-        }
-        Outcome::Refused(n, p) => {
-            say_refusal(n, p);
-        }
-    }
-}
-
-// A running sum with one number more.
-fn mix(sum: u64, n: u64) -> u64
-    requires { ⌜ sum < 2147483648 ⌝ }
-    ensures { λ r. ⌜ r < 2147483648 ⌝ }
-{
-    (sum * 31 + n % 2147483648) % 2147483648
-}
-
-fn byte(x: u8) -> u64 {
-    x as u64
-}
-
-fn number(x: u32) -> u64 {
-    x as u64
-}
-
-// All bytes of a room in one number.
-pub fn sum_bytes(room: &[u8]) {
-    let mut sum = 7;
-    let mut at = 0;
-    while at < room.len() {
-        sum = mix(sum, byte(room[at]));
-        at = at + 1;
-    }
-    text(b" sum ", sum);
-}
-
-// Every number of a room.
-pub fn say_all(room: &[u64]) {
-    let mut at = 0;
-    while at < room.len() {
-        text(b" ", room[at]);
-        at = at + 1;
-    }
-}
-
-// All numbers of a list in one.
-pub fn sum_list(list: &[u32]) {
-    let mut sum = 7;
-    let mut at = 0;
-    while at < list.len() {
-        sum = mix(sum, number(list[at]));
-        at = at + 1;
-    }
-    text(b" sum ", sum);
+// One line: the name, the answer, and what the room holds.
+pub fn make(file: &[u8], call: &[u8]) {
+    io::write_all(1, call::name(call));
+    make_kind(call::kind(call), file, call);
+    io::write_all(1, b"\n");
 }

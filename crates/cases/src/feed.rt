@@ -14,9 +14,7 @@ pub const ENTRIES: usize = 1;
 
 pub const DECODERS: usize = 2;
 
-pub const WRITES: usize = 3;
-
-pub const TABLES: usize = 4;
+pub const TABLES: usize = 3;
 
 fn show(what: usize, case: &[u8]) {
     if what == PARTS {
@@ -26,10 +24,7 @@ fn show(what: usize, case: &[u8]) {
         on_entries::show(case);
     }
     if what == DECODERS {
-        on_records::show_rule(case);
-    }
-    if what == WRITES {
-        on_records::show_write(case);
+        on_records::show(case);
     }
     if what == TABLES {
         on_tables::show(case);

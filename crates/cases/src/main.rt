@@ -12,7 +12,6 @@ fn main() {
     feed::run(feed::ENTRIES, b"entries");
     feed::run(feed::ENTRIES, b"heads");
     feed::run(feed::DECODERS, b"decoders");
-    feed::run(feed::WRITES, b"writes");
     feed::run(feed::TABLES, b"tables");
     feed::run_file(b"c05_faststart_cut.3gp");
     feed::run_file(b"f02_amrnb_time.3gp");

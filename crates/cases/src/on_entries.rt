@@ -1,6 +1,5 @@
 // Rule 10 on an entry: in a track, whose time scale, handler and count of data references stand before it, and alone.
 use crate::named;
-use crate::on_records;
 use crate::print;
 use entries::rule;
 use entries::rule::Around;
@@ -28,6 +27,5 @@ pub fn show(case: &[u8]) {
     print::say(b": track ", in_track(rest, entry));
     print::say(b" alone ", rule::entry_rule(entry, Around::Alone, MOST));
     print::say(b" wider ", rule::entry_rule(entry, Around::Alone, WIDER));
-    on_records::read_back(entry);
     print::line();
 }
