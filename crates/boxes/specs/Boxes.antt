@@ -11,6 +11,10 @@ use Rattle.boxes.specs.Box.{Box, size}
 abbrev pub HEAD : ℕ
 HEAD = 8
 
+-- the length of version, flags and count, which stand before the boxes that an `stsd` or a `dref` lists
+abbrev pub FRONT : ℕ
+FRONT = 8
+
 -- what the size field at the front says
 abbrev pub sizeOf : List ℕ → ℕ
 sizeOf xs = word 4 xs 0

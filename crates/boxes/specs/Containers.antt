@@ -24,3 +24,7 @@ kindIn k c = ifEq (parent c) k c 0
 -- the file, `moov`, `trak`, `mdia`, `minf`, `stbl`
 abbrev pub DEPTH : ℕ
 DEPTH = 6
+
+-- the longest file
+abbrev pub LONGEST : ℕ
+LONGEST = 1048576

@@ -9,6 +9,9 @@ pub const FILE: usize = 1;
 // The file, `moov`, `trak`, `mdia`, `minf`, `stbl`.
 pub const DEPTH: usize = 6;
 
+// The longest file.
+pub const LONGEST: usize = 1048576;
+
 // The kind of container that a container of a code stands in.
 fn parent(c: usize) -> usize
     ensures { λ r. ⌜ r ≡ parentOf c ⌝ }

@@ -8,6 +8,9 @@ ghost use Rattle.boxes.specs.Walk.{stepAt, payload};
 // The length of a header.
 pub const HEAD: usize = 8;
 
+// The length of version, flags and count, which stand before the boxes that an `stsd` or a `dref` lists.
+pub const FRONT: usize = 8;
+
 // The place that a walk has come to.
 pub struct Walk {
     pub at: usize,

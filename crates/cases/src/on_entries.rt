@@ -6,9 +6,7 @@ use entries::rule::Around;
 use heads::lend;
 use wire::number;
 
-// The largest frames_per_sample, and the one of an older release.
-const MOST: usize = 15;
-
+// The largest frames_per_sample of an older release.
 const WIDER: usize = 255;
 
 fn in_track(rest: &[u8], entry: &[u8]) -> usize {
@@ -17,7 +15,7 @@ fn in_track(rest: &[u8], entry: &[u8]) -> usize {
         handler: number::word32(rest, 4),
         references: number::word32(rest, 8),
     };
-    rule::entry_rule(entry, around, MOST)
+    rule::entry_rule(entry, around, rule::FRAMES)
 }
 
 pub fn show(case: &[u8]) {
@@ -25,7 +23,10 @@ pub fn show(case: &[u8]) {
     let entry = lend::rest(rest, 12);
     named::name(case);
     print::say(b": track ", in_track(rest, entry));
-    print::say(b" alone ", rule::entry_rule(entry, Around::Alone, MOST));
+    print::say(
+        b" alone ",
+        rule::entry_rule(entry, Around::Alone, rule::FRAMES),
+    );
     print::say(b" wider ", rule::entry_rule(entry, Around::Alone, WIDER));
     print::line();
 }

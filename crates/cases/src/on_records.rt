@@ -2,17 +2,18 @@
 use crate::named;
 use crate::print;
 use entries::decoder;
+use entries::rule;
 use heads::lend;
 use wire::number;
-
-// The largest frames_per_sample.
-const MOST: usize = 15;
 
 // The kind of entry that a record goes into, and its bytes.
 pub fn show(case: &[u8]) {
     let rest = named::body(case);
     let kind = number::word32(rest, 0);
     named::name(case);
-    print::say(b": ", decoder::record_rule(kind, MOST, lend::rest(rest, 4)));
+    print::say(
+        b": ",
+        decoder::record_rule(kind, rule::FRAMES, lend::rest(rest, 4)),
+    );
     print::line();
 }

@@ -15,7 +15,7 @@ use Rattle.wire.proofs.Tests.{eq-yea, eq-nay}
 use Rattle.boxes.specs.declared.walk.Walk.{Walk}
 use Rattle.boxes.specs.declared.walk.BoxAt.{BoxAt}
 use Rattle.boxes.specs.Box.{Box, header}
-use Rattle.boxes.specs.Boxes.{boxes}
+use Rattle.boxes.specs.Boxes.{boxes, FRONT}
 use Rattle.boxes.specs.Walk.{payload, boxAt, Ran, Over}
 use Rattle.boxes.specs.Seek.{find, startIn}
 use Rattle.boxes.proofs.Whole.{length-header, short-not}
@@ -23,22 +23,22 @@ use Rattle.boxes.proofs.Reading.{boxes-stop}
 use Rattle.boxes.proofs.Seeking.{length-payload, ran-bytes}
 use Rattle.entries.specs.declared.rule.Around.{Around}
 use Rattle.entries.specs.declared.rule.Around.the-variants.{Track}
-use Rattle.entries.specs.Entries.{entryRule}
+use Rattle.entries.specs.Entries.{entryRule, FRAMES}
 use Rattle.verdict.specs.declared.Verdict.{Verdict}
 use Rattle.verdict.specs.declared.Verdict.the-variants.{Fine, Bad}
 use Rattle.verdict.specs.Verdict.{sooner, unless}
 use Rattle.verdict.specs.Judge.{judgeList}
 use Rattle.verdict.proofs.Places.{sooner-none, unless-yea, unless-nay}
 use Rattle.verdict.proofs.Traverse.{Found, found-none, found-more, found-over}
-use Rattle.descriptions.specs.Ten.{MOST, FRONT, dref, stsd, aroundIn, stsdStart, meets, bytesOf, entryFine, entriesFrom, tenAt}
+use Rattle.descriptions.specs.Ten.{dref, stsd, aroundIn, stsdStart, meets, bytesOf, entryFine, entriesFrom, tenAt}
 
 -- ---- one entry
 
-pub meets-yea : (a : Around) (xs : List ℕ) (p : ℕ) {r : ℕ} → r ≡ entryRule a MOST xs → r ≡ 1 → Fine ≡ unless (meets a xs) p
+pub meets-yea : (a : Around) (xs : List ℕ) (p : ℕ) {r : ℕ} → r ≡ entryRule a FRAMES xs → r ≡ 1 → Fine ≡ unless (meets a xs) p
 unfolding meets
 meets-yea a xs p e q = unless-yea _ p (sym (is-eq _ _ (sym e ∙ q)))
 
-pub meets-nay : (a : Around) (xs : List ℕ) (p : ℕ) {r : ℕ} → r ≡ entryRule a MOST xs → (r ≡ 1 → ⊥) → Bad p ≡ unless (meets a xs) p
+pub meets-nay : (a : Around) (xs : List ℕ) (p : ℕ) {r : ℕ} → r ≡ entryRule a FRAMES xs → (r ≡ 1 → ⊥) → Bad p ≡ unless (meets a xs) p
 unfolding meets
 meets-nay a xs p e q = unless-nay _ p (sym (not-eq _ _ (λ z. q (e ∙ z))))
 

@@ -9,24 +9,16 @@ use Rattle.wire.specs.Clauses.{isEq}
 use Rattle.wire.specs.Codes.{MDIA, MDHD, HDLR, MINF, DINF, DREF, STBL, STSD}
 use Rattle.boxes.specs.declared.walk.BoxAt.{BoxAt}
 use Rattle.boxes.specs.Box.{Box, header}
-use Rattle.boxes.specs.Boxes.{boxes}
+use Rattle.boxes.specs.Boxes.{FRONT, boxes}
 use Rattle.boxes.specs.Seek.{find, startIn}
 use Rattle.entries.specs.declared.rule.Around.{Around}
 use Rattle.entries.specs.declared.rule.Around.the-variants.{Track}
-use Rattle.entries.specs.Entries.{entryRule}
+use Rattle.entries.specs.Entries.{FRAMES, entryRule}
 use Rattle.verdict.specs.declared.Verdict.{Verdict}
 use Rattle.verdict.specs.declared.Verdict.the-variants.{Fine}
 use Rattle.verdict.specs.Verdict.{unless}
 use Rattle.verdict.specs.Judge.{Judge, judgeList}
 use Rattle.verdict.specs.Rule.{Rule, allList}
-
--- the largest frames_per_sample
-abbrev pub MOST : ℕ
-MOST = 15
-
--- the length of the version, the flags and the count before the entries
-abbrev pub FRONT : ℕ
-FRONT = 8
 
 -- ---- what the boxes l of an `mdia` say of their track
 
@@ -47,7 +39,7 @@ stsdStart l p = p + startIn MINF 0 l + startIn STBL 0 (boxes (find MINF l)) + st
 
 -- an entry, header and all, meets its rule
 unfoldable pub meets : Around → List ℕ → Bool
-meets a xs = isEq (entryRule a MOST xs) 1
+meets a xs = isEq (entryRule a FRAMES xs) 1
 
 -- the bytes of a box that was found
 abbrev pub bytesOf : List ℕ → BoxAt → List ℕ

@@ -1,6 +1,7 @@
 // Rule 10: the sample entries of a track, judged with what its `mdia` says.
 use boxes::seek;
 use boxes::walk::BoxAt;
+use boxes::walk::FRONT;
 use boxes::walk::Step;
 use boxes::walk::Walk;
 use entries::rule;
@@ -15,12 +16,6 @@ ghost use Rattle.wire.specs.Codes.{MDIA};
 ghost use Rattle.boxes.specs.Boxes.{boxes};
 ghost use Rattle.verdict.specs.Verdict.{unless};
 ghost use Rattle.descriptions.specs.Ten.{stsd, aroundIn, stsdStart, meets, bytesOf, entriesFrom, tenAt};
-
-// The largest frames_per_sample.
-const MOST: usize = 15;
-
-// What stands before the entries of an `stsd`.
-const FRONT: usize = 8;
 
 // The scale, the handler and the data references of a track.
 fn around_in(mdia: &[u8]) -> Around
@@ -65,7 +60,7 @@ fn entry_at(list: &[u8], b: BoxAt, base: usize, around: Around) -> Verdict
 {
     let from = b.at;
     let to = b.at + b.size;
-    if rule::entry_rule(&list[from..to], around, MOST) == 1 {
+    if rule::entry_rule(&list[from..to], around, rule::FRAMES) == 1 {
         return Verdict::Fine;
     }
     Verdict::Bad(base + from)

@@ -13,6 +13,8 @@ use Rattle.wire.proofs.Tests.{lt-yea, lt-nay}
 use Rattle.boxes.specs.Box.{Box}
 use Rattle.boxes.specs.Boxes.{boxes}
 use Rattle.boxes.specs.Seek.{meant}
+use Rattle.boxes.specs.Containers.{LONGEST}
+use Rattle.entries.specs.Entries.{FRAMES}
 use Rattle.entries.specs.Decoders.{recordRule}
 use Rattle.media.specs.Payloads.{mdats}
 use Rattle.media.proofs.Mdats.{kin-mdats}
@@ -21,8 +23,6 @@ use Rattle.movie.specs.declared.entry.Spot.{Spot}
 use Rattle.movie.specs.declared.entry.Spot.the-variants.{In, Past}
 use Rattle.movie.specs.Movie.{movie}
 use Rattle.movie.specs.Named.{held, heldIn, spotIn}
-use Rattle.descriptions.specs.Ten.{MOST}
-use Rattle.judge.specs.Judgement.{LONGEST}
 use Rattle.judge.specs.Acceptance.{Meets}
 use Rattle.settle.specs.Settle.{settled}
 use Rattle.settle.proofs.Settled.{settled-length}
@@ -53,14 +53,14 @@ held-past t (x ∷ l) i e =
     (λ h. let k = held-past (t + meant TRAK (x .code)) l (i - held (x .code) (x .body)) (lt-nay _ _ _ _ _ h refl ∙ e) in omega arith)
 
 -- "Replace decoder record of entry i": one that meets its rule, where the result is not too long
-pub replace-differs : (xs : List ℕ) (i : ℕ) (new : List ℕ) → Bytes xs → Bytes new → Meets xs → recordRule (kindAt xs i) MOST new ≡ 1 → length (replaceOf xs i new) ≤ LONGEST → Replaces xs i new (replaceOf xs i new)
+pub replace-differs : (xs : List ℕ) (i : ℕ) (new : List ℕ) → Bytes xs → Bytes new → Meets xs → recordRule (kindAt xs i) FRAMES new ≡ 1 → length (replaceOf xs i new) ≤ LONGEST → Replaces xs i new (replaceOf xs i new)
 unfolding replaceOf replaced
 replace-differs xs i new w v m r h = go (spotIn 0 (movie xs) (i - 1)) refl (rw settled-length at h)
   where
     go : (s : Spot) → spotIn 0 (movie xs) (i - 1) ≡ s → length (recordAt s (keptOf xs i) new xs) ≤ LONGEST → Replaces xs i new (settled xs (recordAt s (keptOf xs i) new xs))
     go (In t n) e k =
         let s : length (recordAt (In t n) (keptOf xs i) new xs) < 4294967296 = omega arith in
-        let q = entry-in xs i w (record-first xs i MOST (kindAt xs i) new refl r) t n e in
+        let q = entry-in xs i w (record-first xs i FRAMES (kindAt xs i) new refl r) t n e in
         record {
           t = t;
           n = n;

@@ -8,7 +8,7 @@ use Rattle.wire.specs.Codes.{STBL}
 use Rattle.wire.specs.Numbers.{Bytes}
 use Rattle.boxes.specs.Box.{write}
 use Rattle.boxes.specs.Boxes.{boxes}
-use Rattle.boxes.specs.Containers.{FILE, DEPTH}
+use Rattle.boxes.specs.Containers.{FILE, DEPTH, LONGEST}
 use Rattle.boxes.specs.Words.{rewordLeaf}
 use Rattle.boxes.specs.Kin.{Kin}
 use Rattle.boxes.proofs.Kin.{Made, kin-edit}
@@ -35,7 +35,7 @@ module _ (f : ℕ → ℕ) (k c : ℕ) (b : List ℕ) where
   pub only-offsets : (b′ : List ℕ) → Made (rewordLeaf offsets f) k c b b′ → OnlyOffsets k c b b′
   only-offsets b′ r =
       record {
-        offsets = λ o. rw (r .0 ∙ sym (leaf-hit offsets f k c b (o .0) (o .1) refl)) (but-tail f 8 1048576 b);
+        offsets = λ o. rw (r .0 ∙ sym (leaf-hit offsets f k c b (o .0) (o .1) refl)) (but-tail f 8 LONGEST b);
         rest = λ n. others-same n ∙ sym (r .0);
       }
 

@@ -6,7 +6,7 @@ use mathlib.Core.List.{List}
 use mathlib.Core.Logic.{_⊎_}
 use lib.ListN.{length, take, drop}
 use Rattle.wire.specs.Codes.{MOOV, MVHD, TRAK, TKHD, MDIA, MDHD, STBL, STSD, STCO}
-use Rattle.boxes.specs.Boxes.{HEAD}
+use Rattle.boxes.specs.Boxes.{HEAD, FRONT}
 use Rattle.boxes.specs.Containers.{FILE, DEPTH}
 use Rattle.boxes.specs.Seek.{ANY}
 use Rattle.boxes.specs.Kin.{Kin}
@@ -14,7 +14,6 @@ use Rattle.boxes.specs.Way.{overTurn, tailBy}
 use Rattle.heads.specs.Heads.{headSize}
 use Rattle.movie.specs.declared.entry.Spot.the-variants.{In}
 use Rattle.movie.specs.Movie.{movie, track, table}
-use Rattle.movie.specs.Entries.{FRONT}
 use Rattle.movie.specs.Named.{spotIn}
 use Rattle.replace.specs.Replace.{kindAt}
 

@@ -15,6 +15,10 @@ use Rattle.heads.specs.Kinds.{kindOf, handlerOf}
 use Rattle.heads.specs.Heads.{headSize, headRule}
 use Rattle.entries.specs.Decoders.{boxRule, recordRule}
 
+-- the largest frames_per_sample
+abbrev pub FRAMES : ℕ
+FRAMES = 15
+
 -- ---- what a track says of its entries
 
 -- the data reference is 1 to the count of `dref`; a known kind has its handler; TimeScale is that of `mdhd`

@@ -12,6 +12,9 @@ ghost use mathlib.Core.Path.{_≡_};
 ghost use Rattle.boxes.specs.Seek.{tilingOf};
 ghost use Rattle.entries.specs.Entries.{trackRule, aroundRule, esdsRule, tiled, avcRule, insideRule, ruleAs, entryRule};
 
+// The largest frames_per_sample.
+pub const FRAMES: usize = 15;
+
 // What stands around an entry: a track with its time scale, its handler and its count of data references, or nothing.
 pub enum Around {
     Track {

@@ -5,6 +5,7 @@ use mathlib.Core.Path.{_≡_, refl, sym, ap, _∙_}
 use mathlib.Core.List.{List, []}
 use lib.ListN.{length}
 use lib.Seq.{sets, sets-eq}
+use Rattle.entries.specs.Entries.{FRAMES}
 use Rattle.records.specs.declared.field.Record.{Record}
 use Rattle.records.specs.declared.field.Record.the-variants.{Broken}
 use Rattle.records.specs.declared.record.Written.{Written}
@@ -13,7 +14,7 @@ use Rattle.verdict.specs.declared.Answer.{Answer}
 use Rattle.verdict.specs.declared.Answer.the-variants.{Done, Refused}
 use Rattle.verdict.specs.Answers.{inRoom, outBy}
 use Rattle.verdict.proofs.Answers.{room-short, room-fits, out-kept, out-wrote}
-use Rattle.fields.specs.Numbers.{MOST, recordOf, whenRead, readAnswer, readOut, answerOf, writeAnswer, writeOut}
+use Rattle.fields.specs.Numbers.{recordOf, whenRead, readAnswer, readOut, answerOf, writeAnswer, writeOut}
 
 -- ---- numbers into a list
 
@@ -32,13 +33,13 @@ module _ (ns out : List ℕ) where
 
 -- ---- the reader
 
-module _ (xs out : List ℕ) {r : Record} (e : r ≡ readOf MOST xs) where
+module _ (xs out : List ℕ) {r : Record} (e : r ≡ readOf FRAMES xs) where
   -- the answer that the record has
   pub read-as : (s : Record) → r ≡ s → {a : Answer} {after : List ℕ} → Left a (whenRead s (inRoom (fieldsOf s) out)) (fieldsOf s) out after
       → (a ≡ readAnswer xs out) × (after ≡ readOut xs out)
   unfolding readAnswer
   read-as s g {a} {after} (p, q) =
-      let h : readOf MOST xs ≡ s = sym e ∙ g in
+      let h : readOf FRAMES xs ≡ s = sym e ∙ g in
       (rw h p, rw h (q ∙ ap (λ (b : Answer). outBy b (fieldsOf s) out) p))
 
   pub read-broken : r ≡ Broken → (Refused 21 0 ≡ readAnswer xs out) × (out ≡ readOut xs out)
@@ -46,7 +47,7 @@ module _ (xs out : List ℕ) {r : Record} (e : r ≡ readOf MOST xs) where
 
 -- ---- the writer
 
-pub write-as : (ns out : List ℕ) {r : Record} {w v : Written} {after : List ℕ} → r ≡ recordOf ns → (w ≡ writtenOf MOST r out) × (after ≡ outOf MOST r out) → w ≡ v
+pub write-as : (ns out : List ℕ) {r : Record} {w v : Written} {after : List ℕ} → r ≡ recordOf ns → (w ≡ writtenOf FRAMES r out) × (after ≡ outOf FRAMES r out) → w ≡ v
     → (answerOf v ≡ writeAnswer ns out) × (after ≡ writeOut ns out)
 unfolding writeAnswer
 write-as ns out e (p, q) g = (ap answerOf (sym g ∙ p) ∙ rw e, q ∙ rw e)

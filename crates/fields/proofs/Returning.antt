@@ -8,6 +8,7 @@ use lib.ListN.{length, getD, take, drop}
 use lib.Seq.{drop-cons, drop-length}
 use Rattle.wire.specs.Tests.{ifEq}
 use Rattle.wire.specs.Numbers.{Bytes}
+use Rattle.entries.specs.Entries.{FRAMES}
 use Rattle.heads.proofs.Meeting.{eq-ways}
 use Rattle.records.specs.declared.field.Record.{Record}
 use Rattle.records.specs.declared.field.Record.the-variants.{Speech, Picture, Broken}
@@ -17,7 +18,7 @@ use Rattle.records.proofs.Reading.{written-reads}
 use Rattle.records.proofs.Rewriting.{read-writes}
 use Rattle.verdict.specs.declared.Answer.the-variants.{Done}
 use Rattle.verdict.specs.Answers.{inRoom, outBy}
-use Rattle.fields.specs.Numbers.{MOST, recordOf, readAnswer, readOut, writeAnswer, writeOut}
+use Rattle.fields.specs.Numbers.{recordOf, readAnswer, readOut, writeAnswer, writeOut}
 use Rattle.verdict.proofs.Answers.{room-taken}
 use Rattle.fields.proofs.Rooms.{when-some, some-read, rule-room, rule-done, rule-some}
 
@@ -64,7 +65,7 @@ written-back ns out n e room =
     let a = rule-done (recordOf ns) out n e in
     let b = rule-room (recordOf ns) out a in
     let t : take n (writeOut ns out) ≡ textOf (recordOf ns) = ap (take n) (b .1) ∙ room-taken (textOf (recordOf ns)) out n (sym (b .0) ∙ e) in
-    let r : readOf MOST (take n (writeOut ns out)) ≡ recordOf ns = ap (readOf MOST) t ∙ written-reads MOST (recordOf ns) a in
+    let r : readOf FRAMES (take n (writeOut ns out)) ≡ recordOf ns = ap (readOf FRAMES) t ∙ written-reads FRAMES (recordOf ns) a in
     let f = fields-back ns (rule-some (recordOf ns) a) in
     let s = when-some (recordOf ns) (inRoom ns room) (rule-some (recordOf ns) a) in
     (rw (r, f) s, rw (r, f, s))
@@ -74,9 +75,9 @@ pub read-back : (xs room : List ℕ) (n : ℕ) → Bytes xs → readAnswer xs ro
     → (writeAnswer (take n (readOut xs room)) out ≡ inRoom xs out) × (writeOut (take n (readOut xs room)) out ≡ outBy (inRoom xs out) xs out)
 unfolding writeAnswer readAnswer
 read-back xs room n b e out =
-    let h = some-read (readOf MOST xs) _ n e in
-    let s = when-some (readOf MOST xs) (inRoom (fieldsOf (readOf MOST xs)) room) h in
-    let t : take n (readOut xs room) ≡ fieldsOf (readOf MOST xs) = rw s (room-taken (fieldsOf (readOf MOST xs)) room n (sym s ∙ e)) in
-    let a = read-writes MOST xs b (readOf MOST xs) refl h in
-    let g = rule-room (readOf MOST xs) out (a .rule) in
-    rw (t, record-back (readOf MOST xs)) (rw (a .text) at g)
+    let h = some-read (readOf FRAMES xs) _ n e in
+    let s = when-some (readOf FRAMES xs) (inRoom (fieldsOf (readOf FRAMES xs)) room) h in
+    let t : take n (readOut xs room) ≡ fieldsOf (readOf FRAMES xs) = rw s (room-taken (fieldsOf (readOf FRAMES xs)) room n (sym s ∙ e)) in
+    let a = read-writes FRAMES xs b (readOf FRAMES xs) refl h in
+    let g = rule-room (readOf FRAMES xs) out (a .rule) in
+    rw (t, record-back (readOf FRAMES xs)) (rw (a .text) at g)

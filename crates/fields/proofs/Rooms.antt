@@ -9,6 +9,7 @@ use lib.Dec.{ltb}
 use lib.ListN.{length, drop}
 use Rattle.wire.specs.Tests.{pick, ifLt}
 use Rattle.wire.proofs.Tests.{eq-yea}
+use Rattle.entries.specs.Entries.{FRAMES}
 use Rattle.heads.proofs.Meeting.{eq-ways}
 use Rattle.records.specs.declared.field.Record.{Record}
 use Rattle.records.specs.declared.field.Record.the-variants.{Speech, Picture, Broken}
@@ -20,7 +21,7 @@ use Rattle.verdict.specs.declared.Answer.{Answer}
 use Rattle.verdict.specs.declared.Answer.the-variants.{Done, Refused}
 use Rattle.verdict.specs.Answers.{inRoom, outBy}
 use Rattle.verdict.proofs.Answers.{refused-not}
-use Rattle.fields.specs.Numbers.{MOST, whenRead, answerOf}
+use Rattle.fields.specs.Numbers.{whenRead, answerOf}
 
 -- ---- the reader
 
@@ -36,7 +37,7 @@ some-read r a n e g = refused-not 21 0 n (sym (ap (λ (s : Record). whenRead s a
 
 module _ (r : Record) where
   -- a record that meets the rule is refused for the room alone
-  pub rule-room : (out : List ℕ) → fieldsRule MOST r ≡ 1 → (answerOf (writtenOf MOST r out) ≡ inRoom (textOf r) out) × (outOf MOST r out ≡ outBy (inRoom (textOf r) out) (textOf r) out)
+  pub rule-room : (out : List ℕ) → fieldsRule FRAMES r ≡ 1 → (answerOf (writtenOf FRAMES r out) ≡ inRoom (textOf r) out) × (outOf FRAMES r out ≡ outBy (inRoom (textOf r) out) (textOf r) out)
   unfolding writtenOf outOf inRoom ifLt outBy
   rule-room out e =
       (ap answerOf (sym (eq-yea _ _ _ _ _ e refl)) ∙ answers (ltb (length out) (length (textOf r))), sym (eq-yea _ _ _ _ _ e refl) ∙ outs (ltb (length out) (length (textOf r))))
@@ -49,10 +50,10 @@ module _ (r : Record) where
       outs true = refl
       outs false = refl
 
-  pub rule-done : (out : List ℕ) (n : ℕ) → answerOf (writtenOf MOST r out) ≡ Done n → fieldsRule MOST r ≡ 1
+  pub rule-done : (out : List ℕ) (n : ℕ) → answerOf (writtenOf FRAMES r out) ≡ Done n → fieldsRule FRAMES r ≡ 1
   unfolding writtenOf
   rule-done out n e =
-      ⊎-elim (λ w. w .0) (λ w. absurd (refused-not 21 0 n (ap answerOf (w .1) ∙ e))) (eq-ways (fieldsRule MOST r) 1 _ written.BadFields _ refl)
+      ⊎-elim (λ w. w .0) (λ w. absurd (refused-not 21 0 n (ap answerOf (w .1) ∙ e))) (eq-ways (fieldsRule FRAMES r) 1 _ written.BadFields _ refl)
 
-  pub rule-some : fieldsRule MOST r ≡ 1 → r ≡ Broken → ⊥
-  rule-some e g = absurd (omega (arith, sym e ∙ ap (fieldsRule MOST) g))
+  pub rule-some : fieldsRule FRAMES r ≡ 1 → r ≡ Broken → ⊥
+  rule-some e g = absurd (omega (arith, sym e ∙ ap (fieldsRule FRAMES) g))

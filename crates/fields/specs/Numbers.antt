@@ -3,6 +3,7 @@ use Prim.Native.Nat.{ℕ}
 use mathlib.Core.List.{List}
 use lib.ListN.{length, getD}
 use Rattle.wire.specs.Tests.{ifEq}
+use Rattle.entries.specs.Entries.{FRAMES}
 use Rattle.records.specs.declared.field.Amr.{Amr}
 use Rattle.records.specs.declared.field.Rates.{Rates}
 use Rattle.records.specs.declared.field.H263.{H263}
@@ -14,10 +15,6 @@ use Rattle.records.specs.Records.{fieldsOf, readOf, writtenOf, outOf}
 use Rattle.verdict.specs.declared.Answer.{Answer}
 use Rattle.verdict.specs.declared.Answer.the-variants.{Done, Refused}
 use Rattle.verdict.specs.Answers.{inRoom, outBy}
-
--- the largest frames_per_sample
-abbrev pub MOST : ℕ
-MOST = 15
 
 -- ---- the record of numbers
 
@@ -70,10 +67,10 @@ whenRead Broken a = Refused 21 0
 
 -- 21, 25, or how many fields there are
 unfoldable pub readAnswer : List ℕ → List ℕ → Answer
-readAnswer xs out = whenRead (readOf MOST xs) (inRoom (fieldsOf (readOf MOST xs)) out)
+readAnswer xs out = whenRead (readOf FRAMES xs) (inRoom (fieldsOf (readOf FRAMES xs)) out)
 
 abbrev pub readOut : List ℕ → List ℕ → List ℕ
-readOut xs out = outBy (readAnswer xs out) (fieldsOf (readOf MOST xs)) out
+readOut xs out = outBy (readAnswer xs out) (fieldsOf (readOf FRAMES xs)) out
 
 -- ---- the writer
 
@@ -84,7 +81,7 @@ answerOf written.TooShort = Refused 25 0
 
 -- 21, 25, or the length of the entry
 unfoldable pub writeAnswer : List ℕ → List ℕ → Answer
-writeAnswer ns out = answerOf (writtenOf MOST (recordOf ns) out)
+writeAnswer ns out = answerOf (writtenOf FRAMES (recordOf ns) out)
 
 abbrev pub writeOut : List ℕ → List ℕ → List ℕ
-writeOut ns out = outOf MOST (recordOf ns) out
+writeOut ns out = outOf FRAMES (recordOf ns) out

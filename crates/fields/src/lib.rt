@@ -1,4 +1,5 @@
 // The record reader and writer over lists of numbers: the fields of a record in order, kind first.
+use entries::rule;
 use records::field::Record;
 use records::record;
 use records::record::Written;
@@ -8,14 +9,11 @@ ghost use Rattle.fields.specs.Numbers.{readAnswer, readOut, writeAnswer,
 
 pub mod numbers;
 
-// The largest frames_per_sample.
-const MOST: usize = 15;
-
 // The fields of an entry: 8 of a `samr` or `sawb`, 11 of an `s263`.
 pub fn read(entry: &[u8], out: &mut [u64]) -> Answer
     ensures { λ r. ⌜ (r ≡ readAnswer (now (entry .entry)) (now (out .entry))) × (now (out .exit) ≡ readOut (now (entry .entry)) (now (out .entry))) ⌝ }
 {
-    match record::read(entry, MOST) {
+    match record::read(entry, rule::FRAMES) {
         Record::Speech(f) => numbers::put_amr(f, out),
         Record::Picture(f) => numbers::put_h263(f, out),
         Record::Broken => Answer::Refused(21, 0),
@@ -26,7 +24,7 @@ pub fn read(entry: &[u8], out: &mut [u64]) -> Answer
 pub fn write(fields: &[u64], out: &mut [u8]) -> Answer
     ensures { λ r. ⌜ (r ≡ writeAnswer (now (fields .entry)) (now (out .entry))) × (now (out .exit) ≡ writeOut (now (fields .entry)) (now (out .entry))) ⌝ }
 {
-    match record::write(numbers::record_of(fields), MOST, out) {
+    match record::write(numbers::record_of(fields), rule::FRAMES, out) {
         Written::Done(n) => Answer::Done(n),
         Written::BadFields => Answer::Refused(21, 0),
         Written::TooShort => Answer::Refused(25, 0),

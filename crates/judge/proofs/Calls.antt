@@ -3,12 +3,13 @@ use Prim.Native.Nat.{ℕ, _≤_}
 use mathlib.Core.Path.{_≡_, refl, sym, _∙_}
 use mathlib.Core.List.{List}
 use lib.ListN.{length}
+use Rattle.boxes.specs.Containers.{LONGEST}
 use Rattle.verdict.specs.declared.Answer.{Answer}
 use Rattle.verdict.specs.declared.Answer.the-variants as answer
 use Rattle.verdict.proofs.Answers.{refused-not}
 use Rattle.judge.specs.declared.Judgement.{Judgement}
 use Rattle.judge.specs.declared.Judgement.the-variants.{Accepted, Refused}
-use Rattle.judge.specs.Judgement.{LONGEST, judged, whenAccepted}
+use Rattle.judge.specs.Judgement.{judged, whenAccepted}
 use Rattle.judge.specs.Acceptance.{Meets}
 use Rattle.judge.proofs.Exact.{accepted-meets}
 

@@ -10,7 +10,7 @@ use borrow.Author.Tests.{ltb-false}
 use Rattle.wire.specs.Tests.{pick, ifLt}
 use Rattle.wire.proofs.Tests.{lt-nay}
 use Rattle.boxes.specs.Boxes.{boxes}
-use Rattle.boxes.specs.Containers.{FILE, DEPTH}
+use Rattle.boxes.specs.Containers.{FILE, DEPTH, LONGEST}
 use Rattle.verdict.specs.declared.Verdict.{Verdict}
 use Rattle.verdict.specs.declared.Verdict.the-variants.{Fine, Bad}
 use Rattle.verdict.specs.Judge.{Judge, judgeIn}
@@ -26,7 +26,7 @@ use Rattle.descriptions.specs.Ten.{tenRule}
 use Rattle.judge.specs.declared.Judgement.{Judgement}
 use Rattle.judge.specs.declared.Judgement.the-variants.{Accepted, Refused}
 use Rattle.judge.specs.Rules.{judgeBy, verdictOf}
-use Rattle.judge.specs.Judgement.{LONGEST, next, judgedFrom, judged}
+use Rattle.judge.specs.Judgement.{next, judgedFrom, judged}
 use Rattle.judge.specs.Acceptance.{Holds, Meets}
 use Rattle.judge.proofs.Says.{says-2, says-3, says-4, says-5, says-6, says-7, says-8, says-9, says-10}
 

@@ -5,12 +5,13 @@ use mathlib.Core.Path.{_≡_, refl, sym, ap, _∙_}
 use mathlib.Core.List.{List}
 use lib.ListN.{length}
 use Rattle.wire.proofs.Tests.{lt-yea, lt-nay}
+use Rattle.boxes.specs.Containers.{LONGEST}
 use Rattle.verdict.specs.declared.Verdict.{Verdict}
 use Rattle.verdict.specs.declared.Verdict.the-variants.{Fine, Bad}
 use Rattle.judge.specs.declared.Judgement.{Judgement}
 use Rattle.judge.specs.declared.Judgement.the-variants.{Accepted, Refused}
 use Rattle.judge.specs.Rules.{verdictOf}
-use Rattle.judge.specs.Judgement.{LONGEST, next, judgedFrom, judged}
+use Rattle.judge.specs.Judgement.{next, judgedFrom, judged}
 
 -- before rule n nothing is broken, and the rules from n on are left
 pub record Passed (xs : List ℕ) (n : ℕ) : Type 0 where

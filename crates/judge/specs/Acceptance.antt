@@ -5,7 +5,7 @@ use mathlib.Core.Bool.{Bool, true}
 use mathlib.Core.List.{List}
 use lib.ListN.{length}
 use Rattle.boxes.specs.Boxes.{boxes}
-use Rattle.boxes.specs.Containers.{FILE, DEPTH}
+use Rattle.boxes.specs.Containers.{FILE, DEPTH, LONGEST}
 use Rattle.verdict.specs.Rule.{Rule, allIn}
 use Rattle.shape.specs.Rules.{twoRule, threeRule, plainRule}
 use Rattle.headers.specs.Four.{fourRule}
@@ -14,7 +14,6 @@ use Rattle.tracks.specs.Six.{sixRule}
 use Rattle.tracks.specs.Seven.{sevenRule}
 use Rattle.tracks.specs.Eight.{eightRule}
 use Rattle.descriptions.specs.Ten.{tenRule}
-use Rattle.judge.specs.Judgement.{LONGEST}
 
 -- a rule holds of a file
 abbrev pub Holds : Rule → List ℕ → Type 0

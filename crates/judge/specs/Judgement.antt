@@ -3,6 +3,7 @@ use Prim.Native.Nat.{ℕ, zero, suc, _+_}
 use mathlib.Core.List.{List}
 use lib.ListN.{length}
 use Rattle.wire.specs.Tests.{ifLt}
+use Rattle.boxes.specs.Containers.{LONGEST}
 use Rattle.verdict.specs.declared.Verdict.{Verdict}
 use Rattle.verdict.specs.declared.Verdict.the-variants.{Fine, Bad}
 use Rattle.verdict.specs.declared.Answer.{Answer}
@@ -19,10 +20,6 @@ number (Refused n p) = n
 abbrev pub place : Judgement → ℕ
 place Accepted = 0
 place (Refused n p) = p
-
--- the longest file
-abbrev pub LONGEST : ℕ
-LONGEST = 1048576
 
 -- rule n's verdict, and then the rules after it
 unfoldable pub next : ℕ → Verdict → Judgement → Judgement

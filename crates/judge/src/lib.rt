@@ -1,11 +1,13 @@
 // The judgement of a file: rules 1 to 10.
 pub mod rules;
 
+use boxes::containers;
 use verdict::Verdict;
 ghost use mathlib.Core.Path.{_≡_};
 ghost use Prim.Native.Nat.{_+_, _≤_};
 ghost use lib.ListN.{length};
 ghost use Rattle.wire.specs.Clauses.{oneIf};
+ghost use Rattle.boxes.specs.Containers.{LONGEST};
 ghost use Rattle.judge.specs.Acceptance.{plain as plainOf};
 ghost use Rattle.judge.specs.Rules.{verdictOf};
 ghost use Rattle.judge.specs.Judgement.{judged};
@@ -16,23 +18,12 @@ pub enum Judgement {
     Refused(usize, usize),
 }
 
-// The longest file.
-pub const LONGEST: usize = 1048576;
-
 // What rule n says of a file.
 fn verdict_of(n: usize, file: &[u8]) -> Verdict
-    requires { ⌜ length (now file) ≤ 1048576 ⌝ }
+    requires { ⌜ length (now file) ≤ LONGEST ⌝ }
     ensures { λ r. ⌜ r ≡ verdictOf n (now (file .entry)) ⌝ }
 {
-    rules::judge_in(
-        n,
-        file,
-        file,
-        0,
-        0,
-        boxes::containers::FILE,
-        boxes::containers::DEPTH,
-    )
+    rules::judge_in(n, file, file, 0, 0, containers::FILE, containers::DEPTH)
 }
 
 // The lowest number whose rule is broken, with the place of the first box in file order that breaks it.
@@ -42,7 +33,7 @@ pub fn judge(file: &[u8]) -> Judgement
     if file.len() < 8 {
         return Judgement::Refused(1, 0);
     }
-    if LONGEST < file.len() {
+    if containers::LONGEST < file.len() {
         return Judgement::Refused(1, 0);
     }
     let mut n = 2;
@@ -61,7 +52,7 @@ pub fn judge(file: &[u8]) -> Judgement
 
 // Whether an edit takes a file, which refusal 23 asks: 1 or 0.
 pub fn plain(file: &[u8]) -> usize
-    requires { ⌜ length (now file) ≤ 1048576 ⌝ }
+    requires { ⌜ length (now file) ≤ LONGEST ⌝ }
     ensures { λ r. ⌜ r ≡ oneIf (plainOf (now (file .entry))) ⌝ }
 {
     match verdict_of(23, file) {

@@ -8,7 +8,7 @@ use Rattle.wire.specs.Tests.{ifEq}
 use Rattle.wire.specs.Numbers.{Bytes}
 use Rattle.boxes.specs.Box.{Box, write}
 use Rattle.boxes.specs.Boxes.{boxes}
-use Rattle.boxes.specs.Containers.{FILE, DEPTH}
+use Rattle.boxes.specs.Containers.{FILE, DEPTH, LONGEST}
 use Rattle.verdict.specs.Rule.{Rule}
 use Rattle.shape.specs.Shape.{needed, besides, shape}
 use Rattle.shape.specs.Rules.{twoRule, threeRule, plainRule}
@@ -58,7 +58,7 @@ module _ {A : List Box → List Box} (a : Arranges A) (xs ys : List ℕ) (w : By
       (kin-plain (Edit a xs ys w m c) DEPTH FILE xs mid (edit-kin a xs ys w m c) q)
 
   -- every rule holds of it
-  pub edit-meets : 8 ≤ length result → length result ≤ 1048576 → Meets result
+  pub edit-meets : 8 ≤ length result → length result ≤ LONGEST → Meets result
   unfolding tracksFine sevenIn eightIn tenIn ifEq
   edit-meets n k =
       let G = Edit a xs ys w m c in

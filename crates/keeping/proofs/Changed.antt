@@ -11,18 +11,19 @@ use Rattle.wire.proofs.Tests.{both}
 use Rattle.wire.proofs.Numbers.{word-left}
 use Rattle.wire.proofs.Clauses.{is-le, clause, holds, done}
 use Rattle.boxes.specs.Box.{Box, remade}
-use Rattle.boxes.specs.Boxes.{HEAD, boxes, after}
+use Rattle.boxes.specs.Boxes.{HEAD, boxes, after, FRONT}
 use Rattle.boxes.specs.Seek.{ANY, count}
 use Rattle.boxes.specs.Way.{tailBy}
 use Rattle.boxes.proofs.Whole.{Good}
 use Rattle.boxes.proofs.Seeking.{count-append}
+use Rattle.entries.specs.Entries.{FRAMES}
 use Rattle.heads.specs.Kinds.{kindOf}
 use Rattle.heads.specs.Heads.{headSize}
 use Rattle.entries.specs.declared.rule.Around.{Around}
 use Rattle.entries.specs.Decoders.{recordRule}
-use Rattle.lists.specs.Forms.{FRONT, stored, listForm}
+use Rattle.lists.specs.Forms.{stored, listForm}
 use Rattle.verdict.specs.Rule.{allList}
-use Rattle.descriptions.specs.Ten.{MOST, entryFine, entriesFine}
+use Rattle.descriptions.specs.Ten.{entryFine, entriesFine}
 use Rattle.keeping.proofs.Entry.{entry-changed}
 
 -- b′ is b with the given record behind the head of one entry, which is of a kind that has one
@@ -38,7 +39,7 @@ pub record Changed (new b b′ : List ℕ) : Type 0 where
   pub rest : after (drop FRONT b′) ≡ after (drop FRONT b)
   pub good : Good entry
   pub is : kindOf (entry .code) ≡ kind
-  pub meets : recordRule kind MOST new ≡ 1
+  pub meets : recordRule kind FRAMES new ≡ 1
 
 -- one box of a list for another
 all-swap : (f : Box → Bool) (t : Bool) (p : List Box) (x y : Box) (q : List Box) → (f x ≡ true → f y ≡ true) → allList f t (p ++ x ∷ q) ≡ true → allList f t (p ++ y ∷ q) ≡ true

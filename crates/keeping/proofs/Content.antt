@@ -5,10 +5,9 @@ use mathlib.Core.List.{List}
 use lib.ListN.{length}
 use Rattle.wire.specs.Numbers.{Bytes}
 use Rattle.wire.specs.Codes.{STBL, STCO}
-use Rattle.boxes.specs.Containers.{FILE, DEPTH}
+use Rattle.boxes.specs.Containers.{FILE, DEPTH, LONGEST}
 use Rattle.boxes.specs.Kin.{Leaf, Kin}
 use Rattle.boxes.proofs.Kin.{Then, kin-refl, kin-then}
-use Rattle.judge.specs.Judgement.{LONGEST}
 use Rattle.keeping.proofs.Sound.{Sound, sound-then}
 
 -- the content of xs was edited to ys

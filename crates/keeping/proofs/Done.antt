@@ -10,14 +10,15 @@ use lib.ListN.{length}
 use Rattle.wire.specs.Tests.{pick, ifEq}
 use Rattle.wire.specs.Numbers.{Bytes}
 use Rattle.wire.proofs.Tests.{lt-yea}
+use Rattle.boxes.specs.Containers.{LONGEST}
+use Rattle.entries.specs.Entries.{FRAMES}
 use Rattle.heads.proofs.Meeting.{eq-ways}
 use Rattle.entries.specs.Decoders.{recordRule}
 use Rattle.media.proofs.Payloads.{either}
 use Rattle.verdict.specs.declared.Answer.{Answer}
 use Rattle.verdict.specs.declared.Answer.the-variants.{Done, Refused}
-use Rattle.descriptions.specs.Ten.{MOST}
 use Rattle.judge.specs.declared.Judgement.the-variants as judgement
-use Rattle.judge.specs.Judgement.{LONGEST, judged}
+use Rattle.judge.specs.Judgement.{judged}
 use Rattle.judge.specs.Acceptance.{Meets, plain}
 use Rattle.verdict.proofs.Answers.{refused-not}
 use Rattle.judge.proofs.Calls.{when-done}
@@ -55,13 +56,13 @@ pub shift-passed : (z : ℤ) (xs out : List ℕ) {n : ℕ} → shiftAnswer z xs 
 unfolding shiftAnswer
 shift-passed z xs out e = accepted-meets xs (when-done (judged xs) _ e .0)
 
-pub replace-passed : (xs : List ℕ) (i : ℕ) (new out : List ℕ) {n : ℕ} → replaceAnswer xs i new out ≡ Done n → Meets xs × (recordRule (kindAt xs i) MOST new ≡ 1) × (length (replaceOf xs i new) ≤ LONGEST)
+pub replace-passed : (xs : List ℕ) (i : ℕ) (new out : List ℕ) {n : ℕ} → replaceAnswer xs i new out ≡ Done n → Meets xs × (recordRule (kindAt xs i) FRAMES new ≡ 1) × (length (replaceOf xs i new) ≤ LONGEST)
 unfolding replaceAnswer takenAnswer settledAnswer
 replace-passed xs i new out e =
     let a = when-done (judged xs) _ e in
     let s = pick (plain xs) (roomAnswer (replaceOf xs i new) out) (Refused 23 0) in
-    let b = pick-done (takes (kindAt xs i) new) (ifEq (recordRule (kindAt xs i) MOST new) 1 s (Refused 21 0)) 20 0 (a .1) in
-    let c = equal-done (recordRule (kindAt xs i) MOST new) 1 s 21 0 (b .1) in
+    let b = pick-done (takes (kindAt xs i) new) (ifEq (recordRule (kindAt xs i) FRAMES new) 1 s (Refused 21 0)) 20 0 (a .1) in
+    let c = equal-done (recordRule (kindAt xs i) FRAMES new) 1 s 21 0 (b .1) in
     let d = pick-done (plain xs) (roomAnswer (replaceOf xs i new) out) 23 0 (c .1) in
     (accepted-meets xs (a .0), c .0, room-done (replaceOf xs i new) out (d .1))
 

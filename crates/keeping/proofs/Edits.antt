@@ -5,6 +5,8 @@ use mathlib.Core.List.{List}
 use lib.IntN.{ℤ}
 use lib.ListN.{length}
 use Rattle.wire.specs.Numbers.{Bytes}
+use Rattle.boxes.specs.Containers.{LONGEST}
+use Rattle.entries.specs.Entries.{FRAMES}
 use Rattle.clocks.specs.Clocks.{shiftTime}
 use Rattle.boxes.specs.Boxes.{HEAD}
 use Rattle.heads.specs.Heads.{headSize}
@@ -13,8 +15,6 @@ use Rattle.movie.specs.declared.entry.Spot.{Spot}
 use Rattle.movie.specs.declared.entry.Spot.the-variants.{In, Past}
 use Rattle.movie.specs.Movie.{movie}
 use Rattle.movie.specs.Named.{spotIn}
-use Rattle.descriptions.specs.Ten.{MOST}
-use Rattle.judge.specs.Judgement.{LONGEST}
 use Rattle.judge.specs.Acceptance.{Meets}
 use Rattle.settle.specs.Settle.{settled}
 use Rattle.settle.proofs.Settled.{settled-length}
@@ -39,7 +39,7 @@ unfolding shiftOf
 keeps-shift z xs w m = keeps-stay xs _ w m (shift-content (shiftTime z) xs w (m .most))
 
 -- "Replace decoder record of entry i": one that meets its rule, where the result is not too long
-pub keeps-replace : (xs : List ℕ) (i : ℕ) (new : List ℕ) → Bytes xs → Bytes new → Meets xs → recordRule (kindAt xs i) MOST new ≡ 1 → length (replaceOf xs i new) ≤ LONGEST → Kept xs (replaceOf xs i new)
+pub keeps-replace : (xs : List ℕ) (i : ℕ) (new : List ℕ) → Bytes xs → Bytes new → Meets xs → recordRule (kindAt xs i) FRAMES new ≡ 1 → length (replaceOf xs i new) ≤ LONGEST → Kept xs (replaceOf xs i new)
 unfolding replaceOf replaced
 keeps-replace xs i new w v m r h = go (spotIn 0 (movie xs) (i - 1)) refl (rw settled-length at h)
   where

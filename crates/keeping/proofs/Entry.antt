@@ -21,11 +21,11 @@ use Rattle.heads.proofs.Meeting.{eq-ways, eq-met}
 use Rattle.heads.proofs.Heading.{audio-size, visual-size}
 use Rattle.entries.specs.declared.rule.Around.{Around}
 use Rattle.entries.specs.Decoders.{recordRule}
-use Rattle.entries.specs.Entries.{entryRule, replaced}
+use Rattle.entries.specs.Entries.{entryRule, replaced, FRAMES}
 use Rattle.entries.proofs.Speech.{Spoken, soun, speech-met}
 use Rattle.entries.proofs.Picture.{vide, picture-met}
 use Rattle.entries.proofs.Kept.{entry-kept}
-use Rattle.descriptions.specs.Ten.{MOST, meets, entryFine}
+use Rattle.descriptions.specs.Ten.{meets, entryFine}
 
 -- the kinds that have a record
 record-kinds : (kind most : ℕ) (ys : List ℕ) → recordRule kind most ys ≡ 1 → Spoken kind ⊎ (kind ≡ 5)
@@ -67,11 +67,11 @@ module _ (x : Box) (g : Good x) where
       rw (t, d, n) (simp append-assoc)
 
   -- a given record that meets its rule, in the place of the entry's own
-  pub entry-changed : (a : Around) (kind : ℕ) (new : List ℕ) → kindOf (x .code) ≡ kind → recordRule kind MOST new ≡ 1 → entryFine a x ≡ true → entryFine a (remade x (tailBy (headSize kind - HEAD) new (x .body))) ≡ true
+  pub entry-changed : (a : Around) (kind : ℕ) (new : List ℕ) → kindOf (x .code) ≡ kind → recordRule kind FRAMES new ≡ 1 → entryFine a x ≡ true → entryFine a (remade x (tailBy (headSize kind - HEAD) new (x .body))) ≡ true
   unfolding meets
   entry-changed a kind new k r e =
-      let f : entryRule a MOST (header x ++ x .body) ≡ 1 = eq-is _ _ e in
+      let f : entryRule a FRAMES (header x ++ x .body) ≡ 1 = eq-is _ _ e in
       let c : kindOf (word 4 (header x ++ x .body) 4) ≡ kind = ap kindOf code-is ∙ k in
-      let i = head-inside a MOST kind (header x ++ x .body) c f (record-kinds kind MOST new r) in
+      let i = head-inside a FRAMES kind (header x ++ x .body) c f (record-kinds kind FRAMES new r) in
       let n : 8 + (headSize kind - HEAD) ≡ headSize kind = omega (arith, i .0) in
-      is-eq _ _ (rw (tail-is (headSize kind - HEAD) new (omega (arith, i .1, length-append (header x) (x .body), length-header x)), n) (entry-kept a MOST kind (header x ++ x .body) new c f r))
+      is-eq _ _ (rw (tail-is (headSize kind - HEAD) new (omega (arith, i .1, length-append (header x) (x .body), length-header x)), n) (entry-kept a FRAMES kind (header x ++ x .body) new c f r))

@@ -8,7 +8,7 @@ use Rattle.wire.specs.Codes.{STSD}
 use Rattle.wire.specs.Numbers.{Bytes, word}
 use Rattle.wire.proofs.Tests.{eq-nay}
 use Rattle.boxes.specs.Box.{Box, header, write}
-use Rattle.boxes.specs.Boxes.{boxes}
+use Rattle.boxes.specs.Boxes.{boxes, FRONT}
 use Rattle.boxes.specs.Seek.{ANY, count}
 use Rattle.boxes.proofs.Whole.{Good}
 use Rattle.boxes.proofs.Reading.{All, parts, lengths, length-cons, write-append}
@@ -16,7 +16,7 @@ use Rattle.boxes.proofs.Reading.All.{some}
 use Rattle.heads.specs.Kinds.{kindOf}
 use Rattle.movie.specs.declared.entry.Spot.the-variants.{In}
 use Rattle.movie.specs.Movie.{movie, track, table}
-use Rattle.movie.specs.Entries.{FRONT, entries}
+use Rattle.movie.specs.Entries.{entries}
 use Rattle.movie.specs.Named.{listIn, spotIn, bytesAt}
 use Rattle.movie.proofs.Finding.{track-is, table-is}
 use Rattle.movie.proofs.Naming.{bytes-list}

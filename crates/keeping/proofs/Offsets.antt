@@ -17,6 +17,7 @@ use Rattle.boxes.specs.Words.{reword, rewordLeaf}
 use Rattle.boxes.specs.Kin.{Leaf}
 use Rattle.boxes.proofs.Kin.{Then, Made}
 use Rattle.boxes.proofs.Wording.{reword-length}
+use Rattle.boxes.specs.Containers.{LONGEST}
 use Rattle.tables.specs.Tables.{hasForm, tableForm}
 use Rattle.tables.proofs.Tables.{form-is}
 use Rattle.media.specs.Relocate.{relocate, Relocated}
@@ -24,7 +25,6 @@ use Rattle.media.proofs.Rewording.{relocated-reword}
 use Rattle.headers.specs.Forms.{ifBox, form}
 use Rattle.tracks.specs.Six.{tableOf, tableIn, sixRule}
 use Rattle.settle.specs.Settle.{offsets}
-use Rattle.judge.specs.Judgement.{LONGEST}
 use Rattle.keeping.proofs.Sound.{Sound}
 use Rattle.keeping.proofs.Words.{byte-before, word-before}
 use Rattle.keeping.proofs.Knowing.{With, short}
@@ -39,15 +39,15 @@ module _ (f : ℕ → ℕ) where
   unfolding rewordLeaf ifEq
   form-moved k c b = go (eqb k STBL) (eqb c STCO) refl refl
     where
-      go : (s t : Bool) → eqb k STBL ≡ s → eqb c STCO ≡ t → form k c b ≡ true → form k c (pick s (pick t (reword f 8 1048576 b) b) b) ≡ true
-      go true true e g q = rw (eqb-true k STBL e, eqb-true c STCO g) (form-table (reword f 8 1048576 b))
+      go : (s t : Bool) → eqb k STBL ≡ s → eqb c STCO ≡ t → form k c b ≡ true → form k c (pick s (pick t (reword f 8 LONGEST b) b) b) ≡ true
+      go true true e g q = rw (eqb-true k STBL e, eqb-true c STCO g) (form-table (reword f 8 LONGEST b))
       go true false e g q = q
       go false t e g q = q
 
   -- the form of a table of numbers stays
-  table-moved : (b : List ℕ) → tableForm 4 b ≡ tableForm 4 (reword f 8 1048576 b)
+  table-moved : (b : List ℕ) → tableForm 4 b ≡ tableForm 4 (reword f 8 LONGEST b)
   unfolding hasForm
-  table-moved b = rw (byte-before f 8 1048576 b 0 (omega arith), word-before f 8 1048576 b 4 (omega arith), reword-length f 8 1048576 b)
+  table-moved b = rw (byte-before f 8 LONGEST b 0 (omega arith), word-before f 8 LONGEST b 4 (omega arith), reword-length f 8 LONGEST b)
 
   -- an edit of chunk offsets alone is sound
   pub offsets-sound : Sound (Made (rewordLeaf offsets f))
@@ -65,7 +65,7 @@ module _ (f : ℕ → ℕ) where
               stts = λ b b′ r. sym (r .0);
               stsc = λ b b′ r. sym (r .0);
               stsz = λ b b′ r. sym (r .0);
-              stco = λ b b′ r. rw (r .0) (sym (word-before f 8 1048576 b 4 (omega arith)), table-moved b);
+              stco = λ b b′ r. rw (r .0) (sym (word-before f 8 LONGEST b 4 (omega arith)), table-moved b);
               stsd = λ b b′ r. rw (r .0);
             };
         described = record { mdhd = λ b b′ r. rw (r .0); hdlr = λ b b′ r. rw (r .0); dref = λ b b′ r. rw (r .0); stsd = λ b b′ r a q. rw (r .0) q };
@@ -80,4 +80,4 @@ module _ (G : Leaf) (same : (b b′ : List ℕ) → G STBL STCO b b′ → b ≡
   offsets-moved b b″ r =
       let e : b ≡ r .0 = same b (r .0) (r .1 .0 .0) in
       let n : length b ≤ LONGEST = le-is _ _ (r .1 .0 .1) in
-      rw (r .2 .0, ← e) (relocated-reword f b 1048576 (form-is _ _ (r .1 .1)) (omega arith) l m (λ k h. is _) (λ k h. below _ (word-fits 4 b _ (subst Bytes (sym e) (r .2 .1)))))
+      rw (r .2 .0, ← e) (relocated-reword f b LONGEST (form-is _ _ (r .1 .1)) (omega arith) l m (λ k h. is _) (λ k h. below _ (word-fits 4 b _ (subst Bytes (sym e) (r .2 .1)))))

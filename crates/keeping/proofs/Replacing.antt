@@ -7,21 +7,19 @@ use lib.ListN.{length, take, drop, length-append}
 use lib.Seq.{take-at, drop-at, length-take-le}
 use Rattle.wire.specs.Codes.{STBL, STSD}
 use Rattle.wire.specs.Numbers.{Bytes}
-use Rattle.boxes.specs.Boxes.{HEAD}
-use Rattle.boxes.specs.Containers.{FILE, DEPTH}
+use Rattle.boxes.specs.Boxes.{HEAD, FRONT}
+use Rattle.boxes.specs.Containers.{FILE, DEPTH, LONGEST}
 use Rattle.boxes.specs.Seek.{ANY}
 use Rattle.boxes.specs.Kin.{Kin}
 use Rattle.boxes.specs.Way.{overNth, overTurn, editWay, tailBy}
 use Rattle.boxes.proofs.Seeking.{meant-any}
 use Rattle.boxes.proofs.Turning.{way-length}
+use Rattle.entries.specs.Entries.{FRAMES}
 use Rattle.heads.specs.Heads.{headSize}
 use Rattle.entries.specs.Decoders.{recordRule}
 use Rattle.movie.specs.declared.entry.Spot.the-variants.{In}
 use Rattle.movie.specs.Movie.{movie, track, table}
-use Rattle.movie.specs.Entries.{FRONT}
 use Rattle.movie.specs.Named.{spotIn}
-use Rattle.descriptions.specs.Ten.{MOST}
-use Rattle.judge.specs.Judgement.{LONGEST}
 use Rattle.replace.specs.Replace.{kindAt, recordAt}
 use Rattle.replace.proofs.Kinship.{Once, endOf}
 use Rattle.replace.proofs.Nth.{nth-by, boxes-nth, after-nth}
@@ -32,7 +30,7 @@ use Rattle.keeping.proofs.Content.{Content}
 use Rattle.keeping.proofs.Once.{once-content}
 use Rattle.keeping.proofs.Named.{EntryIn, entry-in}
 
-module _ (xs : List ℕ) (i : ℕ) (new : List ℕ) (w : Bytes xs) (few : length xs ≤ LONGEST) (r : recordRule (kindAt xs i) MOST new ≡ 1) (t n : ℕ) (e : spotIn 0 (movie xs) (i - 1) ≡ In t n) where
+module _ (xs : List ℕ) (i : ℕ) (new : List ℕ) (w : Bytes xs) (few : length xs ≤ LONGEST) (r : recordRule (kindAt xs i) FRAMES new ≡ 1) (t n : ℕ) (e : spotIn 0 (movie xs) (i - 1) ≡ In t n) where
   abbrev keep : ℕ
   keep = headSize (kindAt xs i) - HEAD
 
@@ -41,7 +39,7 @@ module _ (xs : List ℕ) (i : ℕ) (new : List ℕ) (w : Bytes xs) (few : length
   stsd = table STSD (track xs t)
 
   abbrev s : EntryIn xs i t n
-  s = entry-in xs i w (record-first xs i MOST (kindAt xs i) new refl r) t n e
+  s = entry-in xs i w (record-first xs i FRAMES (kindAt xs i) new refl r) t n e
 
   abbrev by : List ℕ → List ℕ
   by = tailBy keep new
@@ -57,7 +55,7 @@ module _ (xs : List ℕ) (i : ℕ) (new : List ℕ) (w : Bytes xs) (few : length
   small : length (overNth ANY n by (drop FRONT stsd)) < 4294967296
   small =
       let l = ap length open-it ∙ length-append (take FRONT stsd) (overNth ANY n by (drop FRONT stsd)) in
-      omega (arith, l, few, s .short, way-length (toEntry n) keep new stsd, record-short (kindAt xs i) MOST new r .1)
+      omega (arith, l, few, s .short, way-length (toEntry n) keep new stsd, record-short (kindAt xs i) FRAMES new r .1)
 
   behind : drop FRONT changedStsd ≡ overNth ANY n by (drop FRONT stsd)
   behind = ap (drop FRONT) open-it ∙ drop-at (take FRONT stsd) (overNth ANY n by (drop FRONT stsd)) FRONT (length-take-le FRONT stsd (s .room))

@@ -7,7 +7,7 @@ use lib.ListN.{length}
 use Rattle.wire.specs.Numbers.{Bytes}
 use Rattle.boxes.specs.Box.{Box, write}
 use Rattle.boxes.specs.Boxes.{boxes, after}
-use Rattle.boxes.specs.Containers.{FILE, DEPTH}
+use Rattle.boxes.specs.Containers.{FILE, DEPTH, LONGEST}
 use Rattle.boxes.specs.Rewrite.{Leaves, editIn}
 use Rattle.boxes.specs.Words.{rewordLeaf}
 use Rattle.boxes.specs.Kin.{All2, Leaf, Kin}
@@ -16,7 +16,6 @@ use Rattle.boxes.proofs.Editing.{edit-length, edit-bytes}
 use Rattle.boxes.proofs.Wording.{leaf-length, leaf-bytes}
 use Rattle.media.specs.Relocate.{relocate, Alike}
 use Rattle.tracks.specs.Six.{sixRule}
-use Rattle.judge.specs.Judgement.{LONGEST}
 use Rattle.judge.specs.Acceptance.{Meets}
 use Rattle.settle.specs.Settle.{offsets, settled}
 use Rattle.settle.proofs.Accepted.{file-tiled}

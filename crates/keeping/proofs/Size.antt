@@ -6,13 +6,14 @@ use lib.IntN.{ℤ}
 use lib.ListN.{length}
 use Rattle.wire.specs.Tests.{pick, ifEq, ifLt}
 use Rattle.wire.proofs.Tests.{lt-yea, lt-nay}
+use Rattle.boxes.specs.Containers.{LONGEST}
+use Rattle.entries.specs.Entries.{FRAMES}
 use Rattle.entries.specs.Decoders.{recordRule}
 use Rattle.media.proofs.Payloads.{either}
 use Rattle.verdict.specs.declared.Answer.{Answer}
 use Rattle.verdict.specs.declared.Answer.the-variants.{Done, Refused}
 use Rattle.verdict.specs.Answers.{inRoom}
-use Rattle.descriptions.specs.Ten.{MOST}
-use Rattle.judge.specs.Judgement.{LONGEST, judged}
+use Rattle.judge.specs.Judgement.{judged}
 use Rattle.judge.specs.Acceptance.{plain}
 use Rattle.moving.specs.Moving.{moveOf, moveAnswer}
 use Rattle.shift.specs.Shift.{shiftable, shiftOf, acceptedAnswer, shiftAnswer}
@@ -40,8 +41,8 @@ unfolding replaceAnswer takenAnswer settledAnswer roomAnswer
 replace-size xs i new out e =
     let a = when-done (judged xs) _ e in
     let s = pick (plain xs) (ifLt LONGEST (length (replaceOf xs i new)) (Refused 24 0) (inRoom (replaceOf xs i new) out)) (Refused 23 0) in
-    let b = pick-done (takes (kindAt xs i) new) (ifEq (recordRule (kindAt xs i) MOST new) 1 s (Refused 21 0)) 20 0 (a .1) in
-    let c = equal-done (recordRule (kindAt xs i) MOST new) 1 s 21 0 (b .1) in
+    let b = pick-done (takes (kindAt xs i) new) (ifEq (recordRule (kindAt xs i) FRAMES new) 1 s (Refused 21 0)) 20 0 (a .1) in
+    let c = equal-done (recordRule (kindAt xs i) FRAMES new) 1 s 21 0 (b .1) in
     let d = pick-done (plain xs) (ifLt LONGEST (length (replaceOf xs i new)) (Refused 24 0) (inRoom (replaceOf xs i new) out)) 23 0 (c .1) in
     either LONGEST (length (replaceOf xs i new))
     (λ h. absurd (refused-not 24 0 _ (lt-yea _ _ _ _ _ h refl ∙ d .1)))

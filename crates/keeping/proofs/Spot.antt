@@ -8,13 +8,13 @@ use Rattle.wire.specs.Codes.{MOOV, TRAK, STSD}
 use Rattle.wire.specs.Tests.{ifEq}
 use Rattle.wire.proofs.Tests.{lt-yea, lt-nay}
 use Rattle.boxes.specs.Box.{Box, size}
-use Rattle.boxes.specs.Boxes.{boxes}
+use Rattle.boxes.specs.Boxes.{boxes, FRONT}
 use Rattle.boxes.specs.Seek.{meant, nth, startIn}
 use Rattle.boxes.proofs.Seeking.{meant-yes, meant-no}
 use Rattle.media.proofs.Payloads.{either}
 use Rattle.movie.specs.declared.entry.Spot.the-variants.{In}
 use Rattle.movie.specs.Movie.{movie, track, table}
-use Rattle.movie.specs.Entries.{FRONT, entriesStart, entriesOf, entriesAfter, entries}
+use Rattle.movie.specs.Entries.{entriesStart, entriesOf, entriesAfter, entries}
 use Rattle.movie.specs.Named.{listIn, held, spotIn, bytesAt}
 use Rattle.movie.proofs.Counting.{length-of}
 use Rattle.settle.proofs.One.{code-or}

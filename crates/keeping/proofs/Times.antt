@@ -10,12 +10,11 @@ use borrow.Author.Tests.{eqb-true}
 use Rattle.wire.specs.Tests.{pick, ifEq}
 use Rattle.wire.specs.Numbers.{Bytes}
 use Rattle.wire.specs.Codes.{MOOV, MVHD, TRAK, TKHD, MDIA, MDHD, STBL, STCO}
-use Rattle.boxes.specs.Containers.{FILE, DEPTH}
+use Rattle.boxes.specs.Containers.{FILE, DEPTH, LONGEST}
 use Rattle.boxes.specs.Words.{reword, rewordLeaf}
 use Rattle.boxes.proofs.Kin.{Made, kin-edit}
 use Rattle.boxes.proofs.Editing.{edit-length, edit-bytes}
 use Rattle.boxes.proofs.Wording.{reword-length, leaf-length, leaf-bytes}
-use Rattle.judge.specs.Judgement.{LONGEST}
 use Rattle.shift.specs.Shift.{times, timesBy, allTimesBy}
 use Rattle.keeping.proofs.Words.{byte-before, word-behind}
 use Rattle.keeping.proofs.Sound.{sound-less}

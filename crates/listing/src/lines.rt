@@ -8,6 +8,7 @@ use wire::pen;
 ghost use Prim.Native.Nat.{_+_, _^_, _≤_, _<_};
 ghost use lib.ListN.{length, take, drop};
 ghost use Rattle.wire.specs.Writing.{Put};
+ghost use Rattle.boxes.specs.Containers.{LONGEST};
 ghost use Rattle.movie.specs.Movie.{tracks as tracksOf};
 ghost use Rattle.movie.specs.Entries.{entries as entriesOf};
 ghost use Rattle.judge.specs.Acceptance.{Meets};
@@ -62,7 +63,7 @@ fn put_found(
 
 // The line of entry i, from 0, and nothing where there is none.
 fn put_entry(out: &mut [u8], at: usize, file: &[u8], i: usize) -> usize
-    requires { ⌜ (length (now file) ≤ 1048576) × (i < 2 ^ 60) × (at < 2 ^ 60) ⌝ }
+    requires { ⌜ (length (now file) ≤ LONGEST) × (i < 2 ^ 60) × (at < 2 ^ 60) ⌝ }
     ensures { λ r. ⌜ Put (firstLine (i + 1) (drop i (entriesOf (now (file .entry))))) (now (out .entry)) at r (now (out .exit)) × (r ≤ at + 120) ⌝ }
 {
     let number = i + 1;
@@ -74,7 +75,7 @@ fn put_entry(out: &mut [u8], at: usize, file: &[u8], i: usize) -> usize
 
 // The lines of the entries, numbered over the file from 1.
 fn put_entries(out: &mut [u8], from: usize, file: &[u8]) -> usize
-    requires { ⌜ (length (now file) ≤ 1048576) × (from < 2 ^ 33) ⌝ }
+    requires { ⌜ (length (now file) ≤ LONGEST) × (from < 2 ^ 33) ⌝ }
     ensures { λ r. ⌜ Put (entryLines 1 (entriesOf (now (file .entry)))) (now (out .entry)) from r (now (out .exit)) × (r < 2 ^ 34) ⌝ }
 {
     let n = entry::entries(file);

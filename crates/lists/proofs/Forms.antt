@@ -12,9 +12,9 @@ use Rattle.wire.proofs.Lists.{tail-is, drop-min}
 use Rattle.wire.proofs.Clauses.{eq-is, le-is, clause}
 use Rattle.boxes.specs.declared.seek.Tiling.{Tiling}
 use Rattle.boxes.specs.declared.seek.Tiling.the-variants.{Whole, Torn}
-use Rattle.boxes.specs.Boxes.{after}
+use Rattle.boxes.specs.Boxes.{after, FRONT}
 use Rattle.boxes.specs.Seek.{tilingOf}
-use Rattle.lists.specs.Forms.{FRONT, listForm, Listed}
+use Rattle.lists.specs.Forms.{listForm, Listed}
 
 -- what stands past the count
 pub listed-is : (xs : List ℕ) (n : ℕ) → n ≡ min FRONT (length xs) → take (length xs - n) (drop n xs) ≡ drop FRONT xs

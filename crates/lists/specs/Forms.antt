@@ -8,12 +8,8 @@ use Rattle.wire.specs.Tests.{ifEq}
 use Rattle.wire.specs.Numbers.{word}
 use Rattle.wire.specs.Clauses.{isEq, isLe, every}
 use Rattle.wire.specs.Codes.{STBL, STSD, DINF, DREF}
-use Rattle.boxes.specs.Boxes.{boxes, after}
+use Rattle.boxes.specs.Boxes.{FRONT, boxes, after}
 use Rattle.boxes.specs.Seek.{ANY, count}
-
--- the length of the version, the flags and the count
-abbrev pub FRONT : ℕ
-FRONT = 8
 
 -- the stored count
 abbrev pub stored : List ℕ → ℕ

@@ -8,13 +8,12 @@ use Rattle.wire.specs.Numbers.{word}
 use Rattle.wire.specs.Clauses.{isEq, every}
 use Rattle.wire.specs.Codes.{DINF, DREF, URL}
 use Rattle.boxes.specs.Box.{Box}
-use Rattle.boxes.specs.Boxes.{boxes}
+use Rattle.boxes.specs.Boxes.{boxes, FRONT}
 use Rattle.verdict.specs.declared.Verdict.{Verdict}
 use Rattle.verdict.specs.declared.Verdict.the-variants.{Fine}
 use Rattle.verdict.specs.Verdict.{unless}
 use Rattle.verdict.specs.Judge.{judgeList}
 use Rattle.verdict.specs.Rule.{allList}
-use Rattle.lists.specs.Forms.{FRONT}
 
 unfoldable pub isUrl : ℕ → List ℕ → Bool
 isUrl c b = every (isEq c URL ∷ isEq (length b) 4 ∷ isEq (word 4 b 0) 1 ∷ [])

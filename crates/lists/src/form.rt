@@ -1,16 +1,14 @@
 // Rule 5 of one `stsd` or `dref`.
 use boxes::seek;
 use boxes::seek::Tiling;
+use boxes::walk::FRONT;
 use wire::codes;
 use wire::number;
 ghost use mathlib.Core.Path.{_≡_};
 ghost use lib.ListN.{length, drop};
 ghost use Rattle.wire.specs.Clauses.{isEq, oneIf};
-ghost use Rattle.boxes.specs.Boxes.{after};
-ghost use Rattle.lists.specs.Forms.{FRONT, listForm, formIn};
-
-// The length of the version, the flags and the count.
-pub const FRONT: usize = 8;
+ghost use Rattle.boxes.specs.Boxes.{after, FRONT};
+ghost use Rattle.lists.specs.Forms.{listForm, formIn};
 
 // What stands past the count.
 pub fn listed(body: &[u8]) -> &[u8]

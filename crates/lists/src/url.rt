@@ -76,5 +76,5 @@ pub fn urls_in(k: usize, c: usize, body: &[u8], q: usize) -> Verdict
     if c != codes::DREF {
         return Verdict::Fine;
     }
-    urls_from(form::listed(body), q + form::FRONT)
+    urls_from(form::listed(body), q + walk::FRONT)
 }

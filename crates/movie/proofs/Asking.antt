@@ -9,7 +9,7 @@ use Rattle.wire.proofs.Lists.{tail-is, drop-min}
 use Rattle.boxes.specs.declared.walk.BoxAt.{BoxAt}
 use Rattle.boxes.specs.declared.seek.Seen.{Seen}
 use Rattle.boxes.specs.declared.seek.Seen.the-variants as seen
-use Rattle.boxes.specs.Boxes.{boxes}
+use Rattle.boxes.specs.Boxes.{boxes, FRONT}
 use Rattle.boxes.specs.Seek.{ANY, find, nth, startIn, SeenAs}
 use Rattle.boxes.proofs.Placing.{found-short}
 use Rattle.boxes.proofs.Seeking.{cut-as, none-as}
@@ -19,7 +19,7 @@ use Rattle.movie.specs.declared.entry.Named.the-variants.{At, Missing}
 use Rattle.movie.specs.declared.entry.Spot.{Spot}
 use Rattle.movie.specs.declared.entry.Spot.the-variants.{In, Past}
 use Rattle.movie.specs.Movie.{movie, mdia, minf, stbl, track, table}
-use Rattle.movie.specs.Entries.{FRONT, entriesStart, entries}
+use Rattle.movie.specs.Entries.{entriesStart, entries}
 use Rattle.movie.specs.Named.{listIn, heldIn, listStart, InTrack, SpotAs, PlacedAs, EntryIs, NamedAs}
 use Rattle.movie.proofs.Counting.{length-after}
 

@@ -10,14 +10,14 @@ use Rattle.wire.specs.Numbers.{Bytes}
 use Rattle.wire.proofs.Numbers.{bytes-drop}
 use Rattle.boxes.specs.declared.walk.BoxAt.{BoxAt}
 use Rattle.boxes.specs.Box.{header}
-use Rattle.boxes.specs.Boxes.{boxes}
+use Rattle.boxes.specs.Boxes.{boxes, FRONT}
 use Rattle.boxes.specs.Walk.{payload, boxAt}
 use Rattle.boxes.specs.Seek.{ANY, find, nth, startIn, Cut}
 use Rattle.movie.specs.declared.entry.EntryAt.{EntryAt}
 use Rattle.movie.specs.declared.entry.Named.{Named}
 use Rattle.movie.specs.declared.entry.Named.the-variants.{At, Missing}
 use Rattle.movie.specs.Movie.{movie, mdia, minf, stbl, track, table}
-use Rattle.movie.specs.Entries.{Entry, FRONT, entriesStart, entriesOf, entries}
+use Rattle.movie.specs.Entries.{Entry, entriesStart, entriesOf, entries}
 use Rattle.movie.specs.Named.{listIn, listStart, InTrack, Placed, PlacedAs, EntryIs, NamedAs}
 use Rattle.movie.proofs.Lying.{Lies, bytes-lies, lies-in, lies-drop, lies-found}
 use Rattle.movie.proofs.Boxed.{length-box, lies-box, from-cut}

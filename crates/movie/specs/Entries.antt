@@ -6,7 +6,7 @@ use lib.ListN.{length, take, drop}
 use Rattle.wire.specs.Tests.{ifEq}
 use Rattle.wire.specs.Codes.{MOOV, TRAK, MDIA, MINF, STBL, STSD}
 use Rattle.boxes.specs.Box.{Box, size, header}
-use Rattle.boxes.specs.Boxes.{boxes}
+use Rattle.boxes.specs.Boxes.{FRONT, boxes}
 use Rattle.boxes.specs.Seek.{startIn}
 use Rattle.movie.specs.Movie.{movie, mdia, minf, stbl, table}
 
@@ -15,10 +15,6 @@ pub record Entry : Type 0 where
   pub track : ℕ
   pub place : ℕ
   pub bytes : List ℕ
-
--- the length of the version, the flags and the count before the entries of an `stsd`
-abbrev pub FRONT : ℕ
-FRONT = 8
 
 -- the boxes l of track t, which stand from place p on
 unfoldable pub entriesFrom : ℕ → List Box → ℕ → List Entry

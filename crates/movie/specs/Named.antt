@@ -7,7 +7,7 @@ use Rattle.wire.specs.Tests.{ifEq, ifLt}
 use Rattle.wire.specs.Codes.{MOOV, TRAK, STSD}
 use Rattle.boxes.specs.declared.walk.BoxAt.{BoxAt}
 use Rattle.boxes.specs.Box.{Box, header}
-use Rattle.boxes.specs.Boxes.{boxes}
+use Rattle.boxes.specs.Boxes.{boxes, FRONT}
 use Rattle.boxes.specs.Walk.{payload, boxAt}
 use Rattle.boxes.specs.Seek.{ANY, meant, count, byNumber, nth as nthIn, startIn, Cut}
 use Rattle.movie.specs.declared.entry.EntryAt.{EntryAt}
@@ -16,7 +16,7 @@ use Rattle.movie.specs.declared.entry.Named.the-variants.{At, Missing}
 use Rattle.movie.specs.declared.entry.Spot.{Spot}
 use Rattle.movie.specs.declared.entry.Spot.the-variants.{In, Past}
 use Rattle.movie.specs.Movie.{movie, tracks, track as trackOf, table}
-use Rattle.movie.specs.Entries.{Entry, FRONT, entriesStart, entriesOf, entriesAfter, entries}
+use Rattle.movie.specs.Entries.{Entry, entriesStart, entriesOf, entriesAfter, entries}
 
 -- what stands past the front of the `stsd` of a track whose payload is b
 unfoldable pub listIn : List ℕ → List ℕ

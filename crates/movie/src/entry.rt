@@ -13,12 +13,10 @@ ghost use lib.ListN.{length};
 ghost use Rattle.boxes.specs.Boxes.{boxes};
 ghost use Rattle.boxes.specs.Seek.{meant};
 ghost use Rattle.wire.specs.Codes.{TRAK};
+ghost use Rattle.boxes.specs.Containers.{LONGEST};
 ghost use Rattle.movie.specs.Movie.{track as trackOf};
 ghost use Rattle.movie.specs.Entries.{entries as entriesIn, entriesStart};
 ghost use Rattle.movie.specs.Named.{listIn, held as heldBy, heldIn, listStart, SpotAs, PlacedAs, NamedAs, spotIn};
-
-// What stands before the entries of an `stsd`.
-pub const FRONT: usize = 8;
 
 // An entry: its track, from 1; its number there, from 0; its place in the file; its length.
 pub struct EntryAt {
@@ -44,7 +42,7 @@ pub fn list(track: &[u8]) -> &[u8]
     ensures { λ r. ⌜ (now r ≡ listIn (now (track .entry))) × (length (now r) ≤ length (now (track .entry))) ⌝ }
 {
     let stsd = crate::table(track, codes::STSD);
-    let n = number::least(FRONT, stsd.len());
+    let n = number::least(walk::FRONT, stsd.len());
     &stsd[n..]
 }
 
@@ -121,7 +119,7 @@ pub fn find_spot(moov: &[u8], i: usize) -> Spot
 
 // How far into a track's payload its entries start.
 fn entries_start(track: &[u8]) -> usize
-    requires { ⌜ length (now track) ≤ 1048576 ⌝ }
+    requires { ⌜ length (now track) ≤ LONGEST ⌝ }
     ensures { λ r. ⌜ (r ≡ entriesStart (now (track .entry))) × (r ≤ 4194312) ⌝ }
 {
     let mdia = seek::payload(track, codes::MDIA, 0);
@@ -129,12 +127,12 @@ fn entries_start(track: &[u8]) -> usize
     let stbl = seek::payload(minf, codes::STBL, 0);
     let to_minf = seek::start(track, codes::MDIA, 0) + seek::start(mdia, codes::MINF, 0);
     let to_stbl = to_minf + seek::start(minf, codes::STBL, 0);
-    to_stbl + seek::start(stbl, codes::STSD, 0) + FRONT
+    to_stbl + seek::start(stbl, codes::STSD, 0) + walk::FRONT
 }
 
 // How far into the file the entries of track t, from 0, start.
 fn list_start(file: &[u8], t: usize) -> usize
-    requires { ⌜ length (now file) ≤ 1048576 ⌝ }
+    requires { ⌜ length (now file) ≤ LONGEST ⌝ }
     ensures { λ r. ⌜ (r ≡ listStart (now (file .entry)) t) × (r ≤ 8388608) ⌝ }
 {
     let moov = seek::payload(file, codes::MOOV, 0);
@@ -144,7 +142,7 @@ fn list_start(file: &[u8], t: usize) -> usize
 
 // Entry n of track t, both from 0.
 fn entry_of(file: &[u8], t: usize, n: usize) -> Named
-    requires { ⌜ (length (now file) ≤ 1048576) × (t ≤ 1048576) ⌝ }
+    requires { ⌜ (length (now file) ≤ LONGEST) × (t ≤ LONGEST) ⌝ }
     ensures { λ r. ⌜ PlacedAs (now (file .entry)) t n r ⌝ }
 {
     match seek::nth(list(crate::track(file, t)), seek::ANY, n) {
@@ -160,7 +158,7 @@ fn entry_of(file: &[u8], t: usize, n: usize) -> Named
 
 // Entry i, from 0 and in file order.
 pub fn entry(file: &[u8], i: usize) -> Named
-    requires { ⌜ length (now file) ≤ 1048576 ⌝ }
+    requires { ⌜ length (now file) ≤ LONGEST ⌝ }
     ensures { λ r. ⌜ NamedAs (now (file .entry)) i r ⌝ }
 {
     match find_spot(seek::payload(file, codes::MOOV, 0), i) {

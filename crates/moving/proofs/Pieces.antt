@@ -10,7 +10,7 @@ use Rattle.wire.specs.Writing.{Wrote, Put}
 use Rattle.wire.proofs.Lists.{tail-is}
 use Rattle.wire.proofs.Writing.{pen-then, pen-is, pen-front}
 use Rattle.boxes.specs.declared.walk.BoxAt.{BoxAt}
-use Rattle.boxes.specs.Containers.{FILE, DEPTH}
+use Rattle.boxes.specs.Containers.{FILE, DEPTH, LONGEST}
 use Rattle.boxes.specs.Rewrite.{editIn}
 use Rattle.boxes.specs.Words.{rewordLeaf, moved}
 use Rattle.boxes.proofs.Editing.{edit-length}
@@ -22,21 +22,21 @@ use Rattle.moving.specs.Arrange.{arranged, up, shifted}
 past : (a n : ℕ) (xs : List ℕ) {out mid : List ℕ} {at r : ℕ} → Put (midOf a n xs) out at r mid → r ≤ at + length xs
 past a n xs p = omega (arith, p .next, length-take n (drop a xs), length-drop a xs)
 
-room : (a n : ℕ) (xs : List ℕ) (i : ℕ) → i ≤ 4194304 → length xs ≤ 1048576 → i + length (midOf a n xs) < 2 ^ 63
+room : (a n : ℕ) (xs : List ℕ) (i : ℕ) → i ≤ 4194304 → length xs ≤ LONGEST → i + length (midOf a n xs) < 2 ^ 63
 room a n xs i h k = omega (arith, length-take n (drop a xs), length-drop a xs)
 
 module _ (f : ℕ) (b : BoxAt) (xs : List ℕ) where
   -- the four, one behind the other
   module _ {out o₁ : List ℕ} {i : ℕ} (p : Put (take f xs) out 0 i o₁) where
-    pub second-room : length xs ≤ 1048576 → i + length (midOf (b .at) (b .at + b .size - b .at) xs) < 2 ^ 63
+    pub second-room : length xs ≤ LONGEST → i + length (midOf (b .at) (b .at + b .size - b .at) xs) < 2 ^ 63
     second-room h = room (b .at) (b .at + b .size - b .at) xs i (omega (arith, past 0 f xs p)) h
 
     module _ {o₂ : List ℕ} {j : ℕ} (q : Put (midOf (b .at) (b .at + b .size - b .at) xs) o₁ i j o₂) where
-      pub third-room : length xs ≤ 1048576 → j + length (midOf f (b .at - f) xs) < 2 ^ 63
+      pub third-room : length xs ≤ LONGEST → j + length (midOf f (b .at - f) xs) < 2 ^ 63
       third-room h = room f (b .at - f) xs j (omega (arith, past 0 f xs p, past (b .at) (b .at + b .size - b .at) xs q)) h
 
       module _ {o₃ : List ℕ} {k : ℕ} (s : Put (midOf f (b .at - f) xs) o₂ j k o₃) where
-        pub fourth-room : length xs ≤ 1048576 → k + length (midOf (b .at + b .size) (length xs - (b .at + b .size)) xs) < 2 ^ 63
+        pub fourth-room : length xs ≤ LONGEST → k + length (midOf (b .at + b .size) (length xs - (b .at + b .size)) xs) < 2 ^ 63
         fourth-room h = room (b .at + b .size) (length xs - (b .at + b .size)) xs k (omega (arith, past 0 f xs p, past (b .at) (b .at + b .size - b .at) xs q, past f (b .at - f) xs s)) h
 
         pub pieces-put : {o₄ : List ℕ} {r : ℕ} → b .at + b .size ≤ length xs → Put (midOf (b .at + b .size) (length xs - (b .at + b .size)) xs) o₃ k r o₄ → Put (arranged f b xs) out 0 r o₄

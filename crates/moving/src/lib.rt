@@ -12,6 +12,7 @@ ghost use Prim.Native.Nat.{_+_, _≤_};
 ghost use lib.ListN.{length};
 ghost use Rattle.wire.specs.Tests.{pick};
 ghost use Rattle.wire.specs.Writing.{Wrote, Put};
+ghost use Rattle.boxes.specs.Containers.{LONGEST};
 ghost use Rattle.verdict.specs.declared.Answer.the-variants as answer;
 ghost use Rattle.verdict.specs.Answers.{inRoom, outBy};
 ghost use Rattle.judge.specs.Acceptance.{Meets, plain};
@@ -20,7 +21,7 @@ ghost use Rattle.moving.specs.Arrange.{arranged, shifted};
 
 // Writes a file with its box b at place f.
 fn arrange(out: &mut [u8], file: &[u8], f: usize, b: BoxAt) -> usize
-    requires { ⌜ (f ≤ b .at) × (b .at + b .size ≤ length (now file)) × (length (now file) ≤ 1048576) ⌝ }
+    requires { ⌜ (f ≤ b .at) × (b .at + b .size ≤ length (now file)) × (length (now file) ≤ LONGEST) ⌝ }
     ensures { λ r. ⌜ Put (arranged f b (now (file .entry))) (now (out .entry)) 0 r (now (out .exit)) ⌝ }
 {
     let at = b.at;
@@ -33,7 +34,7 @@ fn arrange(out: &mut [u8], file: &[u8], f: usize, b: BoxAt) -> usize
 
 // Writes it so, and moves the chunk offsets that stood before the box up by its size.
 fn shift(out: &mut [u8], file: &[u8], f: usize, b: BoxAt) -> usize
-    requires { ⌜ (f ≤ b .at) × (b .at + b .size ≤ length (now file)) × (length (now file) ≤ 1048576) × (length (now file) ≤ length (now out)) ⌝ }
+    requires { ⌜ (f ≤ b .at) × (b .at + b .size ≤ length (now file)) × (length (now file) ≤ LONGEST) × (length (now file) ≤ length (now out)) ⌝ }
     ensures { λ r. ⌜ Wrote (shifted f b (now (file .entry))) (now (out .entry)) r (now (out .exit)) ⌝ }
 {
     let n = arrange(out, file, f, b);

@@ -7,12 +7,13 @@ use mathlib.Core.List.{List}
 use lib.Dec.{ltb}
 use lib.ListN.{length}
 use Rattle.wire.specs.Tests.{pick, ifLt}
+use Rattle.boxes.specs.Containers.{LONGEST}
 use Rattle.verdict.specs.declared.Verdict.{Verdict}
 use Rattle.verdict.specs.declared.Verdict.the-variants.{Fine, Bad}
 use Rattle.judge.specs.declared.Judgement.{Judgement}
 use Rattle.judge.specs.declared.Judgement.the-variants.{Accepted, Refused}
 use Rattle.judge.specs.Rules.{verdictOf}
-use Rattle.judge.specs.Judgement.{number, LONGEST, next, judgedFrom, judged}
+use Rattle.judge.specs.Judgement.{number, next, judgedFrom, judged}
 
 next-most : (m n : ℕ) (v : Verdict) (j : Judgement) → n ≤ m → number j ≤ m → number (next n v j) ≤ m
 unfolding next

@@ -12,6 +12,7 @@ use wire::number;
 ghost use mathlib.Core.Path.{_≡_};
 ghost use Prim.Native.Nat.{_^_, _≤_, _<_};
 ghost use lib.ListN.{length, take, drop};
+ghost use Rattle.boxes.specs.Containers.{LONGEST};
 ghost use Rattle.clocks.specs.Zones.{Near};
 ghost use Rattle.clocks.specs.Zones.{compared as comparedOf};
 ghost use Rattle.newer.specs.Newer.{modified as modifiedOf, entryIn, entryOf, zonedOf, newestOf, partOf, answerOf};
@@ -39,7 +40,7 @@ fn modified(file: &[u8]) -> usize
 
 // Entry i of a file, from 1, with the order's number and the file's.
 fn entry_in(file: &[u8], order: usize, which: usize, i: usize) -> Outcome
-    requires { ⌜ length (now file) ≤ 1048576 ⌝ }
+    requires { ⌜ length (now file) ≤ LONGEST ⌝ }
     ensures { λ r. ⌜ r ≡ entryIn order which (now (file .entry)) i ⌝ }
 {
     if i == 0 {
@@ -58,7 +59,7 @@ fn entry_in(file: &[u8], order: usize, which: usize, i: usize) -> Outcome
 
 // Entry i of the later file, by two zones.
 fn compared(first: &[u8], y: Zone, second: &[u8], z: Zone, i: usize) -> Outcome
-    requires { ⌜ (Near y) × (Near z) × (length (now first) ≤ 1048576) × (length (now second) ≤ 1048576) ⌝ }
+    requires { ⌜ (Near y) × (Near z) × (length (now first) ≤ LONGEST) × (length (now second) ≤ LONGEST) ⌝ }
     ensures { λ r. ⌜ r ≡ entryOf (comparedOf (modifiedOf (now (first .entry))) y (modifiedOf (now (second .entry))) z) (now (first .entry)) (now (second .entry)) i ⌝ }
 {
     let order = clocks::compare(modified(first), y, modified(second), z);
@@ -71,7 +72,7 @@ fn compared(first: &[u8], y: Zone, second: &[u8], z: Zone, i: usize) -> Outcome
 
 // The same by minutes.
 fn zoned(first: &[u8], y: i64, second: &[u8], z: i64, i: usize) -> Outcome
-    requires { ⌜ (length (now first) ≤ 1048576) × (length (now second) ≤ 1048576) ⌝ }
+    requires { ⌜ (length (now first) ≤ LONGEST) × (length (now second) ≤ LONGEST) ⌝ }
     ensures { λ r. ⌜ r ≡ zonedOf (now (first .entry)) y (now (second .entry)) z i ⌝ }
 {
     match clocks::zone_of(y) {

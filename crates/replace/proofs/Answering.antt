@@ -9,13 +9,13 @@ use Rattle.wire.specs.Clauses.{oneIf}
 use Rattle.wire.specs.Writing.{Wrote}
 use Rattle.wire.proofs.Clauses.{was-nay, was-yea}
 use Rattle.wire.proofs.Tests.{eq-yea, eq-nay, lt-yea, lt-nay}
+use Rattle.boxes.specs.Containers.{LONGEST}
+use Rattle.entries.specs.Entries.{FRAMES}
 use Rattle.entries.specs.Decoders.{recordRule}
-use Rattle.descriptions.specs.Ten.{MOST}
 use Rattle.verdict.specs.declared.Answer.{Answer}
 use Rattle.verdict.specs.declared.Answer.the-variants.{Done, Refused}
 use Rattle.verdict.specs.Answers.{outBy}
 use Rattle.verdict.proofs.Answers.{room-short, room-fits}
-use Rattle.judge.specs.Judgement.{LONGEST}
 use Rattle.judge.specs.Acceptance.{plain}
 use Rattle.settle.specs.Settle.{settled}
 use Rattle.settle.proofs.Settled.{settled-length}
@@ -58,7 +58,7 @@ module _ (xs : List ℕ) (i : ℕ) (new out : List ℕ) {kind k : ℕ} (e : kind
   unfolding takenAnswer
   taken-20 z = rw (← e, was-nay _ k z f)
 
-  module _ (z : k ≡ 0 → ⊥) {r : ℕ} (g : r ≡ recordRule kind MOST new) where
+  module _ (z : k ≡ 0 → ⊥) {r : ℕ} (g : r ≡ recordRule kind FRAMES new) where
     pub taken-21 : (r ≡ 1 → ⊥) → Refused 21 0 ≡ takenAnswer xs i new out
     unfolding takenAnswer
     taken-21 h = rw (← e, was-yea _ k z f) (eq-nay _ _ _ _ _ (λ y. h (g ∙ y)) refl)

@@ -18,10 +18,10 @@ use Rattle.boxes.specs.Containers.{FILE, DEPTH}
 use Rattle.boxes.specs.Seek.{find, Cut}
 use Rattle.boxes.specs.Rewrite.{editIn}
 use Rattle.boxes.specs.Words.{moved, rewordLeaf}
+use Rattle.entries.specs.Entries.{FRAMES}
 use Rattle.heads.specs.Kinds.{handlerOf}
 use Rattle.heads.specs.Heads.{AUDIO, VISUAL, COMMON, headSize}
 use Rattle.entries.specs.Decoders.{recordRule}
-use Rattle.descriptions.specs.Ten.{MOST}
 use Rattle.movie.specs.declared.entry.Spot.{Spot}
 use Rattle.movie.specs.declared.entry.Spot.the-variants.{In, Past}
 use Rattle.movie.specs.Movie.{movie}
@@ -59,10 +59,10 @@ module _ (xs : List ℕ) (i : ℕ) (new : List ℕ) {moov : List ℕ} (e : moov 
       let u : In t n ≡ spotIn 0 (movie xs) (i - 1) = sym f ∙ q ∙ ap (λ (m : List ℕ). spotIn 0 (boxes m) (i - 1)) e in
       rw (← u, ← g, ← h)
 
-  pub spot-none : r ≡ Past → {kind : ℕ} → kind ≡ kindAt xs i → recordRule kind MOST new ≡ 1 → ⊥
+  pub spot-none : r ≡ Past → {kind : ℕ} → kind ≡ kindAt xs i → recordRule kind FRAMES new ≡ 1 → ⊥
   spot-none f {kind} g h =
       let m : length (entries xs) ≤ i - 1 = named-none xs (i - 1) _ (spot-past xs e (i - 1) r s f) refl in
-      omega (arith, kind-none xs i m, record-short kind MOST new h .0)
+      omega (arith, kind-none xs i m, record-short kind FRAMES new h .0)
 
 -- ---- the head
 

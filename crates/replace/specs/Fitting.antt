@@ -4,8 +4,8 @@ use mathlib.Core.List.{List}
 use lib.ListN.{length}
 use Rattle.boxes.specs.declared.walk.BoxAt.{BoxAt}
 use Rattle.boxes.specs.declared.words.By.{By}
+use Rattle.boxes.specs.Containers.{LONGEST}
 use Rattle.movie.specs.declared.entry.Spot.the-variants.{In}
-use Rattle.judge.specs.Judgement.{LONGEST}
 use Rattle.judge.specs.Acceptance.{Meets}
 use Rattle.replace.specs.Replace.{recordAt}
 

@@ -9,22 +9,23 @@ use Rattle.wire.specs.Clauses.{isEq, isLt, every}
 use Rattle.wire.specs.Numbers.{word}
 use Rattle.wire.specs.Codes.{MOOV, TRAK, MDIA, MINF, STBL, STSD, DAMR, D263}
 use Rattle.boxes.specs.declared.way.Turn.{Turn}
-use Rattle.boxes.specs.Boxes.{HEAD}
+use Rattle.boxes.specs.Boxes.{HEAD, FRONT}
 use Rattle.boxes.specs.Seek.{ANY}
 use Rattle.boxes.specs.Way.{editWay, tailBy}
+use Rattle.boxes.specs.Containers.{LONGEST}
+use Rattle.entries.specs.Entries.{FRAMES}
 use Rattle.heads.specs.Kinds.{kindOf}
 use Rattle.heads.specs.Heads.{headSize}
 use Rattle.entries.specs.Decoders.{recordRule}
-use Rattle.descriptions.specs.Ten.{MOST}
 use Rattle.movie.specs.declared.entry.Spot.{Spot}
 use Rattle.movie.specs.declared.entry.Spot.the-variants.{In, Past}
 use Rattle.movie.specs.Movie.{movie}
-use Rattle.movie.specs.Entries.{FRONT, entries}
+use Rattle.movie.specs.Entries.{entries}
 use Rattle.movie.specs.Named.{spotIn, bytesAt}
 use Rattle.verdict.specs.declared.Answer.{Answer}
 use Rattle.verdict.specs.declared.Answer.the-variants.{Refused}
 use Rattle.verdict.specs.Answers.{inRoom, outBy}
-use Rattle.judge.specs.Judgement.{LONGEST, judged, whenAccepted}
+use Rattle.judge.specs.Judgement.{judged, whenAccepted}
 use Rattle.judge.specs.Acceptance.{plain}
 use Rattle.settle.specs.Settle.{settled}
 
@@ -76,7 +77,7 @@ settledAnswer xs new out = pick (plain xs) (roomAnswer new out) (Refused 23 0)
 unfoldable pub takenAnswer : List ℕ → ℕ → List ℕ → List ℕ → Answer
 takenAnswer xs i new out =
     pick (takes (kindAt xs i) new)
-    (ifEq (recordRule (kindAt xs i) MOST new) 1 (settledAnswer xs (replaceOf xs i new) out) (Refused 21 0))
+    (ifEq (recordRule (kindAt xs i) FRAMES new) 1 (settledAnswer xs (replaceOf xs i new) out) (Refused 21 0))
     (Refused 20 0)
 
 -- "20, 21, 23, 24, 25; all after 1 to 10"

@@ -2,9 +2,11 @@
 pub mod record;
 pub mod write;
 
+use boxes::containers;
 use boxes::seek;
 use boxes::walk;
 use entries::decoder;
+use entries::rule;
 use heads::head;
 use judge::Judgement;
 use movie::entry;
@@ -14,16 +16,13 @@ use wire::codes;
 ghost use mathlib.Core.Path.{_≡_};
 ghost use Prim.Native.Nat.{_≤_};
 ghost use lib.ListN.{length};
+ghost use Rattle.entries.specs.Entries.{FRAMES};
 ghost use Rattle.entries.specs.Decoders.{recordRule};
-ghost use Rattle.descriptions.specs.Ten.{MOST as FRAMES};
 ghost use Rattle.movie.specs.declared.entry.Spot.the-variants.{In};
 ghost use Rattle.verdict.specs.Answers.{outBy};
 ghost use Rattle.judge.specs.Acceptance.{Meets};
 ghost use Rattle.settle.specs.Settle.{settled};
 ghost use Rattle.replace.specs.Replace.{kindAt, recordAt, replaceOf, roomAnswer, settledAnswer, takenAnswer, replaceAnswer, replaceOut};
-
-// The largest frames_per_sample.
-pub const MOST: usize = 15;
 
 // Of entry n of track t, both from 0, in a file that an edit takes: 24, 25, or the result is written.
 fn replace_at(file: &[u8], t: usize, n: usize, keep: usize, new: &[u8], out: &mut [u8]) -> Answer
@@ -31,7 +30,7 @@ fn replace_at(file: &[u8], t: usize, n: usize, keep: usize, new: &[u8], out: &mu
     ensures { λ r. ⌜ (r ≡ roomAnswer (settled (now (file .entry)) (recordAt (In t n) keep (now (new .entry)) (now (file .entry)))) (now (out .entry))) × (now (out .exit) ≡ outBy r (settled (now (file .entry)) (recordAt (In t n) keep (now (new .entry)) (now (file .entry)))) (now (out .entry))) ⌝ }
 {
     let size = write::length(file, t, n, keep, new);
-    if judge::LONGEST < size {
+    if containers::LONGEST < size {
         return Answer::Refused(24, 0);
     }
     if out.len() < size {
@@ -64,7 +63,7 @@ fn replace_accepted(file: &[u8], i: usize, new: &[u8], out: &mut [u8]) -> Answer
     if record::takes(kind, new) == 0 {
         return Answer::Refused(20, 0);
     }
-    if decoder::record_rule(kind, MOST, new) != 1 {
+    if decoder::record_rule(kind, rule::FRAMES, new) != 1 {
         return Answer::Refused(21, 0);
     }
     replace_fit(file, i, kind, new, out)

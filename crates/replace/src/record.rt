@@ -9,12 +9,13 @@ ghost use Prim.Native.Nat.{_≤_, _+_};
 ghost use lib.ListN.{length, take, drop};
 ghost use Rattle.wire.specs.Clauses.{oneIf};
 ghost use Rattle.wire.specs.Numbers.{word};
+ghost use Rattle.boxes.specs.Containers.{LONGEST};
 ghost use Rattle.heads.specs.Kinds.{kindOf};
 ghost use Rattle.replace.specs.Replace.{kindAt, recordCode, takes as takesOf};
 
 // The kind of entry i, from 1, and 0 where there is no such entry.
 pub fn kind_at(file: &[u8], i: usize) -> usize
-    requires { ⌜ length (now file) ≤ 1048576 ⌝ }
+    requires { ⌜ length (now file) ≤ LONGEST ⌝ }
     ensures { λ r. ⌜ r ≡ kindAt (now (file .entry)) i ⌝ }
 {
     if i == 0 {

@@ -1,6 +1,7 @@
 // Writing a file with another decoder record: sizes follow, and so do the chunk offsets past `moov`.
 use boxes::seek;
 use boxes::seek::Seen;
+use boxes::walk;
 use boxes::walk::BoxAt;
 use boxes::way;
 use boxes::way::Turn;
@@ -13,6 +14,7 @@ ghost use lib.ListN.{length as lengthOf};
 ghost use Rattle.wire.specs.Codes.{MOOV};
 ghost use Rattle.wire.specs.Writing.{Wrote, Put};
 ghost use Rattle.boxes.specs.Seek.{Cut};
+ghost use Rattle.boxes.specs.Containers.{LONGEST};
 ghost use Rattle.movie.specs.declared.entry.Spot.the-variants.{In};
 ghost use Rattle.settle.specs.Settle.{settled};
 ghost use Rattle.replace.specs.Replace.{wayTo, recordAt};
@@ -37,7 +39,7 @@ fn way_to(t: usize, n: usize) -> [Turn; 7]
         turn(codes::STBL, 0),
         turn(codes::STSD, 0),
         Turn {
-            skip: entry::FRONT,
+            skip: walk::FRONT,
             code: seek::ANY,
             nth: n,
         },
@@ -46,7 +48,7 @@ fn way_to(t: usize, n: usize) -> [Turn; 7]
 
 // Writes a file with another record in entry n of track t, and answers its length, fit or not.
 fn put_record(out: &mut [u8], file: &[u8], t: usize, n: usize, keep: usize, new: &[u8]) -> usize
-    requires { ⌜ (lengthOf (now file) ≤ 1048576) × (lengthOf (now new) ≤ 31) ⌝ }
+    requires { ⌜ (lengthOf (now file) ≤ LONGEST) × (lengthOf (now new) ≤ 31) ⌝ }
     ensures { λ r. ⌜ Put (recordAt (In t n) keep (now (new .entry)) (now (file .entry))) (now (out .entry)) 0 r (now (out .exit)) ⌝ }
 {
     way::put_way(out, 0, file, way_to(t, n), 0, keep, new)
@@ -54,7 +56,7 @@ fn put_record(out: &mut [u8], file: &[u8], t: usize, n: usize, keep: usize, new:
 
 // The length of a file with another record.
 pub fn length(file: &[u8], t: usize, n: usize, keep: usize, new: &[u8]) -> usize
-    requires { ⌜ (lengthOf (now file) ≤ 1048576) × (lengthOf (now new) ≤ 31) ⌝ }
+    requires { ⌜ (lengthOf (now file) ≤ LONGEST) × (lengthOf (now new) ≤ 31) ⌝ }
     ensures { λ r. ⌜ r ≡ lengthOf (recordAt (In t n) keep (now (new .entry)) (now (file .entry))) ⌝ }
 {
     let mut none = [0u8; 1];

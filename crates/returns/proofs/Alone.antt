@@ -11,12 +11,12 @@ use Rattle.boxes.specs.Box.{Box, size, header}
 use Rattle.heads.specs.Kinds.{kindOf}
 use Rattle.entries.specs.declared.rule.Around.{Around}
 use Rattle.entries.specs.declared.rule.Around.the-variants.{Alone}
-use Rattle.entries.specs.Entries.{entryRule}
+use Rattle.entries.specs.Entries.{entryRule, FRAMES}
 use Rattle.entries.proofs.Judging.{rule-met, rule-is}
 use Rattle.verdict.specs.Rule.{allList}
-use Rattle.descriptions.specs.Ten.{MOST, meets, entryFine}
+use Rattle.descriptions.specs.Ten.{meets, entryFine}
 use Rattle.movie.specs.Entries.{Entry, entriesFrom}
-use Rattle.table.specs.Form.{FRAMES, allMeet}
+use Rattle.table.specs.Form.{allMeet}
 
 pub alone : (a : Around) (most : ℕ) (xs : List ℕ) → entryRule a most xs ≡ 1 → entryRule Alone most xs ≡ 1
 unfolding entryRule
@@ -31,7 +31,7 @@ unfolding allList entriesFrom allMeet meets
 from-meet a t [] p q = refl
 from-meet a t (x ∷ l) p q =
     let b = both (entryFine a x) (allList (entryFine a) true l) q in
-    rw (is-eq _ _ (alone a MOST (header x ++ x .body) (eq-is _ _ (b .0)))) (from-meet a t l (p + size x) (b .1))
+    rw (is-eq _ _ (alone a FRAMES (header x ++ x .body) (eq-is _ _ (b .0)))) (from-meet a t l (p + size x) (b .1))
 
 pub meet-append : (d e : List Entry) → allMeet d ≡ true → allMeet e ≡ true → allMeet (d ++ e) ≡ true
 unfolding allMeet

@@ -7,14 +7,14 @@ use Rattle.wire.specs.Codes.{MDIA, MINF, STBL, STSD}
 use Rattle.wire.specs.Numbers.{Bytes}
 use Rattle.wire.proofs.Numbers.{bytes-drop}
 use Rattle.boxes.specs.Box.{Box, size, header}
-use Rattle.boxes.specs.Boxes.{boxes, total}
+use Rattle.boxes.specs.Boxes.{boxes, total, FRONT}
 use Rattle.boxes.specs.Seek.{find, startIn}
 use Rattle.boxes.proofs.Whole.{Good, length-header}
 use Rattle.boxes.proofs.Reading.{All, Filled, parts}
 use Rattle.boxes.proofs.Reading.All.{none as no-box, some}
 use Rattle.boxes.proofs.Placing.{total-is}
 use Rattle.movie.specs.Movie.{mdia, minf, stbl, table}
-use Rattle.movie.specs.Entries.{Entry, FRONT, entriesStart, entriesFrom, entriesOf, entriesAfter}
+use Rattle.movie.specs.Entries.{Entry, entriesStart, entriesFrom, entriesOf, entriesAfter}
 use Rattle.movie.proofs.Lying.{Lies, bytes-lies, lies-in, lies-found}
 use Rattle.table.proofs.RoundTrip.{Small, AllSmall}
 use Rattle.table.proofs.RoundTrip.AllSmall.{none as no-entry, more}

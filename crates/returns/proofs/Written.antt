@@ -9,9 +9,9 @@ use Rattle.wire.specs.Codes.{STSD}
 use Rattle.wire.specs.Numbers.{Bytes, bytes, word}
 use Rattle.wire.proofs.Numbers.{bytes-drop, bytes-word}
 use Rattle.boxes.specs.Box.{Box, size, header, write}
-use Rattle.boxes.specs.Boxes.{HEAD, boxes, after}
+use Rattle.boxes.specs.Boxes.{HEAD, boxes, after, FRONT}
 use Rattle.boxes.proofs.Reading.{write-boxes}
-use Rattle.lists.specs.Forms.{FRONT, Listed}
+use Rattle.lists.specs.Forms.{Listed}
 use Rattle.movie.specs.Entries.{entriesFrom}
 use Rattle.movie.proofs.Boxed.{count-any, length-from}
 use Rattle.sheet.specs.Sheet.{bodies}

@@ -16,6 +16,7 @@ use Rattle.wire.proofs.Sums.{all-at}
 use Rattle.wire.proofs.Numbers.{word-left, word-drop}
 use Rattle.boxes.specs.Words.{eachWord, reword, rewordLeaf}
 use Rattle.boxes.specs.Rewrite.{editIn}
+use Rattle.boxes.specs.Containers.{LONGEST}
 use Rattle.tables.specs.Chunks.{offsetAt}
 use Rattle.verdict.specs.Rule.{Rule, allIn}
 use Rattle.settle.specs.Settle.{offsets}
@@ -70,8 +71,8 @@ module _ (f g : ℕ → ℕ) where
   unfolding agreeIn rewordLeaf ifEq
   leaf-agree k c b = go (eqb k STBL) (eqb c STCO)
     where
-      go : (s t : Bool) → pick s (pick t (agreeOn f g b) true) true ≡ true → pick s (pick t (reword f 8 1048576 b) b) b ≡ pick s (pick t (reword g 8 1048576 b) b) b
-      go true true q = reword-agree 1048576 b q
+      go : (s t : Bool) → pick s (pick t (agreeOn f g b) true) true ≡ true → pick s (pick t (reword f 8 LONGEST b) b) b ≡ pick s (pick t (reword g 8 LONGEST b) b) b
+      go true true q = reword-agree LONGEST b q
       go true false q = refl
       go false t q = refl
 

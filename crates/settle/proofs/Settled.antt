@@ -13,7 +13,7 @@ use Rattle.wire.specs.Codes.{STBL, STCO}
 use Rattle.wire.proofs.Numbers.{bytes-word, bytes-drop, bytes-take}
 use Rattle.boxes.specs.Box.{Box}
 use Rattle.boxes.specs.Boxes.{boxes}
-use Rattle.boxes.specs.Containers.{FILE, DEPTH}
+use Rattle.boxes.specs.Containers.{FILE, DEPTH, LONGEST}
 use Rattle.boxes.specs.Rewrite.{editIn}
 use Rattle.boxes.specs.Words.{eachWord, reword, rewordLeaf}
 use Rattle.boxes.specs.Kin.{All2, Leaf, Kin}
@@ -76,8 +76,8 @@ module _ (f : ℕ → ℕ) (stays : (o : ℕ) → f o ≡ o) where
   unfolding rewordLeaf ifEq
   leaf-same k c b h = by (eqb k STBL) (eqb c STCO)
     where
-      by : (s t : Bool) → pick s (pick t (reword f 8 1048576 b) b) b ≡ b
-      by true true = reword-same 8 1048576 b h
+      by : (s t : Bool) → pick s (pick t (reword f 8 LONGEST b) b) b ≡ b
+      by true true = reword-same 8 LONGEST b h
       by true false = refl
       by false t = refl
 

@@ -1,4 +1,5 @@
 // The chunk offsets of a file that was edited.
+use boxes::containers;
 use boxes::words;
 use boxes::words::By;
 use boxes::words::Target;
@@ -24,7 +25,7 @@ pub fn settle(out: &mut [u8], n: usize, by: By)
             kind: codes::STBL,
             code: codes::STCO,
             from: 8,
-            span: 1048576,
+            span: containers::LONGEST,
         },
         by,
     );

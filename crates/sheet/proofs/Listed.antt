@@ -7,11 +7,11 @@ use mathlib.Core.List.{List, []}
 use lib.ListN.{drop}
 use Rattle.wire.specs.Tests.{ifEq}
 use Rattle.wire.specs.Codes.{TRAK, MDIA, MINF, STBL, STSD}
-use Rattle.boxes.specs.Boxes.{boxes}
+use Rattle.boxes.specs.Boxes.{boxes, FRONT}
 use Rattle.boxes.specs.Containers.{parent, kindIn}
 use Rattle.boxes.specs.Seek.{ANY, count, nth, find}
 use Rattle.verdict.specs.Rule.{allIn}
-use Rattle.lists.specs.Forms.{FRONT, stored, formIn}
+use Rattle.lists.specs.Forms.{stored, formIn}
 use Rattle.lists.specs.Totals.{toStsd, follow}
 use Rattle.lists.specs.Rules.{fiveRule}
 use Rattle.lists.proofs.Forms.{form-is}

@@ -2,11 +2,12 @@
 use Prim.Native.Nat.{ℕ, _≤_}
 use mathlib.Core.List.{List}
 use lib.ListN.{length}
+use Rattle.boxes.specs.Containers.{LONGEST}
 use Rattle.movie.specs.Movie.{tracks as tracksOf}
 use Rattle.movie.specs.Entries.{entries}
 use Rattle.sheet.specs.Sheet.{SLOTS}
 
 pub record Fits (xs : List ℕ) : Type 0 where
-  pub most : length xs ≤ 1048576
+  pub most : length xs ≤ LONGEST
   pub few : length (entries xs) ≤ SLOTS
   pub tracks : tracksOf xs ≤ 4

@@ -12,6 +12,7 @@ ghost use mathlib.Core.Path.{_≡_};
 ghost use Prim.Native.Nat.{_+_, _*_, _^_, _≤_, _<_};
 ghost use lib.ListN.{length, take, drop};
 ghost use Rattle.wire.specs.Writing.{Put};
+ghost use Rattle.boxes.specs.Containers.{LONGEST};
 ghost use Rattle.verdict.specs.Answers.{inRoom, outBy};
 ghost use Rattle.movie.specs.Entries.{entries};
 ghost use Rattle.movie.specs.Named.{entryAs};
@@ -82,8 +83,8 @@ fn put_slots(out: &mut [u8], from: usize, file: &[u8], n: usize) -> usize
 
 // Writes an entry that was looked up.
 fn put_body_of(out: &mut [u8], at: usize, file: &[u8], e: EntryAt) -> usize
-    requires { ⌜ (at < 2 ^ 62) × (e .place + e .size ≤ length (now file)) × (length (now file) ≤ 1048576) ⌝ }
-    ensures { λ r. ⌜ Put (take (e .size) (drop (e .place) (now (file .entry)))) (now (out .entry)) at r (now (out .exit)) × (r ≤ at + 1048576) ⌝ }
+    requires { ⌜ (at < 2 ^ 62) × (e .place + e .size ≤ length (now file)) × (length (now file) ≤ LONGEST) ⌝ }
+    ensures { λ r. ⌜ Put (take (e .size) (drop (e .place) (now (file .entry)))) (now (out .entry)) at r (now (out .exit)) × (r ≤ at + LONGEST) ⌝ }
 {
     let from = e.place;
     let to = e.place + e.size;
@@ -93,7 +94,7 @@ fn put_body_of(out: &mut [u8], at: usize, file: &[u8], e: EntryAt) -> usize
 // Writes entry i, where there is one.
 fn put_body_at(out: &mut [u8], at: usize, file: &[u8], i: usize) -> usize
     requires { ⌜ (at < 2 ^ 62) × Fits (now file) ⌝ }
-    ensures { λ r. ⌜ Put (bodiesText (take 1 (drop i (entries (now (file .entry)))))) (now (out .entry)) at r (now (out .exit)) × (r ≤ at + 1048576) ⌝ }
+    ensures { λ r. ⌜ Put (bodiesText (take 1 (drop i (entries (now (file .entry)))))) (now (out .entry)) at r (now (out .exit)) × (r ≤ at + LONGEST) ⌝ }
 {
     match entry::entry(file, i) {
         Named::At(e) => put_body_of(out, at, file, e),
@@ -103,8 +104,8 @@ fn put_body_at(out: &mut [u8], at: usize, file: &[u8], i: usize) -> usize
 
 // Writes the first n entries.
 fn put_bodies(out: &mut [u8], from: usize, file: &[u8], n: usize) -> usize
-    requires { ⌜ (from + 1048576 * n < 2 ^ 62) × Fits (now file) ⌝ }
-    ensures { λ r. ⌜ Put (bodiesText (take n (entries (now (file .entry))))) (now (out .entry)) from r (now (out .exit)) × (r ≤ from + 1048576 * n) ⌝ }
+    requires { ⌜ (from + LONGEST * n < 2 ^ 62) × Fits (now file) ⌝ }
+    ensures { λ r. ⌜ Put (bodiesText (take n (entries (now (file .entry))))) (now (out .entry)) from r (now (out .exit)) × (r ≤ from + LONGEST * n) ⌝ }
 {
     let mut at = from;
     let mut i = 0;

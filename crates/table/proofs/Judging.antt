@@ -7,8 +7,8 @@ use Rattle.wire.specs.Numbers.{word}
 use Rattle.wire.specs.Clauses.{oneIf}
 use Rattle.wire.proofs.Clauses.{is-eq, not-eq, was-nay, was-yea}
 use Rattle.entries.specs.declared.rule.Around.the-variants.{Alone}
-use Rattle.entries.specs.Entries.{entryRule}
-use Rattle.table.specs.Form.{FRAMES, read, follows, steps, allMeet}
+use Rattle.entries.specs.Entries.{entryRule, FRAMES}
+use Rattle.table.specs.Form.{read, follows, steps, allMeet}
 use Rattle.table.proofs.Reading.{Past, past-is, read-none, read-more}
 
 -- ---- the tracks

@@ -8,14 +8,11 @@ use Rattle.wire.specs.Clauses.{isEq, isLe, every}
 use Rattle.wire.specs.Numbers.{word}
 use Rattle.wire.specs.Same.{same}
 use Rattle.entries.specs.declared.rule.Around.the-variants.{Alone}
-use Rattle.entries.specs.Entries.{entryRule}
+use Rattle.entries.specs.Entries.{FRAMES, entryRule}
 use Rattle.movie.specs.Entries.{Entry}
 use Rattle.sheet.specs.Sheet.{SLOT, bodiesAt, sheet}
 
--- the largest frames_per_sample, and "at most 4" tracks
-abbrev pub FRAMES : ℕ
-FRAMES = 15
-
+-- "at most 4" tracks
 abbrev pub TRACKS : ℕ
 TRACKS = 4
 

@@ -5,6 +5,7 @@ use lib.ListN.{length}
 use Rattle.wire.specs.Tests.{pick, ifEq, ifLt}
 use Rattle.wire.specs.Numbers.{bytes}
 use Rattle.wire.specs.Codes.{STSD}
+use Rattle.boxes.specs.Containers.{LONGEST}
 use Rattle.verdict.specs.declared.Answer.{Answer}
 use Rattle.verdict.specs.declared.Answer.the-variants.{Refused}
 use Rattle.verdict.specs.Answers.{inRoom, outBy}
@@ -28,10 +29,6 @@ table es = bytes 4 (16 + length (bodies es)) ++ bytes 4 STSD ++ bytes 4 0 ++ byt
 
 unfoldable pub tableOf : ℕ → List ℕ → ℕ → List ℕ
 tableOf k xs t = table (own t (unsheet k xs))
-
--- the longest result
-abbrev pub LONGEST : ℕ
-LONGEST = 1048576
 
 -- "30, then 20 (track 0 or above the sheet's highest), then 24, then 25"
 unfoldable pub tableAnswer : ℕ → List ℕ → ℕ → List ℕ → Answer

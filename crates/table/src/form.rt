@@ -21,10 +21,8 @@ pub const FRONT: usize = 4;
 
 pub const BODIES: usize = 100;
 
-// The most tracks, and the largest frames_per_sample.
+// The most tracks.
 const TRACKS: usize = 4;
-
-const FRAMES: usize = 15;
 
 // 1 where a slot of a track may follow one of track `last`, else 0.
 fn follows(last: usize, track: usize) -> usize
@@ -73,7 +71,7 @@ fn all_meet(slots: &[u8], bodies: &[u8], n: usize) -> usize
     if n == 0 {
         return 1;
     }
-    if rule::entry_rule(slots::body(slots, bodies), Around::Alone, FRAMES) == 1 {
+    if rule::entry_rule(slots::body(slots, bodies), Around::Alone, rule::FRAMES) == 1 {
         return all_meet(
             lend::rest(slots, slots::SLOT),
             slots::past(slots, bodies),

@@ -1,4 +1,5 @@
 // The table writer: from a sheet and a track the `stsd` box of that track.
+use boxes::containers;
 use heads::lend;
 use heads::put;
 use heads::test;
@@ -18,9 +19,6 @@ ghost use Rattle.table.specs.Table.{own, table as tableText, tableAnswer
 
 pub mod form;
 pub mod slots;
-
-// The longest result.
-const LONGEST: usize = 1048576;
 
 // How many of n slots are of a track.
 fn count_own(slots: &[u8], bodies: &[u8], n: usize, track: usize) -> usize
@@ -111,7 +109,7 @@ pub fn table(sheet: &[u8], track: usize, out: &mut [u8]) -> Answer
     }
     let mut none = [0u8; 1];
     let size = put_own(&mut none, 0, slots, bodies, n, track);
-    if LONGEST < 16 + size {
+    if containers::LONGEST < 16 + size {
         return Answer::Refused(24, 0);
     }
     if out.len() < 16 + size {

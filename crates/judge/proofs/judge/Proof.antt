@@ -1,6 +1,7 @@
 -- The invariant: no rule before rule n is broken.
 use borrow.Author.Needs.{needs}
 use Prim.Native.Nat.{_-_, _≤_}
+use Rattle.boxes.specs.Containers.{LONGEST}
 use Rattle.judge.proofs.Order.{Passed, passed-none, passed-more, passed-bad, passed-all, too-short, too-long}
 use lib.ListN.{length}
 use native.Mathlib.Omega.{arith}
@@ -8,7 +9,7 @@ use Rattle.judge.proofs.judge.Statement.{statement}
 use Rattle.judge.proofs.judge.Tie as tie
 
 abbrev Inv : tie.InvT-loop
-Inv file n₀ n = Passed file n × (length file ≤ 1048576) × (8 ≤ length file)
+Inv file n₀ n = Passed file n × (length file ≤ LONGEST) × (8 ≤ length file)
 
 abbrev μ : tie.MeasureT-loop
 μ file n₀ n = 11 - n

@@ -1,6 +1,7 @@
 -- The invariant: the first i entries are written.
 use borrow.Author.Needs.{needs}
 use Prim.Native.Nat.{_+_, _-_, _*_, _≤_}
+use Rattle.boxes.specs.Containers.{LONGEST}
 use Rattle.movie.specs.Entries.{entries}
 use Rattle.sheet.specs.Sheet.{bodies}
 use Rattle.sheet.proofs.Writing.{bodies-start, bodies-more}
@@ -12,7 +13,7 @@ use Rattle.sheet.proofs.put_bodies.Statement.{statement}
 use Rattle.sheet.proofs.put_bodies.Tie as tie
 
 abbrev Inv : tie.InvT-loop
-Inv out₀ from file n at₀ i₀ out at i = Put (bodies (take i (entries file))) out₀ from at out × (at ≤ from + 1048576 * i) × (i ≤ n)
+Inv out₀ from file n at₀ i₀ out at i = Put (bodies (take i (entries file))) out₀ from at out × (at ≤ from + LONGEST * i) × (i ≤ n)
 
 abbrev μ : tie.MeasureT-loop
 μ out₀ from file n at₀ i₀ out at i = n - i

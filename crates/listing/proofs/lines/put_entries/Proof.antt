@@ -1,6 +1,7 @@
 -- The invariant: the lines from entry i on are left.
 use borrow.Author.Needs.{needs}
 use Prim.Native.Nat.{_+_, _-_, _*_, _≤_}
+use Rattle.boxes.specs.Containers.{LONGEST}
 use Rattle.listing.specs.Listing.{entryLines}
 use Rattle.listing.specs.Rest.{Rest}
 use Rattle.listing.proofs.Listed.{entries-start, entries-more, entries-all}
@@ -12,7 +13,7 @@ use Rattle.listing.proofs.lines.put_entries.Statement.{statement}
 use Rattle.listing.proofs.lines.put_entries.Tie as tie
 
 abbrev Inv : tie.InvT-loop
-Inv out₀ from file n at₀ i₀ out at i = (n ≡ length (entries file)) × (n ≤ 1048576) × (i ≤ n) × Rest (entryLines 1 (entries file)) (entryLines (i + 1) (drop i (entries file))) out₀ from out at × (at ≤ from + 120 * i)
+Inv out₀ from file n at₀ i₀ out at i = (n ≡ length (entries file)) × (n ≤ LONGEST) × (i ≤ n) × Rest (entryLines 1 (entries file)) (entryLines (i + 1) (drop i (entries file))) out₀ from out at × (at ≤ from + 120 * i)
 
 abbrev μ : tie.MeasureT-loop
 μ out₀ from file n at₀ i₀ out at i = n - i

@@ -1,6 +1,7 @@
 -- The invariant: the lines of the first t tracks are written.
 use borrow.Author.Needs.{needs}
 use Prim.Native.Nat.{_+_, _-_, _*_, _≤_}
+use Rattle.boxes.specs.Containers.{LONGEST}
 use Rattle.listing.specs.Listing.{trackLines}
 use Rattle.listing.proofs.Listed.{track-read, tracks-none, tracks-more}
 use Rattle.movie.specs.Movie.{tracks}
@@ -11,7 +12,7 @@ use Rattle.listing.proofs.lines.put_tracks.Statement.{statement}
 use Rattle.listing.proofs.lines.put_tracks.Tie as tie
 
 abbrev Inv : tie.InvT-loop
-Inv out₀ from file n at₀ t₀ out at t = (n ≡ tracks file) × (n ≤ 1048576) × (t ≤ n) × Put (trackLines file t) out₀ from at out × (at ≤ from + 100 * t)
+Inv out₀ from file n at₀ t₀ out at t = (n ≡ tracks file) × (n ≤ LONGEST) × (t ≤ n) × Put (trackLines file t) out₀ from at out × (at ≤ from + 100 * t)
 
 abbrev μ : tie.MeasureT-loop
 μ out₀ from file n at₀ t₀ out at t = n - t

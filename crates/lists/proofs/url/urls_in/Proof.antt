@@ -1,5 +1,5 @@
 use borrow.Author.Needs.{needs}
-use Rattle.lists.specs.Forms.{FRONT}
+use Rattle.boxes.specs.Boxes.{FRONT}
 use Rattle.wire.proofs.Tests.{eq-yea, eq-nay}
 use lib.ListN.{length, length-drop}
 use mathlib.Core.Path.{refl, ap, _∙_}
