@@ -1,60 +1,22 @@
 -- Laws of `Kin`. Assumes nothing.
-use Prim.Native.Nat.{ℕ, zero, suc, _+_, _≤_, _<_}
-use native.Mathlib.Omega.{arith}
+use Prim.Native.Nat.{ℕ, zero, suc, _<_}
 use mathlib.Core.Path.{_≡_, refl, sym, ap, subst, _∙_}
-use mathlib.Core.Bool.{Bool, true, false}
-use mathlib.Core.List.{List, [], _∷_, map}
-use lib.Dec.{eqb}
+use mathlib.Core.List.{List, [], map}
 use lib.ListN.{length}
-use borrow.Author.Tests.{eqb-false}
-use Rattle.wire.specs.Tests.{pick, ifEq}
 use Rattle.wire.specs.Numbers.{Bytes}
-use Rattle.boxes.specs.Box.{Box, write}
-use Rattle.boxes.specs.Boxes.{boxes, after}
+use Rattle.boxes.specs.Box.{Box}
+use Rattle.boxes.specs.Boxes.{boxes}
 use Rattle.boxes.specs.Containers.{kindIn}
-use Rattle.boxes.specs.Seek.{ANY, meant, count, byNumber, nth}
-use Rattle.boxes.specs.Rewrite.{Bodies, Leaves, over, overBoxes, editBox, editIn}
-use Rattle.boxes.specs.Kin.{All2, Leaf, KinBox, Kin}
-use Rattle.boxes.specs.Kin.All2.{nil, cons}
-use Rattle.boxes.proofs.Seeking.{meant-most, meant-is}
-use Rattle.boxes.proofs.Reading.{All, Filled, parts, length-cons}
-use Rattle.boxes.proofs.Reading.All.{none, some}
+use Rattle.boxes.specs.Seek.{ANY, count, nth}
+use Rattle.boxes.specs.Rewrite.{Bodies, Leaves, over, editBox, editIn}
+use Rattle.boxes.specs.Kin.{Leaf, KinBox, Kin}
+use Rattle.boxes.proofs.Reading.{parts}
 use Rattle.boxes.proofs.Rewriting.{boxes-over, after-over, small}
+use Rattle.boxes.proofs.Pairs.{all2-refl, all2-less, all2-then, all2-codes, all2-count, all2-nth, all2-over}
 use Rattle.boxes.proofs.Editing.{edit-leaf, edit-node}
+use Rattle.boxes.proofs.Meaning.{meant-is}
 
--- ---- lists of boxes
-
-pub all2-refl : {R : Box → Box → Type 0} → ((x : Box) → R x x) → (l : List Box) → All2 R l l
-all2-refl h [] = nil
-all2-refl h (x ∷ l) = cons (h x) (all2-refl h l)
-
-all2-then : {R S T : Box → Box → Type 0} → ((x y z : Box) → R x y → S y z → T x z) → {l m n : List Box} → All2 R l m → All2 S m n → All2 T l n
-all2-then h nil nil = nil
-all2-then h (cons {x} {y} r a) (cons {y = z} s b) = cons (h x y z r s) (all2-then h a b)
-
-all2-codes : {R : Box → Box → Type 0} → ((x y : Box) → R x y → x .code ≡ y .code) → {l m : List Box} → All2 R l m → map (λ x. x .code) l ≡ map (λ x. x .code) m
-all2-codes h nil = refl
-all2-codes h (cons {x} {y} r a) = rw (h x y r, all2-codes h a)
-
-all2-count : {R : Box → Box → Type 0} → ((x y : Box) → R x y → x .code ≡ y .code) → (c : ℕ) {l m : List Box} → All2 R l m → count c l ≡ count c m
-unfolding count
-all2-count h c nil = refl
-all2-count h c (cons {x} {y} r a) = rw (h x y r, all2-count h c a)
-
--- what relates nothing to nothing, and the bodies of related boxes that c means, relates what is found
-module _ {R : Box → Box → Type 0} (c : ℕ) (P : List ℕ → List ℕ → Type 0) (codes : (x y : Box) → R x y → x .code ≡ y .code) (empty : P [] []) (hits : (x y : Box) → R x y → meant c (x .code) ≡ 1 → P (x .body) (y .body)) where
-  all2-nth : (n : ℕ) {l m : List Box} → All2 R l m → P (nth c n l) (nth c n m)
-  unfolding nth ifEq
-  all2-nth n nil = empty
-  all2-nth n (cons {x} {y} {l} {m} r a) = rw (← codes x y r) (go (eqb (meant c (x .code)) 0) refl n (λ i. all2-nth i a))
-    where
-      go : (t : Bool) → eqb (meant c (x .code)) 0 ≡ t → (n : ℕ) → ((i : ℕ) → P (nth c i l) (nth c i m))
-          → P (pick t (nth c n l) (byNumber n (x .body) (λ i. nth c i l))) (pick t (nth c n m) (byNumber n (y .body) (λ i. nth c i m)))
-      go true e n ih = ih n
-      go false e zero ih = hits x y r (omega (arith, eqb-false (meant c (x .code)) 0 e, meant-most c (x .code)))
-      go false e (suc n) ih = ih n
-
--- ---- identity and composition
+-- ---- identity, composition, and less
 
 pub kin-refl : (G : Leaf) → ((k c : ℕ) (b : List ℕ) → G k c b b) → (d k : ℕ) (xs : List ℕ) → Kin G d k xs xs
 kin-refl G h zero k xs = refl
@@ -78,6 +40,20 @@ module _ (G H : Leaf) where
     e ∙ f,
   )
 
+module _ (G H : Leaf) (h : (k c : ℕ) (b b′ : List ℕ) → G k c b b′ → H k c b b′) where
+  -- where G says at least what H does
+  pub kin-less : (d k : ℕ) (xs ys : List ℕ) → Kin G d k xs ys → Kin H d k xs ys
+  kin-less zero k xs ys e = e
+  kin-less (suc d) k xs ys (a, e) = (
+    all2-less (λ x y r. record {
+      head = r .head;
+      code = r .code;
+      leaf = λ z. h k (x .code) (x .body) (y .body) (r .leaf z);
+      node = λ z. kin-less d (kindIn k (x .code)) (x .body) (y .body) (r .node z);
+    }) a,
+    e,
+  )
+
 -- ---- what a container sees of the boxes in it
 
 module _ (G : Leaf) (d k : ℕ) (xs ys : List ℕ) (a : Kin G (suc d) k xs ys) where
@@ -97,13 +73,6 @@ module _ (G : Leaf) (d k : ℕ) (xs ys : List ℕ) (a : Kin G (suc d) k xs ys) w
     kin-child o h n = all2-nth c P (λ x y r. r .code) empty (λ x y r e. let q = meant-is c (x .code) z e in h (x .body) (y .body) (subst (λ (i : ℕ). Kin G d (kindIn k i) (x .body) (y .body)) q (r .node (λ w. o (ap (kindIn k) (sym q) ∙ w))))) n (a .0)
 
 -- ---- an edit of opaque boxes is kin to what it was made of
-
-all2-over : (f : Bodies) (R : Box → Box → Type 0) → ((x : Box) → Bytes (x .body) → length (f (x .code) (x .body)) < 4294967296 → R x (over f x))
-    → {l : List Box} → All Filled l → length (write (map (over f) l)) < 4294967296 → All2 R l (map (over f) l)
-all2-over f R h none s = nil
-all2-over f R h (some {x} {l} w a) s =
-    let n = length-cons (over f x) (map (over f) l) in
-    cons (h x w (omega arith)) (all2-over f R h a (omega arith))
 
 module _ (g : Leaves) where
   -- an opaque box by g, of a body of bytes

@@ -1,71 +1,25 @@
 -- Laws of rewriting one box by the way to it. Assumes nothing.
-use Prim.Native.Nat.{ℕ, zero, suc, _+_, _-_, _≤_, _<_}
+use Prim.Native.Nat.{ℕ, _+_, _-_, _≤_, _<_}
 use native.Mathlib.Omega.{arith}
 use native.Mathlib.Numerals.{add-one}
-use mathlib.Core.Path.{_≡_, refl, sym, ap, _∙_}
-use mathlib.Core.Bool.{Bool, true, false}
+use mathlib.Core.Path.{_≡_, sym, ap, _∙_}
 use mathlib.Core.List.{List, [], _∷_, _++_, append-assoc}
-use lib.Dec.{eqb}
-use lib.ListN.{length, getD, take, drop, length-append, length-take, length-drop, take-append-drop, drop-of-length-le}
+use lib.ListN.{length, getD, take, drop, length-append, length-take, length-drop, drop-of-length-le}
 use lib.Seq.{drop-cons}
-use borrow.Author.Tests.{eqb-true, eqb-false}
-use Rattle.wire.specs.Tests.{pick, ifEq}
 use Rattle.wire.specs.Numbers.{Bytes, bytes}
-use Rattle.wire.specs.Writing.{put, Put}
-use Rattle.wire.proofs.Numbers.{length-bytes}
+use Rattle.wire.specs.Writing.{Put}
 use Rattle.wire.proofs.Writing.{put-before}
 use Rattle.boxes.specs.declared.walk.BoxAt.{BoxAt}
 use Rattle.boxes.specs.declared.way.Turn.{Turn}
-use Rattle.boxes.specs.Box.{Box, size, header, write, remade}
+use Rattle.boxes.specs.Box.{Box, size, header, remade}
 use Rattle.boxes.specs.Boxes.{HEAD, boxes, after}
 use Rattle.boxes.specs.Walk.{payload, boxAt}
-use Rattle.boxes.specs.Seek.{meant, count, byNumber, Cut}
-use Rattle.boxes.specs.Way.{nthBy, overNth, overTurn, editWay, tailBy, boxBy, around, Under}
+use Rattle.boxes.specs.Seek.{count, Cut}
+use Rattle.boxes.specs.Way.{overNth, overTurn, editWay, tailBy, boxBy, around, Under}
 use Rattle.boxes.proofs.Whole.{length-header}
-use Rattle.boxes.proofs.Reading.{write-cons, write-append, write-boxes, length-cons, lengths}
-use Rattle.boxes.proofs.Seeking.{meant-most}
-
--- ---- the n-th box of a list
-
-module _ (c : ℕ) (f : List ℕ → List ℕ) where
-  nth-by : (n : ℕ) (p : List Box) (x : Box) (q : List Box) → count c p ≡ n → meant c (x .code) ≡ 1 → nthBy c n f (p ++ x ∷ q) ≡ p ++ remade x (f (x .body)) ∷ q
-  unfolding nthBy count ifEq
-  nth-by n [] x q e h = rw (h, ← e)
-  nth-by n (y ∷ p) x q e h = go (eqb (meant c (y .code)) 0) refl n e (λ m k. nth-by m p x q k h)
-    where
-      go : (t : Bool) → eqb (meant c (y .code)) 0 ≡ t → (n : ℕ) → meant c (y .code) + count c p ≡ n → ((m : ℕ) → count c p ≡ m → nthBy c m f (p ++ x ∷ q) ≡ p ++ remade x (f (x .body)) ∷ q)
-          → pick t (y ∷ nthBy c n f (p ++ x ∷ q)) (byNumber n (remade y (f (y .body)) ∷ (p ++ x ∷ q)) (λ m. y ∷ nthBy c m f (p ++ x ∷ q))) ≡ y ∷ (p ++ remade x (f (x .body)) ∷ q)
-      go true r n e ih = ap (λ (l : List Box). y ∷ l) (ih n (omega (arith, eqb-true (meant c (y .code)) 0 r)))
-      go false r zero e ih = absurd (eqb-false (meant c (y .code)) 0 r (omega arith))
-      go false r (suc n) e ih = ap (λ (l : List Box). y ∷ l) (ih n (omega (arith, eqb-false (meant c (y .code)) 0 r, meant-most c (y .code))))
-
-  nth-by-none : (n : ℕ) (l : List Box) → count c l ≤ n → nthBy c n f l ≡ l
-  unfolding nthBy count ifEq
-  nth-by-none n [] h = refl
-  nth-by-none n (y ∷ l) h = go (eqb (meant c (y .code)) 0) refl n h (λ m. nth-by-none m l)
-    where
-      go : (t : Bool) → eqb (meant c (y .code)) 0 ≡ t → (n : ℕ) → meant c (y .code) + count c l ≤ n → ((m : ℕ) → count c l ≤ m → nthBy c m f l ≡ l)
-          → pick t (y ∷ nthBy c n f l) (byNumber n (remade y (f (y .body)) ∷ l) (λ m. y ∷ nthBy c m f l)) ≡ y ∷ l
-      go true r n h ih = ap (λ (l : List Box). y ∷ l) (ih n (omega arith))
-      go false r zero h ih = absurd (eqb-false (meant c (y .code)) 0 r (omega arith))
-      go false r (suc n) h ih = ap (λ (l : List Box). y ∷ l) (ih n (omega (arith, eqb-false (meant c (y .code)) 0 r)))
-
-  -- what grows by at most m in a body grows by at most m in all
-  module _ (m : ℕ) (g : (b : List ℕ) → length (f b) ≤ length b + m) where
-    nth-by-length : (n : ℕ) (l : List Box) → length (write (nthBy c n f l)) ≤ length (write l) + m
-    unfolding nthBy ifEq
-    nth-by-length n [] = omega arith
-    nth-by-length n (y ∷ l) = go (eqb (meant c (y .code)) 0) n (λ i. nth-by-length i l)
-      where
-        go : (t : Bool) (n : ℕ) → ((i : ℕ) → length (write (nthBy c i f l)) ≤ length (write l) + m)
-            → length (write (pick t (y ∷ nthBy c n f l) (byNumber n (remade y (f (y .body)) ∷ l) (λ i. y ∷ nthBy c i f l)))) ≤ length (write (y ∷ l)) + m
-        go true n ih = omega (arith, length-cons y (nthBy c n f l), length-cons y l, ih n)
-        go false zero ih = omega (arith, length-cons (remade y (f (y .body))) l, length-cons y l, g (y .body))
-        go false (suc n) ih = omega (arith, length-cons y (nthBy c n f l), length-cons y l, ih n)
-
-    over-nth-length : (n : ℕ) (xs : List ℕ) → length (overNth c n f xs) ≤ length xs + m
-    unfolding overNth
-    over-nth-length n xs = omega (arith, length-append (write (nthBy c n f (boxes xs))) (after xs), nth-by-length n (boxes xs), lengths xs)
+use Rattle.boxes.proofs.OneOfList.{nth-by, nth-by-none}
+use Rattle.boxes.proofs.OneOfPart.{over-nth-length}
+use Rattle.boxes.proofs.Reading.{write-cons, write-append, write-boxes}
 
 -- ---- of a part, as a search cuts it
 
@@ -105,7 +59,7 @@ pub way-length : (way : List Turn) (n : ℕ) (new xs : List ℕ) → length (edi
 unfolding editWay overTurn
 way-length [] n new xs = rw (length-append, length-take) (omega arith)
 way-length (t ∷ way) n new xs =
-    let d = over-nth-length (t .code) (editWay way (tailBy n new)) (length new) (way-length way n new) (t .nth) (drop (t .skip) xs) in
+    let d = over-nth-length (t .code) (t .nth) (editWay way (tailBy n new)) (drop (t .skip) xs) (length new) (way-length way n new) in
     rw (length-append, length-take) (omega (arith, d, length-drop (t .skip) xs))
 
 -- ---- a body first, and then its header

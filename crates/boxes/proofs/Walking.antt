@@ -3,9 +3,9 @@ use Prim.Native.Nat.{ℕ, _+_, _-_, _≤_, _<_}
 use native.Mathlib.Omega.{arith}
 use mathlib.Core.Path.{_≡_, refl, sym, ap, subst, _∙_}
 use mathlib.Core.Bool.{Bool, true, false}
-use mathlib.Core.List.{List, [], _∷_}
+use mathlib.Core.List.{List}
 use lib.Dec.{ltb, leb}
-use lib.ListN.{length, take, drop, length-drop}
+use lib.ListN.{length, drop, length-drop}
 use lib.Seq.{drop-drop}
 use borrow.Author.Tests.{ltb-true, ltb-false, leb-true, leb-false}
 use Rattle.wire.specs.Tests.{pick, ifLt, ifLe}
@@ -16,8 +16,8 @@ use Rattle.boxes.specs.declared.walk.Walk.{Walk}
 use Rattle.boxes.specs.declared.walk.BoxAt.{BoxAt}
 use Rattle.boxes.specs.declared.walk.Step.{Step}
 use Rattle.boxes.specs.declared.walk.Step.the-variants.{Found, End, Broken}
-use Rattle.boxes.specs.Boxes.{HEAD, sizeOf, whole, boxes, after}
-use Rattle.boxes.specs.Walk.{stepAt, boxAt, Ran, Over, Stepped}
+use Rattle.boxes.specs.Boxes.{HEAD, sizeOf, whole}
+use Rattle.boxes.specs.Walk.{stepAt, Ran, Over, Stepped}
 use Rattle.boxes.proofs.Whole.{whole-of, small-not, long-not, short-not}
 use Rattle.boxes.proofs.Reading.{boxes-next, boxes-stop, after-next, after-stop}
 

@@ -1,5 +1,5 @@
 -- Laws of the brands' conditions. Assumes nothing.
-use Prim.Native.Nat.{ℕ, _+_, _≤_}
+use Prim.Native.Nat.{ℕ, _≤_}
 use native.Mathlib.Omega.{arith}
 use mathlib.Core.Path.{_≡_, refl, _∙_}
 use mathlib.Core.Bool.{Bool, true, false}
@@ -11,7 +11,7 @@ use Rattle.wire.proofs.Clauses.{is-lt, not-lt}
 use Rattle.boxes.specs.Box.{Box}
 use Rattle.boxes.specs.Boxes.{boxes}
 use Rattle.boxes.specs.Seek.{ANY, count}
-use Rattle.boxes.proofs.Seeking.{meant-any}
+use Rattle.boxes.proofs.Numbered.{count-any}
 use Rattle.movie.specs.Movie.{table}
 use Rattle.movie.specs.Named.{listIn}
 use Rattle.brands.specs.Brands.{times, listed, oneEntry, plain, second, ready}
@@ -52,21 +52,17 @@ plain-is b f g e = e ∙ rw (g, f)
 
 -- ---- the second box
 
-count-any : (l : List Box) (x : Box) → count ANY (x ∷ l) ≡ 1 + count ANY l
-unfolding count
-count-any l x = rw (← meant-any ANY (x .code) refl)
-
 pub second-is : (l p : List Box) (x : Box) (q : List Box) → l ≡ p ++ x ∷ q → count ANY p ≡ 1 → x .code ≡ second l
 unfolding second count
 second-is l [] x q e h = absurd (omega arith)
 second-is l (y ∷ []) x q e h = rw e
-second-is l (y ∷ z ∷ p) x q e h = absurd (omega (arith, count-any (z ∷ p) y, count-any p z))
+second-is l (y ∷ z ∷ p) x q e h = absurd (omega (arith, count-any (y ∷ z ∷ p)))
 
 pub second-none : (l : List Box) → count ANY l ≤ 1 → 0 ≡ second l
 unfolding second
 second-none [] h = refl
 second-none (x ∷ []) h = refl
-second-none (x ∷ y ∷ l) h = absurd (omega (arith, count-any (y ∷ l) x, count-any l y))
+second-none (x ∷ y ∷ l) h = absurd (omega (arith, count-any (x ∷ y ∷ l)))
 
 pub ready-is : (xs : List ℕ) {n r : ℕ} → n ≡ second (boxes xs) → r ≡ oneIf (isEq n MOOV) → r ≡ oneIf (ready xs)
 unfolding ready

@@ -1,9 +1,6 @@
-pub mod Less
 pub mod Bodies
 pub mod Moving
 pub mod Timing
-pub mod Finding
-pub mod Ways
 pub mod Tracking
 pub mod Replacing
 pub mod OneTrack

@@ -11,7 +11,7 @@ use Rattle.boxes.specs.Boxes.{boxes}
 use Rattle.boxes.specs.Containers.{FILE, DEPTH, LONGEST}
 use Rattle.boxes.specs.Words.{rewordLeaf}
 use Rattle.boxes.specs.Kin.{Kin}
-use Rattle.boxes.proofs.Kin.{Made, kin-edit}
+use Rattle.boxes.proofs.Kin.{Made, kin-edit, kin-less}
 use Rattle.boxes.proofs.Wording.{leaf-hit, leaf-code, leaf-kind}
 use Rattle.media.specs.Relocate.{relocate}
 use Rattle.judge.specs.Acceptance.{Meets}
@@ -23,7 +23,6 @@ use Rattle.moving.specs.Moving.{moovSecond, moveOf}
 use Rattle.keeping.proofs.Arranging.{arranged-boxes, arranged-bytes, arranged-length}
 use Rattle.keeping.proofs.Second.{second}
 use Rattle.differs.specs.Differs.{Offsets, OnlyOffsets}
-use Rattle.differs.proofs.Less.{kin-less}
 use Rattle.differs.proofs.Bodies.{but-tail}
 
 -- ---- chunk offsets by any function

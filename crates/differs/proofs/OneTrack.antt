@@ -1,5 +1,5 @@
 -- A replacement changes the record in the track of the entry, and in no other track. Assumes nothing.
-use Prim.Native.Nat.{ℕ, _-_, _≤_, _<_}
+use Prim.Native.Nat.{ℕ, _≤_, _<_}
 use native.Mathlib.Omega.{arith}
 use mathlib.Core.Path.{_≡_, refl, sym, ap, _∙_}
 use mathlib.Core.List.{List, _∷_}
@@ -11,19 +11,18 @@ use Rattle.boxes.specs.Containers.{FILE, DEPTH}
 use Rattle.boxes.specs.Seek.{count, nth, find}
 use Rattle.boxes.specs.Kin.{Kin}
 use Rattle.boxes.specs.Way.{overNth, overTurn, editWay, tailBy}
-use Rattle.boxes.proofs.Placing.{found-short}
 use Rattle.boxes.proofs.Turning.{nth-missing}
+use Rattle.boxes.proofs.Numbered.{found-short}
+use Rattle.boxes.proofs.Lying.{bytes-lies, lies-found}
+use Rattle.boxes.proofs.Down.{endOf, end-by}
+use Rattle.boxes.proofs.OneOfPart.{nth-here, nth-other}
 use Rattle.media.proofs.Payloads.{either}
 use Rattle.movie.specs.declared.entry.Spot.the-variants.{In}
 use Rattle.movie.specs.Movie.{track, table}
-use Rattle.movie.proofs.Lying.{bytes-lies, lies-found}
 use Rattle.settle.specs.Settle.{settled}
 use Rattle.replace.specs.Replace.{turn, recordAt}
-use Rattle.replace.proofs.Kinship.{endOf}
 use Rattle.replace.proofs.Changing.{toStsd, toEntry, down-stsd}
 use Rattle.differs.specs.Differs.{TRACK, OnlyOffsets, withRecord}
-use Rattle.differs.proofs.Finding.{nth-here, nth-other}
-use Rattle.differs.proofs.Ways.{end-by}
 use Rattle.differs.proofs.Replacing.{follows}
 use Rattle.differs.proofs.Tracking.{track-kin, offsets-refl, same-stsd}
 

@@ -1,5 +1,5 @@
 -- A replacement: only one record and chunk offsets differ. Assumes nothing.
-use Prim.Native.Nat.{ℕ, _-_, _<_}
+use Prim.Native.Nat.{ℕ, _<_}
 use native.Mathlib.Omega.{arith}
 use mathlib.Core.Path.{sym, ap, _∙_}
 use mathlib.Core.List.{List}
@@ -10,14 +10,13 @@ use Rattle.wire.specs.Codes.{STBL, STSD}
 use Rattle.boxes.specs.Containers.{FILE, DEPTH}
 use Rattle.boxes.specs.Kin.{Kin}
 use Rattle.boxes.specs.Way.{editWay}
-use Rattle.boxes.proofs.Kin.{Then, kin-then}
+use Rattle.boxes.proofs.Kin.{Then, kin-then, kin-less}
+use Rattle.boxes.proofs.Down.{Once, endOf}
 use Rattle.movie.specs.declared.entry.Spot.the-variants.{In}
 use Rattle.settle.specs.Settle.{settled}
 use Rattle.replace.specs.Replace.{recordAt}
-use Rattle.replace.proofs.Kinship.{Once, endOf}
 use Rattle.replace.proofs.Changing.{toStsd, record-bytes, record-kin}
 use Rattle.differs.specs.Differs.{OnlyOffsets, withRecord, OnlyRecord}
-use Rattle.differs.proofs.Less.{kin-less}
 use Rattle.differs.proofs.Moving.{settled-differs}
 
 -- one `stsd` has another record, and then chunk offsets follow

@@ -11,7 +11,7 @@ use Rattle.wire.specs.Numbers.{Bytes}
 use Rattle.boxes.specs.Containers.{FILE, DEPTH}
 use Rattle.boxes.specs.Words.{moved, rewordLeaf}
 use Rattle.boxes.specs.Kin.{Kin}
-use Rattle.boxes.proofs.Kin.{Then, Made, kin-edit, kin-then}
+use Rattle.boxes.proofs.Kin.{Then, Made, kin-edit, kin-then, kin-less}
 use Rattle.boxes.proofs.Wording.{leaf-hit, leaf-code, leaf-kind}
 use Rattle.clocks.specs.Clocks.{zoneOf}
 use Rattle.judge.specs.Acceptance.{Meets}
@@ -21,7 +21,6 @@ use Rattle.shift.specs.Amount.{byZone, zoneText}
 use Rattle.shift.proofs.Passing.{times-length, times-bytes}
 use Rattle.shift.proofs.Meaning.{shift-text}
 use Rattle.differs.specs.Differs.{Timed, OnlyTimes}
-use Rattle.differs.proofs.Less.{kin-less}
 use Rattle.differs.proofs.Bodies.{but-refl, but-then, but-reword}
 
 -- one after the other

@@ -71,7 +71,7 @@ unfolding d263Rule
 d263-short ys e = ⊎-elim (λ w. omega (arith, w .0)) (λ w. let d = eq-met _ _ _ (w .1) in omega (arith, d .0)) (eq-ways _ _ _ _ _ (eq-met _ _ _ e .1))
 
 -- the kinds that have one, and how long it is at most
-record-kinds : (kind most : ℕ) (ys : List ℕ) → recordRule kind most ys ≡ 1 → (Spoken kind ⊎ (kind ≡ 5)) × (length ys ≤ 31)
+pub record-kinds : (kind most : ℕ) (ys : List ℕ) → recordRule kind most ys ≡ 1 → (Spoken kind ⊎ (kind ≡ 5)) × (length ys ≤ 31)
 unfolding recordRule
 record-kinds kind most ys e =
     ⊎-elim (λ w. (inl (inl (w .0)), damr-short kind most ys (w .1)))

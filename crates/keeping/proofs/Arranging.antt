@@ -1,9 +1,9 @@
 -- Laws of a file whose boxes were put in an order. Assumes nothing.
 use Prim.Native.Nat.{ℕ, suc, _<_}
 use native.Mathlib.Omega.{arith}
-use mathlib.Core.Path.{_≡_, refl, sym, ap, _∙_}
+use mathlib.Core.Path.{_≡_, sym, ap, _∙_}
 use mathlib.Core.Bool.{true, false}
-use mathlib.Core.List.{List, [], _∷_, map, append-nil}
+use mathlib.Core.List.{List, [], map, append-nil}
 use lib.ListN.{length}
 use Rattle.wire.specs.Numbers.{Bytes}
 use Rattle.wire.proofs.Tests.{both}
@@ -11,19 +11,14 @@ use Rattle.boxes.specs.Box.{Box, write}
 use Rattle.boxes.specs.Boxes.{whole, boxes, after}
 use Rattle.boxes.specs.Rewrite.{Bodies, Leaves, over, editBox, editIn}
 use Rattle.boxes.specs.Kin.{All2}
-use Rattle.boxes.specs.Kin.All2.{nil, cons}
 use Rattle.boxes.proofs.Whole.{Good, short-not}
 use Rattle.boxes.proofs.Reading.{All, parts, lengths, boxes-write, after-write}
 use Rattle.boxes.proofs.Rewriting.{open-over, boxes-over, length-over, bytes-write}
 use Rattle.boxes.proofs.Editing.{box-length}
 use Rattle.media.specs.Relocate.{Alike}
+use Rattle.media.proofs.Staying.{alike-over}
 use Rattle.verdict.specs.Rule.{Rule, allIn}
 use Rattle.keeping.proofs.Arranges.{Arranges}
-
--- bodies of the same length leave the layout
-alike-over : (f : Bodies) → ((c : ℕ) (b : List ℕ) → length (f c b) ≡ length b) → (l : List Box) → All2 Alike l (map (over f) l)
-alike-over f h [] = nil
-alike-over f h (x ∷ l) = cons (record { head = refl; code = refl; long = sym (h (x .code) (x .body)) }) (alike-over f h l)
 
 -- ---- a file that boxes tile, in the order A
 

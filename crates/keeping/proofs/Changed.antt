@@ -15,7 +15,7 @@ use Rattle.boxes.specs.Boxes.{HEAD, boxes, after, FRONT}
 use Rattle.boxes.specs.Seek.{ANY, count}
 use Rattle.boxes.specs.Way.{tailBy}
 use Rattle.boxes.proofs.Whole.{Good}
-use Rattle.boxes.proofs.Seeking.{count-append}
+use Rattle.boxes.proofs.Numbered.{count-append}
 use Rattle.entries.specs.Entries.{FRAMES}
 use Rattle.heads.specs.Kinds.{kindOf}
 use Rattle.heads.specs.Heads.{headSize}

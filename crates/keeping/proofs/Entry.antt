@@ -4,7 +4,7 @@ use native.Mathlib.Omega.{arith}
 use mathlib.Core.Path.{_≡_, ap, _∙_}
 use mathlib.Core.Bool.{true}
 use mathlib.Core.List.{List, _++_, append-assoc}
-use mathlib.Core.Logic.{_⊎_, inl, inr, ⊎-elim}
+use mathlib.Core.Logic.{_⊎_, ⊎-elim}
 use lib.ListN.{length, take, drop, length-append}
 use lib.Seq.{drop-at, length-take-le}
 use Rattle.wire.specs.Numbers.{bytes, word}
@@ -17,22 +17,14 @@ use Rattle.boxes.specs.Way.{tailBy}
 use Rattle.boxes.proofs.Whole.{Good, length-header}
 use Rattle.heads.specs.Kinds.{kindOf}
 use Rattle.heads.specs.Heads.{headSize}
-use Rattle.heads.proofs.Meeting.{eq-ways, eq-met}
 use Rattle.heads.proofs.Heading.{audio-size, visual-size}
 use Rattle.entries.specs.declared.rule.Around.{Around}
 use Rattle.entries.specs.Decoders.{recordRule}
 use Rattle.entries.specs.Entries.{entryRule, replaced, FRAMES}
 use Rattle.entries.proofs.Speech.{Spoken, soun, speech-met}
 use Rattle.entries.proofs.Picture.{vide, picture-met}
-use Rattle.entries.proofs.Kept.{entry-kept}
+use Rattle.entries.proofs.Kept.{record-kinds, entry-kept}
 use Rattle.descriptions.specs.Ten.{meets, entryFine}
-
--- the kinds that have a record
-record-kinds : (kind most : ℕ) (ys : List ℕ) → recordRule kind most ys ≡ 1 → Spoken kind ⊎ (kind ≡ 5)
-unfolding recordRule
-record-kinds kind most ys e =
-    ⊎-elim (λ w. inl (inl (w .0))) (λ u. ⊎-elim (λ w. inl (inr (w .0))) (λ v. inr (eq-met _ _ _ (v .1) .0)) (eq-ways _ _ _ _ _ (u .1)))
-    (eq-ways _ _ _ _ _ e)
 
 -- its head lies inside an entry that meets its rule
 head-inside : (around : Around) (most kind : ℕ) (xs : List ℕ) → kindOf (word 4 xs 4) ≡ kind → entryRule around most xs ≡ 1 → Spoken kind ⊎ (kind ≡ 5) → (HEAD ≤ headSize kind) × (headSize kind ≤ length xs)
@@ -72,6 +64,6 @@ module _ (x : Box) (g : Good x) where
   entry-changed a kind new k r e =
       let f : entryRule a FRAMES (header x ++ x .body) ≡ 1 = eq-is _ _ e in
       let c : kindOf (word 4 (header x ++ x .body) 4) ≡ kind = ap kindOf code-is ∙ k in
-      let i = head-inside a FRAMES kind (header x ++ x .body) c f (record-kinds kind FRAMES new r) in
+      let i = head-inside a FRAMES kind (header x ++ x .body) c f (record-kinds kind FRAMES new r .0) in
       let n : 8 + (headSize kind - HEAD) ≡ headSize kind = omega (arith, i .0) in
       is-eq _ _ (rw (tail-is (headSize kind - HEAD) new (omega (arith, i .1, length-append (header x) (x .body), length-header x)), n) (entry-kept a FRAMES kind (header x ++ x .body) new c f r))

@@ -1,26 +1,15 @@
 -- Rule 6 is kept where the tables are. Assumes nothing.
 use Prim.Native.Nat.{ℕ}
-use mathlib.Core.Path.{_≡_, refl, sym, ap, subst, _∙_}
-use mathlib.Core.Bool.{Bool, true, false}
+use mathlib.Core.Path.{_≡_, sym, ap, subst, _∙_}
+use mathlib.Core.Bool.{Bool, true}
 use mathlib.Core.List.{List}
-use lib.Dec.{eqb}
-use borrow.Author.Tests.{eqb-true}
-use Rattle.wire.specs.Tests.{pick, ifEq}
+use Rattle.wire.proofs.Tests.{if-kept}
 use Rattle.wire.specs.Codes.{STBL, STTS, STSC, STSZ, STCO}
 use Rattle.boxes.specs.Kin.{Leaf}
 use Rattle.tables.specs.Tables.{tableForm}
 use Rattle.tables.specs.Sizes.{sizesForm}
 use Rattle.tracks.specs.Six.{tableOf, tableIn}
 use Rattle.tracks.proofs.Kept.{Tables}
-
--- a test that is asked where m is n, and one that is asked elsewhere
-if-kept : (m n : ℕ) (s s′ t t′ : Bool) → (m ≡ n → s ≡ true → s′ ≡ true) → (t ≡ true → t′ ≡ true) → ifEq m n s t ≡ true → ifEq m n s′ t′ ≡ true
-unfolding ifEq
-if-kept m n s s′ t t′ h g = go (eqb m n) refl
-  where
-    go : (e : Bool) → eqb m n ≡ e → pick e s t ≡ true → pick e s′ t′ ≡ true
-    go true e = h (eqb-true m n e)
-    go false e = g
 
 module _ (G : Leaf) (t : Tables G) where
   -- a table that is kept has what it had

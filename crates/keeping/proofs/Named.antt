@@ -1,8 +1,8 @@
 -- The entry of a number in the `stsd` of its track. Assumes nothing.
-use Prim.Native.Nat.{ℕ, _+_, _-_, _≤_}
+use Prim.Native.Nat.{ℕ, _-_, _≤_}
 use native.Mathlib.Omega.{arith}
 use mathlib.Core.Path.{_≡_, refl, sym, ap, _∙_}
-use mathlib.Core.List.{List, [], _∷_, _++_}
+use mathlib.Core.List.{List, _∷_, _++_}
 use lib.ListN.{length, drop, length-append, length-drop}
 use Rattle.wire.specs.Codes.{STSD}
 use Rattle.wire.specs.Numbers.{Bytes, word}
@@ -11,8 +11,8 @@ use Rattle.boxes.specs.Box.{Box, header, write}
 use Rattle.boxes.specs.Boxes.{boxes, FRONT}
 use Rattle.boxes.specs.Seek.{ANY, count}
 use Rattle.boxes.proofs.Whole.{Good}
-use Rattle.boxes.proofs.Reading.{All, parts, lengths, length-cons, write-append}
-use Rattle.boxes.proofs.Reading.All.{some}
+use Rattle.boxes.proofs.Reading.{parts, lengths, length-cons, write-append}
+use Rattle.boxes.proofs.Every.{all-head, all-front}
 use Rattle.heads.specs.Kinds.{kindOf}
 use Rattle.movie.specs.declared.entry.Spot.the-variants.{In}
 use Rattle.movie.specs.Movie.{movie, track, table}
@@ -37,10 +37,6 @@ pub record EntryIn (xs : List ℕ) (i t n : ℕ) : Type 0 where
   pub room : FRONT ≤ length (table STSD (track xs t))
   pub short : length (table STSD (track xs t)) ≤ length xs
 
-all-at : {P : Box → Type 0} (p : List Box) (x : Box) (q : List Box) → All P (p ++ x ∷ q) → P x
-all-at [] x q (some h a) = h
-all-at (y ∷ p) x q (some h a) = all-at p x q a
-
 -- a list of boxes is not behind a front that is too short
 room-is : (b : List ℕ) (p : List Box) (x : Box) (q : List Box) → boxes (drop FRONT b) ≡ p ++ x ∷ q → FRONT ≤ length b
 room-is b p x q e =
@@ -57,7 +53,7 @@ unfolding listIn table track
 entry-in xs i w h t n e =
     let s = entry-split xs (i - 1) t n e in
     let f : Bytes (drop FRONT (table STSD (track xs t))) = bytes-list xs t w in
-    let g = all-at (s .before) (s .box) (s .past) (rw (s .list) at (parts (drop FRONT (table STSD (track xs t))) f .good)) in
+    let g = all-head (all-front (s .before) (s .box) (s .past) (rw (s .list) at (parts (drop FRONT (table STSD (track xs t))) f .good))) in
     record {
       before = s .before;
       box = s .box;

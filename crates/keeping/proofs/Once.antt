@@ -4,19 +4,19 @@ use native.Mathlib.Omega.{arith}
 use mathlib.Core.Path.{_≡_, refl, subst}
 use mathlib.Core.Bool.{true}
 use mathlib.Core.List.{List}
-use mathlib.Core.Logic.{_⊎_, ⊎-elim}
+use mathlib.Core.Logic.{⊎-elim}
 use lib.ListN.{length, drop}
 use Rattle.wire.specs.Tests.{ifEq}
 use Rattle.wire.specs.Numbers.{Bytes, word}
 use Rattle.wire.specs.Codes.{TRAK, TKHD, MDIA, MDHD, HDLR, DINF, DREF, STBL, STSD, STTS, STSC, STSZ, STCO, MDAT}
 use Rattle.boxes.specs.Containers.{FILE, DEPTH, LONGEST}
 use Rattle.boxes.specs.Kin.{Kin}
+use Rattle.boxes.proofs.Down.{Once}
 use Rattle.boxes.specs.Boxes.{FRONT}
 use Rattle.headers.specs.Forms.{ifBox, form}
 use Rattle.entries.specs.declared.rule.Around.{Around}
 use Rattle.lists.specs.Forms.{listForm}
 use Rattle.descriptions.specs.Ten.{entriesFine}
-use Rattle.replace.proofs.Kinship.{Once}
 use Rattle.keeping.proofs.Sound.{Sound}
 use Rattle.keeping.proofs.Content.{Content}
 use Rattle.keeping.proofs.Changed.{Changed, changed-fine, changed-stored, changed-form}

@@ -1,5 +1,5 @@
 -- "Replace decoder record of entry i": a content of the file. Assumes nothing.
-use Prim.Native.Nat.{ℕ, _+_, _-_, _≤_, _<_}
+use Prim.Native.Nat.{ℕ, _-_, _≤_, _<_}
 use native.Mathlib.Omega.{arith}
 use mathlib.Core.Path.{_≡_, refl, sym, ap, subst, _∙_}
 use mathlib.Core.List.{List, _++_}
@@ -12,8 +12,11 @@ use Rattle.boxes.specs.Containers.{FILE, DEPTH, LONGEST}
 use Rattle.boxes.specs.Seek.{ANY}
 use Rattle.boxes.specs.Kin.{Kin}
 use Rattle.boxes.specs.Way.{overNth, overTurn, editWay, tailBy}
-use Rattle.boxes.proofs.Seeking.{meant-any}
 use Rattle.boxes.proofs.Turning.{way-length}
+use Rattle.boxes.proofs.Meaning.{meant-any}
+use Rattle.boxes.proofs.Down.{Once, endOf}
+use Rattle.boxes.proofs.OneOfList.{nth-by}
+use Rattle.boxes.proofs.OneOfPart.{boxes-nth, after-nth}
 use Rattle.entries.specs.Entries.{FRAMES}
 use Rattle.heads.specs.Heads.{headSize}
 use Rattle.entries.specs.Decoders.{recordRule}
@@ -21,8 +24,6 @@ use Rattle.movie.specs.declared.entry.Spot.the-variants.{In}
 use Rattle.movie.specs.Movie.{movie, track, table}
 use Rattle.movie.specs.Named.{spotIn}
 use Rattle.replace.specs.Replace.{kindAt, recordAt}
-use Rattle.replace.proofs.Kinship.{Once, endOf}
-use Rattle.replace.proofs.Nth.{nth-by, boxes-nth, after-nth}
 use Rattle.replace.proofs.Changing.{toStsd, toEntry, record-bytes, record-kin}
 use Rattle.replace.proofs.Taking.{record-short, record-first}
 use Rattle.keeping.proofs.Changed.{Changed}

@@ -17,6 +17,7 @@ use Rattle.media.specs.Relocate.{Relocated}
 use Rattle.media.specs.Rules.{eight as lie}
 use Rattle.media.specs.Samples.{joinTo, samplesOf}
 use Rattle.media.proofs.Keeping.{file-samples-kept}
+use Rattle.media.proofs.Staying.{relocated-none}
 use Rattle.movie.specs.Movie.{movie, tracks, track, table}
 use Rattle.tracks.proofs.Kept.{same-table}
 use Rattle.judge.specs.Acceptance.{Meets}
@@ -28,11 +29,6 @@ use Rattle.keeping.proofs.Tracking.{in-track}
 use Rattle.keeping.proofs.Tables.{track-eight}
 use Rattle.keeping.proofs.Settling.{xs-tiled, new, new-bytes, new-tiled, new-small, Edit, edit-kin, edit-sound}
 use Rattle.keeping.proofs.Following.{edit-moved, same-payloads}
-
--- a table that is missing of both has no offsets
-relocated-none : (l m : List Box) → Relocated l m [] []
-unfolding word ifLe
-relocated-none l m = record { same = refl; offsets = λ k h. absurd (omega arith) }
 
 module _ {A : List Box → List Box} (a : Arranges A) (xs ys : List ℕ) (w : Bytes xs) (m : Meets xs) (c : Content xs ys) where
   abbrev mid : List ℕ

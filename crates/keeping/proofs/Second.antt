@@ -10,7 +10,7 @@ use Rattle.wire.specs.Codes.{MOOV, MDAT}
 use Rattle.boxes.specs.Box.{Box, write}
 use Rattle.boxes.specs.Seek.{count, nth, find}
 use Rattle.boxes.proofs.Reading.{length-cons}
-use Rattle.boxes.proofs.Seeking.{meant-no}
+use Rattle.boxes.proofs.Meaning.{meant-no}
 use Rattle.media.specs.Payloads.{mdats}
 use Rattle.media.proofs.Payloads.{mdat-or, mdats-hit, mdats-miss}
 use Rattle.verdict.specs.Rule.{allList}

@@ -1,18 +1,14 @@
--- The entries of one track, and of the boxes of `moov`, by number. Assumes nothing.
+-- The entries of one track by number. Assumes nothing.
 use Prim.Native.Nat.{ℕ, zero, suc, _+_, _-_, _≤_, _<_}
 use native.Mathlib.Omega.{arith}
-use mathlib.Core.Path.{_≡_, refl, sym, ap}
+use mathlib.Core.Path.{_≡_, refl, ap}
 use mathlib.Core.List.{List, [], _∷_, _++_}
 use lib.ListN.{length}
-use Rattle.wire.specs.Codes.{TRAK}
-use Rattle.wire.proofs.Tests.{eq-yea, eq-nay}
 use Rattle.boxes.specs.Box.{Box, size, header}
-use Rattle.boxes.specs.Boxes.{boxes}
 use Rattle.boxes.specs.Seek.{ANY, count, nth}
-use Rattle.boxes.proofs.Seeking.{meant-any}
-use Rattle.movie.specs.Movie.{track}
-use Rattle.movie.specs.Entries.{Entry, entriesFrom, entriesOf, entriesAfter, entries}
-use Rattle.movie.specs.Named.{listIn, held, bytesAt}
+use Rattle.boxes.proofs.Meaning.{meant-any}
+use Rattle.movie.specs.Entries.{Entry, entriesFrom}
+use Rattle.movie.specs.Named.{bytesAt}
 
 -- box n of a list, from 0, with its bytes
 pub record Split (l : List Box) (n : ℕ) (bs : List ℕ) : Type 0 where
@@ -39,23 +35,3 @@ unfolding bytesAt
 bytes-past i [] e h = let z : i - 0 ≡ i = omega arith in rw z
 bytes-past zero (x ∷ d) e h = absurd (omega arith)
 bytes-past (suc i) (x ∷ d) e h = let z : suc i - suc (length d) ≡ i - length d = omega arith in rw z (bytes-past i d e (omega arith))
-
--- ---- a box of `moov`
-
-module _ (x : Box) (l : List Box) (e : x .code ≡ TRAK) where
-  pub held-hit : held (x .code) (x .body) ≡ count ANY (boxes (listIn (x .body)))
-  unfolding held
-  held-hit = sym (eq-yea _ _ _ _ _ e refl)
-
-  pub after-hit : (t p : ℕ) → entriesAfter t (x ∷ l) p ≡ entriesOf (t + 1) (x .body) (p + x .head) ++ entriesAfter (t + 1) l (p + size x)
-  unfolding entriesAfter
-  after-hit t p = sym (eq-yea _ _ _ _ _ e refl)
-
-module _ (x : Box) (l : List Box) (e : x .code ≡ TRAK → ⊥) where
-  pub held-miss : held (x .code) (x .body) ≡ 0
-  unfolding held
-  held-miss = sym (eq-nay _ _ _ _ _ e refl)
-
-  pub after-miss : (t p : ℕ) → entriesAfter t (x ∷ l) p ≡ entriesAfter t l (p + size x)
-  unfolding entriesAfter
-  after-miss t p = sym (eq-nay _ _ _ _ _ e refl)

@@ -5,20 +5,19 @@ use mathlib.Core.Path.{_≡_, refl, sym, ap, _∙_}
 use mathlib.Core.List.{List, [], _∷_}
 use lib.ListN.{drop}
 use Rattle.wire.specs.Codes.{MOOV, TRAK, STSD}
-use Rattle.wire.specs.Tests.{ifEq}
 use Rattle.wire.proofs.Tests.{lt-yea, lt-nay}
 use Rattle.boxes.specs.Box.{Box, size}
 use Rattle.boxes.specs.Boxes.{boxes, FRONT}
 use Rattle.boxes.specs.Seek.{meant, nth, startIn}
-use Rattle.boxes.proofs.Seeking.{meant-yes, meant-no}
+use Rattle.boxes.proofs.Meaning.{meant-or, nth-hit, nth-next, nth-miss}
 use Rattle.media.proofs.Payloads.{either}
 use Rattle.movie.specs.declared.entry.Spot.the-variants.{In}
 use Rattle.movie.specs.Movie.{movie, track, table}
 use Rattle.movie.specs.Entries.{entriesStart, entriesOf, entriesAfter, entries}
 use Rattle.movie.specs.Named.{listIn, held, spotIn, bytesAt}
+use Rattle.movie.proofs.Boxed.{held-hit, after-hit, held-miss, after-miss}
 use Rattle.movie.proofs.Counting.{length-of}
-use Rattle.settle.proofs.One.{code-or}
-use Rattle.keeping.proofs.Split.{Split, split-from, bytes-past, held-hit, after-hit, held-miss, after-miss}
+use Rattle.keeping.proofs.Split.{Split, split-from, bytes-past}
 
 -- after t tracks: of track m from there on, box n of its `stsd` is entry i
 record Spotted (t : ℕ) (l : List Box) (i p u n : ℕ) : Type 0 where
@@ -29,38 +28,32 @@ record Spotted (t : ℕ) (l : List Box) (i p u n : ℕ) : Type 0 where
 module _ (t : ℕ) (x : Box) (l : List Box) (i p : ℕ) where
   -- in the first box
   spot-here : i < held (x .code) (x .body) → Spotted t (x ∷ l) i p t i
-  unfolding nth ifEq entriesOf listIn
+  unfolding entriesOf listIn
   spot-here h =
-      code-or (x .code) TRAK
+      meant-or TRAK (x .code)
       (λ e.
-      let o = meant-yes TRAK (x .code) (λ z. omega arith) e in
-      let s = split-from (t + 1) (boxes (drop FRONT (table STSD (x .body)))) (p + x .head + entriesStart (x .body)) i (entriesAfter (t + 1) l (p + size x)) (omega (arith, held-hit x l e)) in
-      record { m = 0; is = omega arith; split = rw (after-hit x l e t p, ← o) s })
-      (λ e. absurd (omega (arith, held-miss x l e)))
+      let s = split-from (t + 1) (boxes (drop FRONT (table STSD (x .body)))) (p + x .head + entriesStart (x .body)) i (entriesAfter (t + 1) l (p + size x)) (omega (arith, held-hit x e)) in
+      record { m = 0; is = omega arith; split = rw (after-hit x e l t p, nth-hit TRAK x l e) s })
+      (λ e. absurd (omega (arith, held-miss x e)))
 
-  skip-hit : x .code ≡ TRAK → held (x .code) (x .body) ≤ i → bytesAt i (entriesAfter t (x ∷ l) p) ≡ bytesAt (i - held (x .code) (x .body)) (entriesAfter (t + 1) l (p + size x))
+  skip-hit : meant TRAK (x .code) ≡ 1 → held (x .code) (x .body) ≤ i → bytesAt i (entriesAfter t (x ∷ l) p) ≡ bytesAt (i - held (x .code) (x .body)) (entriesAfter (t + 1) l (p + size x))
   skip-hit e h =
-      let a = length-of (t + 1) (x .body) (p + x .head) ∙ sym (held-hit x l e) in
-      ap (bytesAt i) (after-hit x l e t p) ∙ bytes-past i (entriesOf (t + 1) (x .body) (p + x .head)) (entriesAfter (t + 1) l (p + size x)) (omega (arith, a)) ∙ rw a
+      let a = length-of (t + 1) (x .body) (p + x .head) ∙ sym (held-hit x e) in
+      ap (bytesAt i) (after-hit x e l t p) ∙ bytes-past i (entriesOf (t + 1) (x .body) (p + x .head)) (entriesAfter (t + 1) l (p + size x)) (omega (arith, a)) ∙ rw a
 
-  skip-miss : (x .code ≡ TRAK → ⊥) → bytesAt i (entriesAfter t (x ∷ l) p) ≡ bytesAt (i - held (x .code) (x .body)) (entriesAfter (t + 0) l (p + size x))
+  skip-miss : meant TRAK (x .code) ≡ 0 → bytesAt i (entriesAfter t (x ∷ l) p) ≡ bytesAt (i - held (x .code) (x .body)) (entriesAfter (t + 0) l (p + size x))
   skip-miss e =
-      let a : i - held (x .code) (x .body) ≡ i = omega (arith, held-miss x l e) in
+      let a : i - held (x .code) (x .body) ≡ i = omega (arith, held-miss x e) in
       let b : t + 0 ≡ t = omega arith in
-      rw (after-miss x l e t p, a, b)
+      rw (after-miss x e l t p, a, b)
 
   -- past it
   spot-next : (u n : ℕ) → held (x .code) (x .body) ≤ i → ((p : ℕ) → Spotted (t + meant TRAK (x .code)) l (i - held (x .code) (x .body)) p u n) → Spotted t (x ∷ l) i p u n
-  unfolding nth ifEq
   spot-next u n h ih =
       let s = ih (p + size x) in
-      code-or (x .code) TRAK
-      (λ e.
-      let o = meant-yes TRAK (x .code) (λ z. omega arith) e in
-      record { m = suc (s .m); is = omega (arith, s .is, o); split = rw (skip-hit e h, ← o) (rw (← o) at (s .split)) })
-      (λ e.
-      let o = meant-no TRAK (x .code) (λ z. omega arith) e in
-      record { m = s .m; is = omega (arith, s .is, o); split = rw (skip-miss e, ← o) (rw (← o) at (s .split)) })
+      meant-or TRAK (x .code)
+      (λ e. record { m = suc (s .m); is = omega (arith, s .is); split = rw (skip-hit e h, nth-next TRAK x l e (s .m)) (rw e at (s .split)) })
+      (λ e. record { m = s .m; is = omega (arith, s .is); split = rw (skip-miss e, nth-miss TRAK x l e (s .m)) (rw e at (s .split)) })
 
 spotted : (t : ℕ) (l : List Box) (i p u n : ℕ) → spotIn t l i ≡ In u n → Spotted t l i p u n
 unfolding spotIn

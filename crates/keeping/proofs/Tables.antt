@@ -10,6 +10,7 @@ use Rattle.boxes.specs.Box.{Box}
 use Rattle.boxes.specs.Boxes.{boxes}
 use Rattle.boxes.specs.Containers.{kindIn}
 use Rattle.boxes.specs.Seek.{ANY, nth, find}
+use Rattle.boxes.proofs.Every.{each-or-none}
 use Rattle.media.specs.Rules.{eight as lie}
 use Rattle.media.proofs.Eight.{chunks-none}
 use Rattle.movie.specs.Movie.{track, table}
@@ -20,13 +21,13 @@ use Rattle.tracks.specs.Eight.{eightRule}
 use Rattle.judge.specs.Acceptance.{Meets}
 use Rattle.settle.proofs.Each.{all-four, rule-inside}
 use Rattle.settle.proofs.Placed.{Chunked, chunks-held}
-use Rattle.keeping.proofs.Tracking.{each-nth, in-track}
+use Rattle.keeping.proofs.Tracking.{in-track}
 
 -- from a container to one in it
 chunked-in : (l : List Box) (d k c : ℕ) (P : List ℕ → Type 0) → (c ≡ ANY → ⊥) → (kindIn k c ≡ 0 → ⊥) → P [] → ((b : List ℕ) → Chunked l d (kindIn k c) b → P b)
     → (b : List ℕ) → Chunked l (suc d) k b → (n : ℕ) → P (nth c n (boxes b))
 chunked-in l d k c P z o empty h b w n =
-    each-nth c z P empty n
+    each-or-none c z P empty n (boxes b)
     (all-four (λ x p q r s e.
     let y : kindIn k (x .code) ≡ 0 → ⊥ = λ v. o (ap (kindIn k) (sym e) ∙ v) in
     h (x .body) (subst (λ (i : ℕ). Chunked l d (kindIn k i) (x .body)) e (record { three = p y; six = q y; seven = r y; eight = s y })))

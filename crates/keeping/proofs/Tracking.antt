@@ -1,38 +1,15 @@
 -- From a file down to the tables of one of its tracks. Assumes nothing.
-use Prim.Native.Nat.{ℕ, zero, suc}
+use Prim.Native.Nat.{ℕ, suc}
 use native.Mathlib.Omega.{arith}
-use mathlib.Core.Path.{_≡_, refl}
-use mathlib.Core.Bool.{Bool, true, false}
+use mathlib.Core.Path.{_≡_}
 use mathlib.Core.List.{List, []}
-use lib.Dec.{eqb}
-use borrow.Author.Tests.{eqb-false}
-use Rattle.wire.specs.Tests.{pick, ifEq}
+use Rattle.wire.specs.Tests.{ifEq}
 use Rattle.wire.specs.Codes.{MOOV, TRAK, MDIA, MINF, STBL}
-use Rattle.boxes.specs.Box.{Box}
 use Rattle.boxes.specs.Boxes.{boxes}
 use Rattle.boxes.specs.Containers.{FILE, DEPTH, parent, kindIn}
-use Rattle.boxes.specs.Seek.{ANY, meant, byNumber, nth}
-use Rattle.boxes.proofs.Reading.{All}
-use Rattle.boxes.proofs.Reading.All.{none, some}
-use Rattle.boxes.proofs.Seeking.{meant-is, meant-most}
+use Rattle.boxes.specs.Seek.{ANY, nth}
 use Rattle.movie.specs.Movie.{track}
 use Rattle.descriptions.proofs.Kept.{In}
-
--- ---- what is known of every box of a code is known of the one of a number
-
-module _ (c : ℕ) (z : c ≡ ANY → ⊥) (P : List ℕ → Type 0) (empty : P []) where
-  -- the payload of the n-th, or nothing
-  pub each-nth : (n : ℕ) {l : List Box} → All (λ x. x .code ≡ c → P (x .body)) l → P (nth c n l)
-  unfolding nth ifEq
-  each-nth n none = empty
-  each-nth n (some {x} {l} h a) = go (eqb (meant c (x .code)) 0) refl n (λ i. each-nth i a)
-    where
-      go : (t : Bool) → eqb (meant c (x .code)) 0 ≡ t → (n : ℕ) → ((i : ℕ) → P (nth c i l)) → P (pick t (nth c n l) (byNumber n (x .body) (λ i. nth c i l)))
-      go true e n ih = ih n
-      go false e zero ih = h (meant-is c (x .code) z (omega (arith, eqb-false (meant c (x .code)) 0 e, meant-most c (x .code))))
-      go false e (suc n) ih = ih n
-
--- ---- the way to the tables
 
 -- what is said of the payloads of two `stbl`, said of those of their `trak`
 abbrev pub Tracked : (List ℕ → List ℕ → Type 0) → List ℕ → List ℕ → Type 0

@@ -1,47 +1,29 @@
 -- A box inside, as a search finds it. Assumes nothing.
 use Prim.Native.Nat.{ℕ, _+_, _≤_, _<_}
 use native.Mathlib.Omega.{arith}
-use mathlib.Core.Path.{_≡_, refl, sym, ap, subst, _∙_}
+use mathlib.Core.Path.{_≡_, refl, sym}
 use mathlib.Core.Bool.{Bool, true, false}
 use mathlib.Core.List.{List, [], _∷_, _++_}
 use lib.Dec.{eqb}
 use lib.ListN.{length, length-take, length-drop}
-use lib.Seq.{length-take-le}
 use borrow.Author.Tests.{eqb-true, eqb-false}
 use Rattle.wire.specs.Tests.{pick, ifEq}
 use Rattle.wire.specs.Numbers.{Bytes}
 use Rattle.wire.proofs.Tests.{eq-yea, eq-nay}
 use Rattle.boxes.specs.declared.walk.BoxAt.{BoxAt}
-use Rattle.boxes.specs.Box.{Box, size, write}
+use Rattle.boxes.specs.Box.{Box, size}
 use Rattle.boxes.specs.Boxes.{boxes, total}
 use Rattle.boxes.specs.Walk.{payload, boxAt}
 use Rattle.boxes.specs.Seek.{ANY, meant, count, nth, find, Cut}
-use Rattle.boxes.proofs.Whole.{Good}
-use Rattle.boxes.proofs.Reading.{All, parts, length-cons}
-use Rattle.boxes.proofs.Reading.All.{none, some}
-use Rattle.boxes.proofs.Seeking.{meant-is, meant-yes, meant-no}
+use Rattle.boxes.proofs.Placing.{total-before}
+use Rattle.boxes.proofs.Reading.All.{none}
+use Rattle.boxes.proofs.Meaning.{nth-hit, nth-miss, meant-is, meant-yes, meant-no}
 use Rattle.verdict.specs.declared.Verdict.{Verdict}
 use Rattle.verdict.specs.declared.Verdict.the-variants.{Fine}
 use Rattle.verdict.specs.Verdict.{isFine}
 use Rattle.verdict.specs.Inner.{within}
 
--- ---- where a box that was found stands
-
-all-left : {P : Box → Type 0} (l m : List Box) → All P (l ++ m) → All P l
-all-left [] m a = none
-all-left (x ∷ l) m (some h a) = some h (all-left l m a)
-
-length-write : {l : List Box} → All Good l → length (write l) ≡ total l
-unfolding write total
-length-write none = refl
-length-write (some {x} {l} g a) = omega (arith, length-cons x l, g .head, length-write a)
-
-pub cut-at : {xs : List ℕ} {c n : ℕ} {b : BoxAt} → Bytes xs → (s : Cut xs c n b) → b .at ≡ total (s .p)
-cut-at {xs} {b = b} v s =
-    let a : All Good (s .p) = all-left (s .p) (boxAt xs b ∷ s .q) (rw (s .list) at (parts xs v .good)) in
-    sym (length-take-le (b .at) xs (omega (arith, s .inside))) ∙ ap length (s .before) ∙ length-write a
-
--- its payload lies inside
+-- the payload of a box that was found lies inside
 pub payload-room : (xs : List ℕ) (b : BoxAt) → b .head ≤ b .size → b .at + b .size ≤ length xs → {d : List ℕ} → d ≡ payload xs b → b .at + b .head + length d ≤ length xs
 payload-room xs b h k e = rw (e, length-take, length-drop) (omega arith)
 
@@ -59,18 +41,7 @@ module _ (c : ℕ) (f : List ℕ → ℕ → ℕ → Verdict) (z : c ≡ ANY →
   within-none (y ∷ l) p h = eq-nay _ _ _ _ _ (λ d. omega (arith, meant-yes c (y .code) z d)) (within-none l (p + size y) (omega arith))
 
   pub within-cut : {xs : List ℕ} {b : BoxAt} (p : ℕ) → Bytes xs → Cut xs c 0 b → f (payload xs b) (p + b .at) (p + b .at + b .head) ≡ within c f (boxes xs) p
-  within-cut {xs} {b} p v s = rw (s .list) (within-past (s .p) (boxAt xs b) (s .q) p (p + b .at) (s .nth) (s .hit) (omega (arith, cut-at v s)))
-
--- ---- the first box of a code is the one that is found
-
-module _ (c : ℕ) (z : c ≡ ANY → ⊥) (x : Box) (l : List Box) where
-  find-hit : x .code ≡ c → x .body ≡ find c (x ∷ l)
-  unfolding nth
-  find-hit e = eq-nay _ _ _ _ _ (λ m. omega (arith, meant-yes c (x .code) z e)) refl
-
-  find-miss : (x .code ≡ c → ⊥) → find c l ≡ find c (x ∷ l)
-  unfolding nth
-  find-miss e = eq-yea _ _ _ _ _ (sym (meant-no c (x .code) z e)) refl
+  within-cut {xs} {b} p v s = rw (s .list) (within-past (s .p) (boxAt xs b) (s .q) p (p + b .at) (s .nth) (s .hit) (omega (arith, total-before v s)))
 
 -- where the box that is found is broken, something is
 module _ (c : ℕ) (z : c ≡ ANY → ⊥) (g : List ℕ → ℕ) (none : g [] ≡ 0) (f : List ℕ → ℕ → ℕ → Verdict) (bad : (b : List ℕ) (p q : ℕ) → 0 < g b → isFine (f b p q) ≡ false) where
@@ -80,5 +51,5 @@ module _ (c : ℕ) (z : c ≡ ANY → ⊥) (g : List ℕ → ℕ) (none : g [] �
   within-bad (x ∷ l) p h = go (eqb (x .code) c) refl (within-bad l (p + size x))
     where
       go : (t : Bool) → eqb (x .code) c ≡ t → (0 < g (find c l) → isFine (within c f l (p + size x)) ≡ false) → isFine (pick t (f (x .body) p (p + x .head)) (within c f l (p + size x))) ≡ false
-      go true e ih = bad (x .body) p (p + x .head) (subst (λ (b : List ℕ). 0 < g b) (sym (find-hit c z x l (eqb-true _ _ e))) h)
-      go false e ih = ih (subst (λ (b : List ℕ). 0 < g b) (sym (find-miss c z x l (eqb-false _ _ e))) h)
+      go true e ih = bad (x .body) p (p + x .head) (rw (nth-hit c x l (sym (meant-yes c (x .code) z (eqb-true _ _ e)))) at h)
+      go false e ih = ih (rw (nth-miss c x l (sym (meant-no c (x .code) z (eqb-false _ _ e))) 0) at h)

@@ -11,11 +11,10 @@ use Rattle.wire.specs.Numbers.{Bytes}
 use Rattle.wire.proofs.Tests.{le-yea, le-nay}
 use Rattle.boxes.specs.declared.walk.Walk.{Walk}
 use Rattle.boxes.specs.declared.walk.BoxAt.{BoxAt}
-use Rattle.boxes.specs.Box.{size}
 use Rattle.boxes.specs.Boxes.{boxes}
-use Rattle.boxes.specs.Walk.{payload, boxAt, Ran, Over}
+use Rattle.boxes.specs.Walk.{payload, Ran, Over}
 use Rattle.boxes.specs.Seek.{count, find, Cut}
-use Rattle.boxes.proofs.Seeking.{length-payload}
+use Rattle.boxes.proofs.Seeking.{ran-next}
 use Rattle.verdict.specs.declared.Verdict.{Verdict}
 use Rattle.verdict.specs.declared.Verdict.the-variants.{Fine, Bad}
 use Rattle.lists.specs.Forms.{stored}
@@ -65,9 +64,7 @@ module _ {most : ℕ} {xs : List ℕ} {base n at : ℕ} (i : Counted most xs bas
   module _ {b : BoxAt} {w : Walk} (s : Ran xs at b w) {d : List ℕ} (g : d ≡ payload xs b) {m : ℕ} (e : m ≡ entriesOf (b .code) d) where
     pub counted-more : n + m ≤ most → Counted most xs base (n + m) (w .at)
     unfolding overMost
-    counted-more h =
-        let k : base + at + size (boxAt xs b) ≡ base + w .at = omega (arith, length-payload s, s .next, s .least, s .start) in
-        record { is = i .is ∙ rw (s .list, k, ← g, ← e) (sym (le-yea _ _ _ _ _ h refl)); few = h; inside = omega (arith, s .next, s .inside) }
+    counted-more h = record { is = i .is ∙ rw (s .list, ran-next s base, ← g, ← e) (sym (le-yea _ _ _ _ _ h refl)); few = h; inside = omega (arith, s .next, s .inside) }
 
     pub counted-over : most < n + m → {r : Verdict} → r ≡ brokenAt toStsd (payload xs b) (base + b .at) (base + b .at + b .head) → r ≡ overMost most 0 (boxes xs) base
     unfolding overMost

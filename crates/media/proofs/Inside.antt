@@ -13,7 +13,7 @@ use Rattle.boxes.specs.Boxes.{boxes}
 use Rattle.boxes.specs.Walk.{boxAt, Ran, Over}
 use Rattle.boxes.specs.declared.walk.Walk.{Walk}
 use Rattle.boxes.specs.declared.walk.BoxAt.{BoxAt}
-use Rattle.boxes.proofs.Seeking.{length-payload}
+use Rattle.boxes.proofs.Seeking.{ran-size}
 use Rattle.media.specs.Payloads.{mdats, Spot, nowhere, spot, past, resolve, fits, inAt, holds}
 use Rattle.media.proofs.Payloads.{either, mdat-or, resolve-here, resolve-past, mdats-hit, within-hit, within-low, within-miss, past-nowhere}
 use Rattle.media.proofs.Behind.{behind-some}
@@ -64,17 +64,14 @@ module _ {xs : List ℕ} {o n at : ℕ} (a : Ahead xs o n at) where
   ahead-over v = in-none (o - at) n ∙ sym (a .left ∙ rw (v .list))
 
   module _ {b : BoxAt} {w : Walk} (s : Ran xs at b w) where
-    sized : size (boxAt xs b) ≡ b .size
-    sized = omega (arith, length-payload s, s .least)
-
     pub ahead-more : {end : ℕ} → end ≡ b .at + b .size → end < o → Ahead xs o n end
     ahead-more {end} q h =
         let i : w .at ≡ end = omega (arith, s .next, s .start) in
         let e : o - at - b .size ≡ o - end = omega (arith, s .start) in
         record {
-          left = a .left ∙ rw (s .list) (in-past (boxAt xs b) (boxes (drop (w .at) xs)) (o - at) n (omega (arith, sized, s .next)) ∙ rw (sized, e, i));
+          left = a .left ∙ rw (s .list) (in-past (boxAt xs b) (boxes (drop (w .at) xs)) (o - at) n (omega (arith, ran-size s, s .next)) ∙ rw (ran-size s, e, i));
           below = omega arith;
         }
 
     pub ahead-here : o ≤ b .at + b .size → inAt (boxes xs) o n ≡ holds (b .code) (b .head) (b .size) (o - at) n
-    ahead-here h = a .left ∙ rw (s .list) (in-here (boxAt xs b) (boxes (drop (w .at) xs)) (o - at) n (omega (arith, sized, s .start)) ∙ rw sized)
+    ahead-here h = a .left ∙ rw (s .list) (in-here (boxAt xs b) (boxes (drop (w .at) xs)) (o - at) n (omega (arith, ran-size s, s .start)) ∙ rw (ran-size s))

@@ -11,8 +11,8 @@ use Rattle.boxes.specs.declared.seek.Seen.{Seen}
 use Rattle.boxes.specs.declared.seek.Seen.the-variants as seen
 use Rattle.boxes.specs.Boxes.{boxes, FRONT}
 use Rattle.boxes.specs.Seek.{ANY, find, nth, startIn, SeenAs}
-use Rattle.boxes.proofs.Placing.{found-short}
-use Rattle.boxes.proofs.Seeking.{cut-as, none-as}
+use Rattle.boxes.proofs.Numbered.{found-short}
+use Rattle.boxes.proofs.Cutting.{cut-as, none-as}
 use Rattle.movie.specs.declared.entry.EntryAt.{EntryAt}
 use Rattle.movie.specs.declared.entry.Named.{Named}
 use Rattle.movie.specs.declared.entry.Named.the-variants.{At, Missing}

@@ -1,60 +1,23 @@
--- A box that a search cut out of a part, as bytes; and the entries of a list of boxes. Assumes nothing.
-use Prim.Native.Nat.{_<_, ℕ, suc, _+_}
+-- The entries of a list of boxes, and of a box of `moov`. Assumes nothing.
+use Prim.Native.Nat.{ℕ, suc, _+_}
 use native.Mathlib.Omega.{arith}
 use native.Mathlib.Nat.{add-assoc}
 use mathlib.Core.Path.{_≡_, refl, sym, ap, _∙_}
-use mathlib.Core.List.{List, [], _∷_, _++_, append-assoc}
-use lib.ListN.{length, drop, length-append, length-take, length-drop}
-use lib.Seq.{take-at, drop-at, length-take-le}
+use mathlib.Core.List.{List, [], _∷_, _++_}
+use lib.ListN.{length, drop}
 use Rattle.wire.specs.Numbers.{Bytes}
+use Rattle.wire.specs.Codes.{TRAK}
+use Rattle.wire.proofs.Tests.{eq-yea, eq-nay}
 use Rattle.boxes.specs.declared.walk.BoxAt.{BoxAt}
-use Rattle.boxes.specs.Box.{Box, size, header, write}
-use Rattle.boxes.specs.Boxes.{boxes, total, after}
+use Rattle.boxes.specs.Box.{Box, size, header}
+use Rattle.boxes.specs.Boxes.{boxes, total}
 use Rattle.boxes.specs.Walk.{payload, boxAt}
-use Rattle.boxes.specs.Seek.{ANY, count, Cut}
-use Rattle.boxes.proofs.Whole.{Good, length-header}
-use Rattle.boxes.proofs.Reading.{All, parts, write-boxes, write-cons, write-append}
-use Rattle.boxes.proofs.Reading.All.{none, some}
-use Rattle.boxes.proofs.Placing.{length-write}
-use Rattle.boxes.proofs.Seeking.{meant-any, count-append}
-use Rattle.movie.specs.Entries.{entriesFrom}
-use Rattle.movie.proofs.Lying.{Lies}
-
-good-front : (p q : List Box) → All Good (p ++ q) → All Good p
-good-front [] q a = none
-good-front (x ∷ p) q (some g a) = some g (good-front p q a)
-
--- any box counts
-pub count-any : (l : List Box) → count ANY l ≡ length l
-unfolding count
-count-any [] = refl
-count-any (x ∷ l) = omega (arith, count-any l, meant-any ANY (x .code) refl)
-
--- a search that finds one finds no more than there are
-pub cut-some : {xs : List ℕ} {c n : ℕ} {b : BoxAt} → Cut xs c n b → n < count c (boxes xs)
-unfolding count
-cut-some s = rw (s .list, count-append) (omega (arith, s .nth, s .hit))
-
-module _ {xs : List ℕ} {c n : ℕ} {b : BoxAt} (v : Bytes xs) (s : Cut xs c n b) where
-  length-before : length (write (s .p)) ≡ b .at
-  length-before = sym (ap length (s .before)) ∙ length-take-le (b .at) xs (omega (arith, s .inside))
-
-  -- the boxes before it end where it starts
-  pub total-before : total (s .p) ≡ b .at
-  total-before = sym (length-write (good-front (s .p) (boxAt xs b ∷ s .q) (rw (s .list) at (parts xs v .good)))) ∙ length-before
-
-  pub length-box : length (header (boxAt xs b) ++ payload xs b) ≡ b .size
-  length-box = rw (length-append, length-header, length-take, length-drop) (omega (arith, s .inside, s .least, s .eight))
-
-  -- the whole box lies where it starts
-  pub lies-box : Lies (header (boxAt xs b) ++ payload xs b) xs (b .at)
-  lies-box =
-      let e : write (s .p) ++ (write (boxAt xs b ∷ s .q) ++ after xs) ≡ xs = sym (append-assoc (write (s .p)) (write (boxAt xs b ∷ s .q)) (after xs)) ∙ rw (← write-append (s .p) (boxAt xs b ∷ s .q), ← s .list) (write-boxes xs v) in
-      let d : drop (b .at) xs ≡ header (boxAt xs b) ++ (payload xs b ++ (write (s .q) ++ after xs)) =
-      ap (drop (b .at)) (sym e) ∙ drop-at (write (s .p)) _ (b .at) length-before ∙ write-cons (boxAt xs b) (s .q) (after xs) in
-      record { is = rw (d, ← append-assoc) (take-at (header (boxAt xs b) ++ payload xs b) _ _ refl); inside = rw length-box (s .inside) }
-
--- ---- entries
+use Rattle.boxes.specs.Seek.{ANY, meant, count, Cut}
+use Rattle.boxes.proofs.Placing.{total-before}
+use Rattle.boxes.proofs.Meaning.{meant-yes, meant-is}
+use Rattle.boxes.proofs.Numbered.{count-any}
+use Rattle.movie.specs.Entries.{entriesFrom, entriesOf, entriesAfter}
+use Rattle.movie.specs.Named.{listIn, held}
 
 pub length-from : (t : ℕ) (l : List Box) (p : ℕ) → length (entriesFrom t l p) ≡ length l
 unfolding entriesFrom
@@ -73,3 +36,31 @@ unfolding entriesFrom
 from-cut t p {xs} {n} {b} v s =
     let e : n ≡ length (s .p) = sym (s .nth) ∙ count-any (s .p) in
     rw (s .list, e) (from-past t (s .p) (boxAt xs b ∷ s .q) p ∙ rw (total-before v s))
+
+-- ---- a track
+
+module _ (x : Box) (e : meant TRAK (x .code) ≡ 1) where
+  track-code : x .code ≡ TRAK
+  track-code = meant-is TRAK (x .code) (λ z. omega arith) e
+
+  pub held-hit : held (x .code) (x .body) ≡ count ANY (boxes (listIn (x .body)))
+  unfolding held
+  held-hit = sym (eq-yea _ _ _ _ _ track-code refl)
+
+  pub after-hit : (l : List Box) (t p : ℕ) → entriesAfter t (x ∷ l) p ≡ entriesOf (t + 1) (x .body) (p + x .head) ++ entriesAfter (t + 1) l (p + size x)
+  unfolding entriesAfter
+  after-hit l t p = sym (eq-yea _ _ _ _ _ track-code refl)
+
+-- ---- another box
+
+module _ (x : Box) (e : meant TRAK (x .code) ≡ 0) where
+  other-code : x .code ≡ TRAK → ⊥
+  other-code h = omega (arith, meant-yes TRAK (x .code) (λ z. omega arith) h)
+
+  pub held-miss : held (x .code) (x .body) ≡ 0
+  unfolding held
+  held-miss = sym (eq-nay _ _ _ _ _ other-code refl)
+
+  pub after-miss : (l : List Box) (t p : ℕ) → entriesAfter t (x ∷ l) p ≡ entriesAfter t l (p + size x)
+  unfolding entriesAfter
+  after-miss l t p = sym (eq-nay _ _ _ _ _ other-code refl)

@@ -2,11 +2,8 @@
 use Prim.Native.Nat.{ℕ, _+_, _≤_}
 use native.Mathlib.Omega.{arith}
 use mathlib.Core.Path.{_≡_, refl, sym, ap, _∙_}
-use mathlib.Core.Bool.{Bool, true, false}
-use mathlib.Core.List.{List, [], _∷_, _++_}
-use lib.Dec.{eqb}
+use mathlib.Core.List.{List, [], _∷_}
 use lib.ListN.{length, drop, length-append}
-use Rattle.wire.specs.Tests.{pick, ifEq}
 use Rattle.wire.specs.Codes.{MOOV, TRAK}
 use Rattle.boxes.specs.declared.walk.Walk.{Walk}
 use Rattle.boxes.specs.declared.walk.BoxAt.{BoxAt}
@@ -14,11 +11,12 @@ use Rattle.boxes.specs.Box.{Box, size}
 use Rattle.boxes.specs.Boxes.{boxes}
 use Rattle.boxes.specs.Walk.{payload, Ran, Over}
 use Rattle.boxes.specs.Seek.{ANY, count, find, startIn}
-use Rattle.boxes.proofs.Placing.{found-short}
 use Rattle.boxes.proofs.Seeking.{length-payload}
+use Rattle.boxes.proofs.Meaning.{meant-or}
+use Rattle.boxes.proofs.Numbered.{found-short, count-any}
 use Rattle.movie.specs.Entries.{entriesOf, entriesAfter, entries}
 use Rattle.movie.specs.Named.{listIn, held, heldIn}
-use Rattle.movie.proofs.Boxed.{count-any, length-from}
+use Rattle.movie.proofs.Boxed.{length-from, held-hit, after-hit, held-miss, after-miss}
 
 -- ---- how many
 
@@ -27,14 +25,12 @@ unfolding entriesOf listIn
 length-of t b p = length-from t _ _ ∙ sym (count-any _)
 
 pub length-after : (t : ℕ) (l : List Box) (p : ℕ) → length (entriesAfter t l p) ≡ heldIn l
-unfolding entriesAfter heldIn held ifEq
+unfolding entriesAfter heldIn
 length-after t [] p = refl
-length-after t (x ∷ l) p = go (eqb (x .code) TRAK) (length-after (t + 1) l (p + size x)) (length-after t l (p + size x))
-  where
-    go : (s : Bool) → length (entriesAfter (t + 1) l (p + size x)) ≡ heldIn l → length (entriesAfter t l (p + size x)) ≡ heldIn l
-        → length (pick s (entriesOf (t + 1) (x .body) (p + x .head) ++ entriesAfter (t + 1) l (p + size x)) (entriesAfter t l (p + size x))) ≡ pick s (count ANY (boxes (listIn (x .body)))) 0 + heldIn l
-    go true i j = rw length-append (omega (arith, i, length-of (t + 1) (x .body) (p + x .head)))
-    go false i j = omega (arith, j)
+length-after t (x ∷ l) p =
+    meant-or TRAK (x .code)
+    (λ e. rw (after-hit x e l t p, length-append, held-hit x e) (omega (arith, length-after (t + 1) l (p + size x), length-of (t + 1) (x .body) (p + x .head))))
+    (λ e. rw (after-miss x e l t p, held-miss x e) (omega (arith, length-after t l (p + size x))))
 
 -- ---- the walk
 

@@ -1,5 +1,5 @@
 -- What is found in what was found. Assumes nothing.
-use Prim.Native.Nat.{ℕ, _≤_, _<_, _^_}
+use Prim.Native.Nat.{ℕ, _≤_}
 use native.Mathlib.Omega.{arith}
 use mathlib.Core.Path.{_≡_}
 use mathlib.Core.List.{List}
@@ -8,8 +8,8 @@ use Rattle.wire.specs.Codes.{MOOV, TRAK, TKHD, MDIA, MDHD, HDLR, MINF, STBL}
 use Rattle.wire.specs.Numbers.{word}
 use Rattle.boxes.specs.Boxes.{boxes}
 use Rattle.boxes.specs.Seek.{count, nth, find}
-use Rattle.boxes.proofs.Placing.{found-short}
-use Rattle.movie.specs.Movie.{tracks, track, table, handler, scale, movieTicks, stbl}
+use Rattle.boxes.proofs.Numbered.{found-short}
+use Rattle.movie.specs.Movie.{tracks, track, table, handler, scale, movieTicks}
 
 module _ (xs : List ℕ) {moov : List ℕ} (e : moov ≡ find MOOV (boxes xs)) where
   pub tracks-are : {r : ℕ} → r ≡ count TRAK (boxes moov) → r ≤ length moov → (r ≡ tracks xs) × (r ≤ length xs)

@@ -1,5 +1,4 @@
 pub mod Finding
-pub mod Lying
 pub mod Boxed
 pub mod Counting
 pub mod Spotting

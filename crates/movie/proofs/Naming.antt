@@ -13,24 +13,28 @@ use Rattle.boxes.specs.Box.{header}
 use Rattle.boxes.specs.Boxes.{boxes, FRONT}
 use Rattle.boxes.specs.Walk.{payload, boxAt}
 use Rattle.boxes.specs.Seek.{ANY, find, nth, startIn, Cut}
+use Rattle.boxes.proofs.Lying.{Lies, bytes-lies, lies-in, lies-drop, lies-found}
+use Rattle.boxes.proofs.Cutting.{length-box, lies-box}
 use Rattle.movie.specs.declared.entry.EntryAt.{EntryAt}
 use Rattle.movie.specs.declared.entry.Named.{Named}
 use Rattle.movie.specs.declared.entry.Named.the-variants.{At, Missing}
 use Rattle.movie.specs.Movie.{movie, mdia, minf, stbl, track, table}
 use Rattle.movie.specs.Entries.{Entry, entriesStart, entriesOf, entries}
 use Rattle.movie.specs.Named.{listIn, listStart, InTrack, Placed, PlacedAs, EntryIs, NamedAs}
-use Rattle.movie.proofs.Lying.{Lies, bytes-lies, lies-in, lies-drop, lies-found}
-use Rattle.movie.proofs.Boxed.{length-box, lies-box, from-cut}
+use Rattle.movie.proofs.Boxed.{from-cut}
 
 -- ---- where the entries of a track lie
 
-lies-stsd : (b : List ℕ) → Bytes b → Lies (table STSD b) b (startIn MDIA 0 (boxes b) + startIn MINF 0 (mdia b) + startIn STBL 0 (minf b) + startIn STSD 0 (stbl b))
-unfolding table
-lies-stsd b v =
+-- the payload of the `stbl` of a track whose payload is b, and that of its `stsd`
+pub lies-stbl : (b : List ℕ) → Bytes b → Lies (find STBL (minf b)) b (startIn MDIA 0 (boxes b) + startIn MINF 0 (mdia b) + startIn STBL 0 (minf b))
+lies-stbl b v =
     let m = lies-found MDIA 0 b v in
     let n = lies-in m (lies-found MINF 0 (find MDIA (boxes b)) (bytes-lies m v)) in
-    let s = lies-in n (lies-found STBL 0 (find MINF (mdia b)) (bytes-lies n v)) in
-    lies-in s (lies-found STSD 0 (find STBL (minf b)) (bytes-lies s v))
+    lies-in n (lies-found STBL 0 (find MINF (mdia b)) (bytes-lies n v))
+
+pub lies-stsd : (b : List ℕ) → Bytes b → Lies (table STSD b) b (startIn MDIA 0 (boxes b) + startIn MINF 0 (mdia b) + startIn STBL 0 (minf b) + startIn STSD 0 (stbl b))
+unfolding table
+lies-stsd b v = let s = lies-stbl b v in lies-in s (lies-found STSD 0 (find STBL (minf b)) (bytes-lies s v))
 
 pub lies-track : (xs : List ℕ) (t : ℕ) → Bytes xs → Lies (track xs t) xs (startIn MOOV 0 (boxes xs) + startIn TRAK t (movie xs))
 unfolding track

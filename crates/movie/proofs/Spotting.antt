@@ -1,14 +1,10 @@
 -- Which track an entry is in, by the walk over the boxes of `moov`. Assumes nothing.
 use Prim.Native.Nat.{ℕ, _+_, _-_, _≤_, _<_}
 use native.Mathlib.Omega.{arith}
-use mathlib.Core.Path.{_≡_, refl, ap, _∙_}
-use mathlib.Core.Bool.{Bool, true, false}
+use mathlib.Core.Path.{_≡_, refl, sym, ap, _∙_}
 use mathlib.Core.List.{List, [], _∷_, _++_}
-use lib.Dec.{eqb}
 use lib.ListN.{length, drop, length-drop}
 use lib.Seq.{drop-nil, drop-append-le}
-use borrow.Author.Tests.{eqb-true, eqb-false}
-use Rattle.wire.specs.Tests.{pick, ifEq}
 use Rattle.wire.specs.Codes.{TRAK}
 use Rattle.wire.specs.Numbers.{Bytes}
 use Rattle.wire.proofs.Lists.{drop-past}
@@ -17,12 +13,14 @@ use Rattle.boxes.specs.declared.walk.BoxAt.{BoxAt}
 use Rattle.boxes.specs.Box.{Box, size}
 use Rattle.boxes.specs.Boxes.{boxes}
 use Rattle.boxes.specs.Walk.{payload, boxAt, Ran, Over}
-use Rattle.boxes.specs.Seek.{ANY, meant, count, nth, startIn, Cut, Passed}
+use Rattle.boxes.specs.Seek.{ANY, meant, count, startIn, Cut, Passed}
 use Rattle.boxes.proofs.Placing.{start-at}
-use Rattle.boxes.proofs.Seeking.{meant-yes, meant-no, length-payload, passed-none, passed-more, passed-cut, cut-payload}
+use Rattle.boxes.proofs.Seeking.{ran-next, passed-none, passed-more, passed-cut}
+use Rattle.boxes.proofs.Meaning.{meant-or}
+use Rattle.boxes.proofs.Cutting.{cut-payload, cut-some}
 use Rattle.movie.specs.Entries.{entriesOf, entriesAfter}
 use Rattle.movie.specs.Named.{listIn, held, heldIn, InTrack}
-use Rattle.movie.proofs.Boxed.{cut-some}
+use Rattle.movie.proofs.Boxed.{held-hit, after-hit, held-miss, after-miss}
 use Rattle.movie.proofs.Counting.{length-of, length-after}
 
 -- ---- one box of `moov`
@@ -30,30 +28,26 @@ use Rattle.movie.proofs.Counting.{length-of, length-after}
 module _ (t : ℕ) (x : Box) (l : List Box) (p n : ℕ) where
   -- the entry is past it
   after-past : held (x .code) (x .body) ≤ n → drop n (entriesAfter t (x ∷ l) p) ≡ drop (n - held (x .code) (x .body)) (entriesAfter (t + meant TRAK (x .code)) l (p + size x))
-  unfolding entriesAfter held ifEq
-  after-past h = go (eqb (x .code) TRAK) refl h
-    where
-      go : (s : Bool) → eqb (x .code) TRAK ≡ s → pick s (count ANY (boxes (listIn (x .body)))) 0 ≤ n
-          → drop n (pick s (entriesOf (t + 1) (x .body) (p + x .head) ++ entriesAfter (t + 1) l (p + size x)) (entriesAfter t l (p + size x))) ≡ drop (n - pick s (count ANY (boxes (listIn (x .body)))) 0) (entriesAfter (t + meant TRAK (x .code)) l (p + size x))
-      go true e h =
-          let k = count ANY (boxes (listIn (x .body))) in
-          let m : n ≡ k + (n - k) = omega arith in
-          let o = meant-yes TRAK (x .code) (λ z. omega arith) (eqb-true (x .code) TRAK e) in
-          rw (← o) (ap (λ (j : ℕ). drop j (entriesOf (t + 1) (x .body) (p + x .head) ++ entriesAfter (t + 1) l (p + size x))) m ∙ drop-past (entriesOf (t + 1) (x .body) (p + x .head)) (entriesAfter (t + 1) l (p + size x)) k (n - k) (length-of (t + 1) (x .body) (p + x .head)))
-      go false e h =
-          let o = meant-no TRAK (x .code) (λ z. omega arith) (eqb-false (x .code) TRAK e) in
-          let z : t + 0 ≡ t = omega arith in let m : n - 0 ≡ n = omega arith in
-          rw (← o, z, m)
+  after-past h =
+      let k = held (x .code) (x .body) in
+      meant-or TRAK (x .code)
+      (λ e.
+      let m : n ≡ k + (n - k) = omega arith in
+      let o = length-of (t + 1) (x .body) (p + x .head) ∙ sym (held-hit x e) in
+      rw (after-hit x e l t p, e) (ap (λ (j : ℕ). drop j (entriesOf (t + 1) (x .body) (p + x .head) ++ entriesAfter (t + 1) l (p + size x))) m ∙ drop-past (entriesOf (t + 1) (x .body) (p + x .head)) (entriesAfter (t + 1) l (p + size x)) k (n - k) o))
+      (λ e.
+      let z : t + 0 ≡ t = omega arith in
+      let m : n - k ≡ n = omega (arith, held-miss x e) in
+      rw (after-miss x e l t p, e, z, m))
 
   -- it is in it
-  after-in : n < held (x .code) (x .body) → (x .code ≡ TRAK) × (n < count ANY (boxes (listIn (x .body)))) × (drop n (entriesAfter t (x ∷ l) p) ≡ drop n (entriesOf (t + 1) (x .body) (p + x .head)) ++ entriesAfter (t + 1) l (p + size x))
-  unfolding entriesAfter held ifEq
-  after-in h = go (eqb (x .code) TRAK) refl h
-    where
-      go : (s : Bool) → eqb (x .code) TRAK ≡ s → n < pick s (count ANY (boxes (listIn (x .body)))) 0
-          → (x .code ≡ TRAK) × (n < count ANY (boxes (listIn (x .body)))) × (drop n (pick s (entriesOf (t + 1) (x .body) (p + x .head) ++ entriesAfter (t + 1) l (p + size x)) (entriesAfter t l (p + size x))) ≡ drop n (entriesOf (t + 1) (x .body) (p + x .head)) ++ entriesAfter (t + 1) l (p + size x))
-      go true e h = (eqb-true (x .code) TRAK e, h, drop-append-le n (entriesOf (t + 1) (x .body) (p + x .head)) (entriesAfter (t + 1) l (p + size x)) (omega (arith, length-of (t + 1) (x .body) (p + x .head))))
-      go false e h = absurd (omega arith)
+  after-in : n < held (x .code) (x .body) → (meant TRAK (x .code) ≡ 1) × (n < count ANY (boxes (listIn (x .body)))) × (drop n (entriesAfter t (x ∷ l) p) ≡ drop n (entriesOf (t + 1) (x .body) (p + x .head)) ++ entriesAfter (t + 1) l (p + size x))
+  after-in h =
+      meant-or TRAK (x .code)
+      (λ e.
+      let k = held-hit x e in
+      (e, omega arith, rw (after-hit x e l t p) (drop-append-le n (entriesOf (t + 1) (x .body) (p + x .head)) (entriesAfter (t + 1) l (p + size x)) (omega (arith, length-of (t + 1) (x .body) (p + x .head))))))
+      (λ e. absurd (omega (arith, held-miss x e)))
 
 -- ---- the walk
 
@@ -67,19 +61,16 @@ gone-none ys i = record { passed = passed-none ys TRAK; is = λ p. let z : p + 0
 
 module _ {ys : List ℕ} {i t left at : ℕ} (g : Gone ys i t left at) where
   module _ {b : BoxAt} {w : Walk} (v : Bytes ys) (s : Ran ys at b w) {d : List ℕ} (f : d ≡ payload ys b) {n : ℕ} (e : n ≡ held (b .code) d) where
-    place-next : (p : ℕ) → p + at + size (boxAt ys b) ≡ p + w .at
-    place-next p = omega (arith, length-payload s, s .next, s .least, s .start)
-
     pub gone-more : n ≤ left → {m : ℕ} → m ≡ meant TRAK (b .code) → Gone ys i (t + m) (left - n) (w .at)
     gone-more h o =
         let k : n ≡ held (b .code) (payload ys b) = rw f at e in
-        record { passed = passed-more (g .passed) v s (ap (λ (j : ℕ). t + j) o); is = λ p. g .is p ∙ rw (s .list, o, k, ← place-next p) (after-past t (boxAt ys b) (boxes (drop (w .at) ys)) (p + at) left (omega arith)) }
+        record { passed = passed-more (g .passed) v s (ap (λ (j : ℕ). t + j) o); is = λ p. g .is p ∙ rw (s .list, o, k, ← ran-next s p) (after-past t (boxAt ys b) (boxes (drop (w .at) ys)) (p + at) left (omega arith)) }
 
     pub gone-in : left < n → InTrack ys i t left
     gone-in h =
         let k : n ≡ held (b .code) (payload ys b) = rw f at e in
         let a = after-in t (boxAt ys b) (boxes (drop (w .at) ys)) at left (omega arith) in
-        let m = meant-yes TRAK (b .code) (λ z. omega arith) (a .0) in
+        let m = a .0 in
         let c : Cut ys TRAK t b = passed-cut (g .passed) v s refl (omega arith) (omega arith) in
         let z = start-at TRAK t ys v c .0 in
         let y = cut-payload ys TRAK t b c in

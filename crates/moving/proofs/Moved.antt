@@ -17,6 +17,7 @@ use Rattle.boxes.proofs.Whole.{Good, short-not}
 use Rattle.boxes.proofs.Reading.{All, parts, lengths, write-append, write-boxes, boxes-write}
 use Rattle.boxes.proofs.Reading.All.{none, some}
 use Rattle.boxes.proofs.Placing.{length-write}
+use Rattle.boxes.proofs.Every.{all-head, all-tail, all-left, all-front}
 use Rattle.media.specs.Payloads.{mdats, inAt}
 use Rattle.media.specs.Relocate.{relocate}
 use Rattle.media.proofs.Payloads.{mdats-miss}
@@ -28,7 +29,7 @@ use Rattle.settle.proofs.Settled.{settled-list}
 use Rattle.settle.proofs.Accepted.{file-tiled}
 use Rattle.moving.specs.Moving.{moovSecond, moveOf}
 use Rattle.moving.specs.Arrange.{arranged, up, shifted}
-use Rattle.moving.proofs.Order.{second-length, all-head, all-tail, all-left, all-front}
+use Rattle.moving.proofs.Order.{second-length}
 use Rattle.moving.proofs.Pieces.{pieces-are}
 use Rattle.moving.proofs.Parted.{Parted}
 

@@ -11,22 +11,20 @@ use Rattle.wire.specs.Codes.{MOOV}
 use Rattle.wire.proofs.Tests.{eq-yea, eq-nay}
 use Rattle.boxes.specs.Box.{Box, write}
 use Rattle.boxes.specs.Seek.{count}
-use Rattle.boxes.proofs.Reading.{All, length-cons, write-append}
-use Rattle.boxes.proofs.Reading.All.{none, some}
-use Rattle.settle.proofs.One.{count-hit, count-miss}
+use Rattle.boxes.proofs.Reading.{length-cons, write-append}
+use Rattle.boxes.proofs.Meaning.{meant-yes}
 use Rattle.moving.specs.Moving.{just, others, moovSecond}
 
 -- ---- a list without a `moov`
 
-moov-or : MOOV ≡ 0 → ⊥
-moov-or z = omega arith
-
 module _ (x : Box) (l : List Box) (n : count MOOV (x ∷ l) ≡ 0) where
   other : x .code ≡ MOOV → ⊥
-  other e = omega (arith, count-hit MOOV moov-or x l e)
+  unfolding count
+  other e = omega (arith, meant-yes MOOV (x .code) (λ z. omega arith) e)
 
   rest : count MOOV l ≡ 0
-  rest = sym (count-miss MOOV moov-or x l other) ∙ n
+  unfolding count
+  rest = omega arith
 
 just-none : (l : List Box) → count MOOV l ≡ 0 → just MOOV l ≡ []
 unfolding just
@@ -76,20 +74,3 @@ module _ (x : Box) (q : List Box) (e : x .code ≡ MOOV) (k : count MOOV q ≡ 0
   pub second-is : (y : Box) (m : List Box) → count MOOV m ≡ 0 → moovSecond (y ∷ (m ++ x ∷ q)) ≡ y ∷ (x ∷ (m ++ q))
   unfolding moovSecond
   second-is y m n = rw (just-one m n, others-one m n)
-
--- ---- what holds of each box
-
-pub all-head : {P : Box → Type 0} {x : Box} {l : List Box} → All P (x ∷ l) → P x
-all-head (some h a) = h
-
-pub all-tail : {P : Box → Type 0} {x : Box} {l : List Box} → All P (x ∷ l) → All P l
-all-tail (some h a) = a
-
-pub all-left : {P : Box → Type 0} (p q : List Box) → All P (p ++ q) → All P p
-all-left [] q a = none
-all-left (x ∷ p) q (some h a) = some h (all-left p q a)
-
--- one box before the others
-pub all-front : {P : Box → Type 0} (m : List Box) (x : Box) (q : List Box) → All P (m ++ x ∷ q) → All P (x ∷ (m ++ q))
-all-front [] x q a = a
-all-front (y ∷ m) x q (some h a) = let b = all-front m x q a in some (all-head b) (some h (all-tail b))

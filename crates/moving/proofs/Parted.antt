@@ -1,26 +1,24 @@
 -- A file that meets the rules, as code parts it at its `moov`. Assumes nothing.
-use Prim.Native.Nat.{ℕ, _+_, _-_, _≤_}
+use Prim.Native.Nat.{ℕ, _+_, _≤_}
 use native.Mathlib.Omega.{arith}
 use mathlib.Core.Path.{_≡_, refl, sym, ap, _∙_}
 use mathlib.Core.List.{List, [], _∷_, _++_}
-use lib.ListN.{length, length-take, length-drop}
-use lib.Seq.{length-take-le}
+use lib.ListN.{length}
 use Rattle.wire.specs.Numbers.{Bytes}
 use Rattle.wire.specs.Codes.{FTYP, MOOV}
-use Rattle.wire.proofs.Tests.{eq-nay}
 use Rattle.boxes.specs.declared.walk.BoxAt.{BoxAt}
 use Rattle.boxes.specs.Box.{Box, size}
 use Rattle.boxes.specs.Boxes.{boxes, total}
-use Rattle.boxes.specs.Walk.{payload, boxAt}
+use Rattle.boxes.specs.Walk.{boxAt}
 use Rattle.boxes.specs.Seek.{ANY, meant, count, placeBy, placeIn, Cut}
-use Rattle.boxes.proofs.Whole.{Good}
-use Rattle.boxes.proofs.Reading.{All, parts}
-use Rattle.boxes.proofs.Seeking.{meant-any, meant-is, count-append}
-use Rattle.boxes.proofs.Placing.{length-write}
+use Rattle.boxes.proofs.Placing.{total-before}
+use Rattle.boxes.proofs.Cutting.{cut-size}
+use Rattle.boxes.proofs.Meaning.{place-hit, place-next, meant-any, meant-is}
+use Rattle.boxes.proofs.Numbered.{count-append}
 use Rattle.judge.specs.Acceptance.{Meets}
 use Rattle.settle.proofs.Accepted.{one-moov, ftyp-first}
 use Rattle.moving.specs.Moving.{moovSecond}
-use Rattle.moving.proofs.Order.{second-is, all-left}
+use Rattle.moving.proofs.Order.{second-is}
 
 -- ---- places
 
@@ -28,11 +26,11 @@ use Rattle.moving.proofs.Order.{second-is, all-left}
 starts : (l : List Box) → placeIn ANY 0 l ≡ 0
 unfolding placeIn placeBy
 starts [] = refl
-starts (x ∷ l) = sym (eq-nay _ _ _ _ _ (λ z. omega (arith, meant-any ANY (x .code) refl)) refl)
+starts (x ∷ l) = place-hit ANY x l (sym (meant-any ANY (x .code) refl)) (λ y. 0)
 
 pub second-place : (x : Box) (l : List Box) → placeIn ANY 1 (x ∷ l) ≡ size x
-unfolding placeIn placeBy
-second-place x l = sym (eq-nay _ _ _ _ _ (λ z. omega (arith, meant-any ANY (x .code) refl)) (omega (arith, starts l)))
+unfolding placeIn
+second-place x l = place-next ANY x l (sym (meant-any ANY (x .code) refl)) (λ y. 0) 0 ∙ omega (arith, starts l)
 
 -- ---- the boxes before `moov`, itself, and those after it
 
@@ -52,17 +50,9 @@ module _ (xs : List ℕ) (v : Bytes xs) (m : Meets xs) {b : BoxAt} (c : Cut xs M
   cut-moov : b .code ≡ MOOV
   cut-moov = meant-is MOOV (b .code) (λ z. omega arith) (c .hit)
 
-  cut-size : b .size ≡ size (boxAt xs b)
-  cut-size = let e : length (payload xs b) ≡ b .size - b .head = rw (length-take, length-drop) (omega (arith, c .inside, c .least)) in omega (arith, e, c .least)
-
   none-after : count MOOV (c .q) ≡ 0
   unfolding count
   none-after = omega (arith, one-moov xs m, ap (count MOOV) (c .list), count-append MOOV (c .p) (boxAt xs b ∷ c .q), c .hit, c .nth)
-
-  cut-at : b .at ≡ total (c .p)
-  cut-at =
-      let g : All Good (c .p ++ boxAt xs b ∷ c .q) = rw (c .list) at (parts xs v .good) in
-      sym (length-take-le (b .at) xs (omega (arith, c .inside))) ∙ ap length (c .before) ∙ length-write (all-left (c .p) _ g)
 
   parted-by : (p : List Box) → c .p ≡ p → Parted xs b
   unfolding total count
@@ -80,8 +70,8 @@ module _ (xs : List ℕ) (v : Bytes xs) (m : Meets xs) {b : BoxAt} (c : Cut xs M
         second = ap moovSecond l ∙ second-is (boxAt xs b) (c .q) cut-moov none-after x p (omega arith);
         name = ftyp-first xs m x (p ++ boxAt xs b ∷ c .q) l;
         moov = cut-moov;
-        at = cut-at ∙ ap total e;
-        size = cut-size;
+        at = sym (total-before v c) ∙ ap total e;
+        size = cut-size v c;
         inside = c .inside;
       }
 

@@ -14,7 +14,7 @@ use Rattle.boxes.specs.Box.{Box}
 use Rattle.boxes.specs.Boxes.{boxes}
 use Rattle.boxes.specs.Containers.{FILE, DEPTH, parent, kindIn}
 use Rattle.boxes.specs.Seek.{ANY, meant, count, byNumber, nth, find}
-use Rattle.boxes.proofs.Seeking.{meant-most, meant-is}
+use Rattle.boxes.proofs.Meaning.{meant-most, meant-is}
 use Rattle.movie.specs.Movie.{tracks, track, mdia, minf}
 use Rattle.verdict.specs.Rule.{Rule, allList, allBox, allIn}
 use Rattle.shape.specs.Shape.{needed}

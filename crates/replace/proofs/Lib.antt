@@ -1,5 +1,3 @@
-pub mod Nth
-pub mod Kinship
 pub mod Changing
 pub mod Settling
 pub mod Taking

@@ -19,20 +19,22 @@ use Rattle.boxes.specs.Seek.{Cut}
 use Rattle.boxes.specs.Words.{moved, rewordLeaf}
 use Rattle.boxes.specs.Way.{nthBy, overNth, overTurn, editWay, tailBy}
 use Rattle.boxes.specs.Rewrite.{editIn}
+use Rattle.boxes.proofs.Cutting.{cut-size}
 use Rattle.boxes.proofs.Reading.{write-append, length-cons, lengths}
-use Rattle.boxes.proofs.Seeking.{meant-is}
+use Rattle.boxes.proofs.Meaning.{meant-is}
+use Rattle.boxes.proofs.Placing.{total-before}
+use Rattle.boxes.proofs.OneOfList.{nth-by}
+use Rattle.boxes.proofs.OneOfPart.{boxes-nth, after-nth}
+use Rattle.boxes.proofs.Down.{Once}
 use Rattle.media.specs.Payloads.{inAt}
 use Rattle.media.specs.Relocate.{relocate}
 use Rattle.media.proofs.Amounts.{moved-change}
 use Rattle.movie.specs.declared.entry.Spot.the-variants.{In}
-use Rattle.movie.proofs.Boxed.{total-before}
 use Rattle.judge.specs.Acceptance.{Meets}
 use Rattle.settle.specs.Settle.{offsets, settled}
 use Rattle.settle.proofs.Settled.{settled-kin}
 use Rattle.replace.specs.Replace.{turn, recordAt}
 use Rattle.replace.specs.Fitting.{grown}
-use Rattle.replace.proofs.Nth.{nth-by, boxes-nth, after-nth}
-use Rattle.replace.proofs.Kinship.{Once}
 use Rattle.replace.proofs.Changing.{toEntry, record-kin}
 
 -- numbers that move what is past a limit by the same amount
@@ -68,9 +70,6 @@ module _ (t n keep : ℕ) (new xs : List ℕ) (w : Bytes new) (v : Bytes xs) (s 
   code-is : b .code ≡ MOOV
   code-is = meant-is MOOV (b .code) (λ z. omega arith) (c .hit)
 
-  size-is : size old ≡ b .size
-  size-is = rw (length-take, length-drop) (omega (arith, c .inside, c .least))
-
   around : (x : Box) → length (write (c .p ++ x ∷ c .q)) ≡ length (write (c .p)) + (8 + (length (x .body) + length (write (c .q))))
   around x = rw (write-append (c .p) (x ∷ c .q), length-append, length-cons)
 
@@ -85,7 +84,7 @@ module _ (t n keep : ℕ) (new xs : List ℕ) (w : Bytes new) (v : Bytes xs) (s 
       moved-same (grown b (length zs) (length xs)) by refl refl grows o
       ∙ rw (boxes-are, c .list)
       (moved-change (c .p) (c .q) old made (λ z. omega (arith, code-is)) (λ z. omega (arith, code-is)) (omega (arith, c .eight)) by
-      (record { limit = omega (arith, size-is, total-before v c); low = refl; high = refl; less = refl }) o m (rw (c .list) at h))
+      (record { limit = omega (arith, cut-size v c, total-before v c); low = refl; high = refl; less = refl }) o m (rw (c .list) at h))
 
   -- every offset as far into the same payload as it was
   pub record-settled : Meets xs → editIn (rewordLeaf offsets (moved (grown b (length zs) (length xs)))) DEPTH FILE zs ≡ settled xs zs

@@ -13,8 +13,8 @@ use Rattle.wire.proofs.Clauses.{is-eq, not-eq, is-lt, not-lt, fails, holds, don
 use Rattle.wire.proofs.Numbers.{word-out}
 use Rattle.wire.proofs.Tests.{eq-yea, eq-nay, lt-yea, lt-nay}
 use Rattle.heads.specs.Kinds.{kindOf}
-use Rattle.heads.proofs.Meeting.{eq-ways, eq-met}
-use Rattle.entries.specs.Decoders.{damrRule, d263Rule, recordRule}
+use Rattle.entries.specs.Decoders.{recordRule}
+use Rattle.entries.proofs.Kept.{record-kinds}
 use Rattle.movie.specs.declared.entry.EntryAt.{EntryAt}
 use Rattle.movie.specs.Entries.{entries}
 use Rattle.movie.specs.Named.{EntryIs}
@@ -51,20 +51,7 @@ module _ (xs : List ℕ) (i : ℕ) where
 
 -- is short, and its kind is editable
 pub record-short : (kind most : ℕ) (new : List ℕ) → recordRule kind most new ≡ 1 → (3 ≤ kind) × (length new ≤ 31)
-unfolding recordRule damrRule d263Rule
-record-short kind most new e =
-    ⊎-elim (λ u. (omega (arith, u .0), damr (u .1)))
-    (λ u.
-    ⊎-elim (λ x. (omega (arith, x .0), damr (x .1)))
-    (λ x. let y = eq-met _ _ _ (x .1) in (omega (arith, y .0), d263 (y .1)))
-    (eq-ways _ _ _ _ _ (u .1)))
-    (eq-ways _ _ _ _ _ e)
-  where
-    damr : damrRule kind most new ≡ 1 → length new ≤ 31
-    damr q = omega (arith, eq-met _ _ _ (eq-met _ _ _ q .1) .0)
-
-    d263 : d263Rule new ≡ 1 → length new ≤ 31
-    d263 q = ⊎-elim (λ u. omega (arith, u .0)) (λ u. omega (arith, eq-met _ _ _ (u .1) .0)) (eq-ways _ _ _ _ _ (eq-met _ _ _ q .1))
+record-short kind most new e = let d = record-kinds kind most new e in (⊎-elim (λ p. ⊎-elim (λ q. omega arith) (λ q. omega arith) p) (λ q. omega arith) (d .0), d .1)
 
 -- so there is such an entry
 pub record-first : (xs : List ℕ) (i most kind : ℕ) (new : List ℕ) → kind ≡ kindAt xs i → recordRule kind most new ≡ 1 → 1 ≤ i

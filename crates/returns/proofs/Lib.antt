@@ -2,7 +2,6 @@ pub mod Alone
 pub mod Track
 pub mod Boxed
 pub mod Tracks
-pub mod Found
 pub mod Standing
 pub mod Small
 pub mod Own

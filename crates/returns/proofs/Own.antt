@@ -10,9 +10,11 @@ use Rattle.wire.specs.Codes.{TRAK}
 use Rattle.wire.proofs.Tests.{eq-yea, eq-nay}
 use Rattle.boxes.specs.Box.{Box, size, header}
 use Rattle.boxes.specs.Seek.{count, nth, startIn}
+use Rattle.boxes.proofs.Meaning.{count-hit, count-miss, nth-hit, nth-next, nth-miss, place-hit, place-next, place-miss}
 use Rattle.movie.specs.Entries.{Entry, entriesFrom, entriesOf, entriesAfter}
+use Rattle.movie.proofs.Boxed.{after-hit, after-miss}
 use Rattle.table.specs.Table.{own}
-use Rattle.returns.proofs.Boxed.{Each, count-hit, count-miss, nth-here, nth-next, nth-miss, start-here, start-next, start-miss, after-hit, after-miss}
+use Rattle.returns.proofs.Boxed.{Each}
 use Rattle.returns.proofs.Boxed.Each.{none, track, other}
 
 own-append : (u : ℕ) (d e : List Entry) → own u (d ++ e) ≡ own u d ++ own u e
@@ -55,29 +57,29 @@ module _ {P : List ℕ → Type 0} where
   unfolding own entriesAfter
   not-after t u p none h = refl
   not-after t u p (track {x} {l} e d a) h =
-      rw (after-hit x l e t p, own-append, not-of (t + 1) u (x .body) (p + x .head) (λ z. omega arith)) (not-after (t + 1) u (p + size x) a (omega arith))
-  not-after t u p (other {x} {l} e a) h = rw (after-miss x l e t p) (not-after t u (p + size x) a h)
+      rw (after-hit x e l t p, own-append, not-of (t + 1) u (x .body) (p + x .head) (λ z. omega arith)) (not-after (t + 1) u (p + size x) a (omega arith))
+  not-after t u p (other {x} {l} e a) h = rw (after-miss x e l t p) (not-after t u (p + size x) a h)
 
   -- nor has a track that there is not
   pub not-there : (t u : ℕ) {l : List Box} (p : ℕ) → Each P l → t + count TRAK l < u → own u (entriesAfter t l p) ≡ []
   unfolding own entriesAfter
   not-there t u p none h = refl
   not-there t u p (track {x} {l} e d a) h =
-      let n = count-hit x l e in
-      rw (after-hit x l e t p, own-append, not-of (t + 1) u (x .body) (p + x .head) (λ z. omega arith)) (not-there (t + 1) u (p + size x) a (omega arith))
-  not-there t u p (other {x} {l} e a) h = rw (after-miss x l e t p) (not-there t u (p + size x) a (omega (arith, count-miss x l e)))
+      let n = count-hit TRAK x l e in
+      rw (after-hit x e l t p, own-append, not-of (t + 1) u (x .body) (p + x .head) (λ z. omega arith)) (not-there (t + 1) u (p + size x) a (omega arith))
+  not-there t u p (other {x} {l} e a) h = rw (after-miss x e l t p) (not-there t u (p + size x) a (omega (arith, count-miss TRAK x l e)))
 
   -- after t tracks, those of track n from there on
   pub own-after : (t n u : ℕ) {l : List Box} (p : ℕ) → Each P l → n < count TRAK l → u ≡ t + 1 + n → own u (entriesAfter t l p) ≡ entriesOf u (nth TRAK n l) (p + startIn TRAK n l)
-  unfolding count
+  unfolding count startIn
   own-after t n u p none h q = absurd (omega arith)
   own-after t zero u p (track {x} {l} e d a) h q =
       let z : u ≡ t + 1 = omega arith in
-      rw (z, after-hit x l e t p, nth-here x l e, start-here x l e, own-append, own-of, not-after (t + 1) (t + 1) (p + size x) a (omega arith)) (append-nil (entriesOf (t + 1) (x .body) (p + x .head)))
+      rw (z, after-hit x e l t p, nth-hit TRAK x l e, place-hit TRAK x l e (λ y. y .head), own-append, own-of, not-after (t + 1) (t + 1) (p + size x) a (omega arith)) (append-nil (entriesOf (t + 1) (x .body) (p + x .head)))
   own-after t (suc n) u p (track {x} {l} e d a) h q =
       let s : p + (size x + startIn TRAK n l) ≡ p + size x + startIn TRAK n l = omega arith in
-      rw (after-hit x l e t p, nth-next x l e, start-next x l e, own-append, not-of (t + 1) u (x .body) (p + x .head) (λ z. omega arith), s)
-      (own-after (t + 1) n u (p + size x) a (omega (arith, count-hit x l e)) (omega arith))
+      rw (after-hit x e l t p, nth-next TRAK x l e, place-next TRAK x l e (λ y. y .head), own-append, not-of (t + 1) u (x .body) (p + x .head) (λ z. omega arith), s)
+      (own-after (t + 1) n u (p + size x) a (omega (arith, count-hit TRAK x l e)) (omega arith))
   own-after t n u p (other {x} {l} e a) h q =
       let s : p + (size x + startIn TRAK n l) ≡ p + size x + startIn TRAK n l = omega arith in
-      rw (after-miss x l e t p, nth-miss x l e, start-miss x l e, s) (own-after t n u (p + size x) a (omega (arith, count-miss x l e)) q)
+      rw (after-miss x e l t p, nth-miss TRAK x l e, place-miss TRAK x l e (λ y. y .head), s) (own-after t n u (p + size x) a (omega (arith, count-miss TRAK x l e)) q)

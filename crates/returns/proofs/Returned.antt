@@ -14,13 +14,13 @@ use Rattle.boxes.specs.Containers.{FILE, parent, kindIn}
 use Rattle.boxes.specs.Seek.{find, startIn}
 use Rattle.boxes.proofs.Reading.{parts}
 use Rattle.boxes.proofs.Placing.{total-is}
+use Rattle.boxes.proofs.Lying.{bytes-lies, lies-found}
 use Rattle.shape.specs.Shape.{needed}
 use Rattle.shape.specs.Rules.{threeRule}
 use Rattle.shape.proofs.Shape.{shape-tracks}
 use Rattle.judge.specs.Acceptance.{Meets}
 use Rattle.movie.specs.Movie.{movie, tracks, track, table}
 use Rattle.movie.specs.Entries.{entriesOf, entries}
-use Rattle.movie.proofs.Lying.{bytes-lies, lies-found}
 use Rattle.movie.proofs.Naming.{lies-track}
 use Rattle.sheet.specs.Sheet.{SLOTS}
 use Rattle.sheet.specs.Reader.{sheetOf}

@@ -3,30 +3,25 @@ use Prim.Native.Nat.{ℕ, _+_, _^_, _<_}
 use native.Mathlib.Omega.{arith}
 use mathlib.Core.List.{List, _++_}
 use lib.ListN.{length, drop, length-append, length-drop}
-use Rattle.wire.specs.Codes.{MDIA, MINF, STBL, STSD}
+use Rattle.wire.specs.Codes.{STSD}
 use Rattle.wire.specs.Numbers.{Bytes}
 use Rattle.wire.proofs.Numbers.{bytes-drop}
 use Rattle.boxes.specs.Box.{Box, size, header}
-use Rattle.boxes.specs.Boxes.{boxes, total, FRONT}
-use Rattle.boxes.specs.Seek.{find, startIn}
+use Rattle.boxes.specs.Boxes.{total, FRONT}
 use Rattle.boxes.proofs.Whole.{Good, length-header}
 use Rattle.boxes.proofs.Reading.{All, Filled, parts}
 use Rattle.boxes.proofs.Reading.All.{none as no-box, some}
 use Rattle.boxes.proofs.Placing.{total-is}
-use Rattle.movie.specs.Movie.{mdia, minf, stbl, table}
+use Rattle.boxes.proofs.Lying.{bytes-lies}
+use Rattle.movie.specs.Movie.{table}
 use Rattle.movie.specs.Entries.{Entry, entriesStart, entriesFrom, entriesOf, entriesAfter}
-use Rattle.movie.proofs.Lying.{Lies, bytes-lies, lies-in, lies-found}
+use Rattle.movie.proofs.Boxed.{after-hit, after-miss}
+use Rattle.movie.proofs.Naming.{lies-stsd}
 use Rattle.table.proofs.RoundTrip.{Small, AllSmall}
 use Rattle.table.proofs.RoundTrip.AllSmall.{none as no-entry, more}
 use Rattle.returns.proofs.Track.{Described}
-use Rattle.returns.proofs.Standing.{lies-stbl}
-use Rattle.returns.proofs.Boxed.{Each, after-hit, after-miss}
+use Rattle.returns.proofs.Boxed.{Each}
 use Rattle.returns.proofs.Boxed.Each.{none, track, other}
-
--- the payload of the `stsd` of a track whose payload is b
-lies-stsd : (b : List ℕ) → Bytes b → Lies (table STSD b) b (startIn MDIA 0 (boxes b) + startIn MINF 0 (mdia b) + startIn STBL 0 (minf b) + startIn STSD 0 (stbl b))
-unfolding table
-lies-stsd b v = let s = lies-stbl b v in lies-in s (lies-found STSD 0 (find STBL (minf b)) (bytes-lies s v))
 
 pub bytes-stsd : (b : List ℕ) → Bytes b → Bytes (table STSD b)
 bytes-stsd b v = bytes-lies (lies-stsd b v) v
@@ -57,5 +52,5 @@ pub small-after : (t : ℕ) {l : List Box} (p : ℕ) → All Filled l → Each D
 unfolding entriesAfter total
 small-after t p no-box none h = no-entry
 small-after t p (some v f) (track {x} {l} e d a) h =
-    rw (after-hit x l e t p) (small-append (small-of (t + 1) (x .body) (p + x .head) v d (omega arith)) (small-after (t + 1) (p + size x) f a (omega arith)))
-small-after t p (some v f) (other {x} {l} e a) h = rw (after-miss x l e t p) (small-after t (p + size x) f a (omega arith))
+    rw (after-hit x e l t p) (small-append (small-of (t + 1) (x .body) (p + x .head) v d (omega arith)) (small-after (t + 1) (p + size x) f a (omega arith)))
+small-after t p (some v f) (other {x} {l} e a) h = rw (after-miss x e l t p) (small-after t (p + size x) f a (omega arith))

@@ -10,13 +10,15 @@ use Rattle.wire.proofs.Clauses.{is-le, holds, done}
 use Rattle.boxes.specs.Box.{Box, size}
 use Rattle.boxes.specs.Boxes.{boxes}
 use Rattle.boxes.specs.Seek.{count}
+use Rattle.boxes.proofs.Meaning.{count-hit, count-miss}
 use Rattle.movie.specs.Entries.{Entry, entriesStart, entriesFrom, entriesOf, entriesAfter}
 use Rattle.movie.specs.Named.{listIn}
 use Rattle.movie.proofs.Counting.{length-of}
+use Rattle.movie.proofs.Boxed.{after-hit, after-miss}
 use Rattle.table.specs.Form.{follows, steps, allMeet}
 use Rattle.returns.proofs.Alone.{meet-append}
 use Rattle.returns.proofs.Track.{Described}
-use Rattle.returns.proofs.Boxed.{Each, count-hit, count-miss, after-hit, after-miss}
+use Rattle.returns.proofs.Boxed.{Each}
 use Rattle.returns.proofs.Boxed.Each.{none, track, other}
 
 -- ---- one track
@@ -51,18 +53,18 @@ pub after-steps : (t : ℕ) {l : List Box} (p : ℕ) → Each Described l → t 
 unfolding entriesAfter steps entriesOf listIn
 after-steps t p none h = refl
 after-steps t p (track {x} {l} e d a) h =
-    rw (after-hit x l e t p)
-    (steps-next t (boxes (listIn (x .body))) (p + x .head + entriesStart (x .body)) (entriesAfter (t + 1) l (p + size x)) (omega (arith, count-hit x l e)) (some-of (t + 1) (x .body) (p + x .head) d) (after-steps (t + 1) (p + size x) a (omega (arith, count-hit x l e))))
-after-steps t p (other {x} {l} e a) h = rw (after-miss x l e t p) (after-steps t (p + size x) a (omega (arith, count-miss x l e)))
+    rw (after-hit x e l t p)
+    (steps-next t (boxes (listIn (x .body))) (p + x .head + entriesStart (x .body)) (entriesAfter (t + 1) l (p + size x)) (omega (arith, count-hit TRAK x l e)) (some-of (t + 1) (x .body) (p + x .head) d) (after-steps (t + 1) (p + size x) a (omega (arith, count-hit TRAK x l e))))
+after-steps t p (other {x} {l} e a) h = rw (after-miss x e l t p) (after-steps t (p + size x) a (omega (arith, count-miss TRAK x l e)))
 
 pub after-meet : (t : ℕ) {l : List Box} (p : ℕ) → Each Described l → allMeet (entriesAfter t l p) ≡ true
 unfolding entriesAfter allMeet
 after-meet t p none = refl
-after-meet t p (track {x} {l} e d a) = rw (after-hit x l e t p) (meet-append (entriesOf (t + 1) (x .body) (p + x .head)) _ (meet-of (t + 1) (x .body) (p + x .head) d) (after-meet (t + 1) (p + size x) a))
-after-meet t p (other {x} {l} e a) = rw (after-miss x l e t p) (after-meet t (p + size x) a)
+after-meet t p (track {x} {l} e d a) = rw (after-hit x e l t p) (meet-append (entriesOf (t + 1) (x .body) (p + x .head)) _ (meet-of (t + 1) (x .body) (p + x .head) d) (after-meet (t + 1) (p + size x) a))
+after-meet t p (other {x} {l} e a) = rw (after-miss x e l t p) (after-meet t (p + size x) a)
 
 pub after-some : (t : ℕ) {l : List Box} (p : ℕ) → Each Described l → 1 ≤ count TRAK l → 1 ≤ length (entriesAfter t l p)
 unfolding count
 after-some t p none h = absurd (omega arith)
-after-some t p (track {x} {l} e d a) h = rw (after-hit x l e t p, length-append) (omega (arith, some-of (t + 1) (x .body) (p + x .head) d))
-after-some t p (other {x} {l} e a) h = rw (after-miss x l e t p) (after-some t (p + size x) a (omega (arith, count-miss x l e)))
+after-some t p (track {x} {l} e d a) h = rw (after-hit x e l t p, length-append) (omega (arith, some-of (t + 1) (x .body) (p + x .head) d))
+after-some t p (other {x} {l} e a) h = rw (after-miss x e l t p) (after-some t (p + size x) a (omega (arith, count-miss TRAK x l e)))

@@ -11,9 +11,10 @@ use Rattle.wire.proofs.Numbers.{bytes-drop, bytes-word}
 use Rattle.boxes.specs.Box.{Box, size, header, write}
 use Rattle.boxes.specs.Boxes.{HEAD, boxes, after, FRONT}
 use Rattle.boxes.proofs.Reading.{write-boxes}
+use Rattle.boxes.proofs.Numbered.{count-any}
 use Rattle.lists.specs.Forms.{Listed}
 use Rattle.movie.specs.Entries.{entriesFrom}
-use Rattle.movie.proofs.Boxed.{count-any, length-from}
+use Rattle.movie.proofs.Boxed.{length-from}
 use Rattle.sheet.specs.Sheet.{bodies}
 use Rattle.table.specs.Table.{table}
 

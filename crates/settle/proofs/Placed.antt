@@ -14,6 +14,7 @@ use Rattle.boxes.specs.Box.{Box}
 use Rattle.boxes.specs.Boxes.{boxes}
 use Rattle.boxes.specs.Containers.{kindIn, parent}
 use Rattle.boxes.specs.Seek.{count, find}
+use Rattle.boxes.proofs.Every.{each-nth, found-each}
 use Rattle.boxes.proofs.Reading.{All}
 use Rattle.tables.specs.Tables.{Table}
 use Rattle.tables.specs.Tables as table
@@ -31,7 +32,6 @@ use Rattle.tracks.specs.Six.{tableOf, tableIn, sixRule, sixHolds}
 use Rattle.tracks.specs.Seven.{sevenIn, sevenHolds, sevenRule}
 use Rattle.tracks.specs.Eight.{eightIn, eightHolds, eightRule}
 use Rattle.settle.proofs.Each.{all-with, rule-node, rule-leaves}
-use Rattle.settle.proofs.One.{each-found, found-each}
 use Rattle.settle.proofs.Offsets.{agreeOn}
 
 -- rules 3, 6, 7 and 8 hold of a part of a file with the boxes l
@@ -54,7 +54,7 @@ module _ (l : List Box) (d : ℕ) (xs : List ℕ) (s : Chunked l (suc d) STBL xs
   formed : (c : ℕ) → (c ≡ 0 → ⊥) → kindIn STBL c ≡ 0 → count c (boxes xs) ≡ 1 → tableOf c (find c (boxes xs)) ≡ true
   unfolding tableIn
   formed c z o n =
-      each-found c z (λ b. tableOf c b ≡ true)
+      each-nth c z (λ b. tableOf c b ≡ true) 0 (boxes xs)
       (all-with (λ x e f h. ap (λ (a : ℕ). tableOf a (x .body)) (sym h) ∙ at-kind STBL STBL _ refl (e (ap (kindIn STBL) h ∙ o))) (rule-leaves sixRule d STBL xs (s .six)) (rule-leaves sixRule d STBL xs (s .six)))
       (omega (arith, n))
 

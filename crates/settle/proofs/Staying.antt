@@ -1,28 +1,19 @@
 -- An edit that keeps the length of every opaque box moves no payload, so that settling changes nothing. Assumes nothing.
 use Prim.Native.Nat.{ℕ, suc, _<_}
-use mathlib.Core.Path.{_≡_, refl, sym}
-use mathlib.Core.List.{List, [], _∷_, map}
+use mathlib.Core.Path.{_≡_}
+use mathlib.Core.List.{List}
 use lib.ListN.{length}
 use Rattle.wire.specs.Numbers.{Bytes}
-use Rattle.boxes.specs.Box.{Box}
 use Rattle.boxes.specs.Boxes.{boxes}
 use Rattle.boxes.specs.Containers.{FILE, DEPTH}
 use Rattle.boxes.specs.Kin.{All2}
-use Rattle.boxes.specs.Kin.All2.{nil, cons}
-use Rattle.boxes.specs.Rewrite.{Bodies, Leaves, over, editBox, editIn}
-use Rattle.boxes.proofs.Kin.{all2-refl}
+use Rattle.boxes.specs.Rewrite.{Bodies, Leaves, editBox, editIn}
 use Rattle.boxes.proofs.Rewriting.{boxes-over, length-over}
 use Rattle.boxes.proofs.Editing.{box-length, edit-bytes}
 use Rattle.media.specs.Relocate.{Alike}
+use Rattle.media.proofs.Staying.{alike-over}
 use Rattle.settle.specs.Settle.{settled}
 use Rattle.settle.proofs.Settled.{settled-same}
-
-pub alike-refl : (l : List Box) → All2 Alike l l
-alike-refl = all2-refl (λ x. record { head = refl; code = refl; long = refl })
-
-alike-over : (f : Bodies) → ((c : ℕ) (b : List ℕ) → length (f c b) ≡ length b) → (l : List Box) → All2 Alike l (map (over f) l)
-alike-over f keeps [] = nil
-alike-over f keeps (x ∷ l) = cons (record { head = refl; code = refl; long = sym (keeps (x .code) (x .body)) }) (alike-over f keeps l)
 
 module _ (g : Leaves) (keeps : (k c : ℕ) (b : List ℕ) → length (g k c b) ≡ length b) where
   pub alike-edit : (d k : ℕ) (xs : List ℕ) → Bytes xs → length xs < 4294967296 → All2 Alike (boxes xs) (boxes (editIn g (suc d) k xs))

@@ -12,7 +12,7 @@ use Rattle.boxes.specs.Box.{Box}
 use Rattle.boxes.specs.Boxes.{boxes, after}
 use Rattle.boxes.specs.Containers.{kindIn}
 use Rattle.boxes.specs.Seek.{ANY, meant, byNumber, nth}
-use Rattle.boxes.proofs.Seeking.{meant-is, meant-most}
+use Rattle.boxes.proofs.Meaning.{meant-is, meant-most}
 use Rattle.verdict.specs.Rule.{Rule, allList, allBox, allIn}
 
 -- ---- what holds of every box holds of what is found

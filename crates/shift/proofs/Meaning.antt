@@ -1,30 +1,28 @@
 -- What code writes by a zone is what is meant by minutes. Assumes nothing.
-use Prim.Native.Nat.{ℕ, _+_, _-_, _≤_, _<_}
+use Prim.Native.Nat.{ℕ, _+_, _-_, _<_}
 use native.Mathlib.Omega.{arith}
-use mathlib.Core.Path.{_≡_, refl, sym, ap, _∙_}
+use mathlib.Core.Path.{_≡_, refl, sym, _∙_}
 use mathlib.Core.Bool.{Bool, true, false}
-use mathlib.Core.List.{List, _++_}
+use mathlib.Core.List.{List}
 use lib.Dec.{eqb}
 use lib.IntN.{ℤ}
-use lib.ListN.{length, drop}
+use lib.ListN.{length}
 use borrow.Author.Tests.{eqb-true, eqb-false}
 use Rattle.wire.specs.Tests.{pick, ifEq}
 use Rattle.wire.specs.Codes.{MOOV, MVHD, TRAK, TKHD, MDIA, MDHD}
 use Rattle.wire.specs.Numbers.{Bytes}
-use Rattle.wire.proofs.Tests.{eq-yea, eq-nay}
-use Rattle.wire.proofs.Clauses.{fails, holds, done}
 use Rattle.boxes.specs.Boxes.{boxes}
-use Rattle.boxes.specs.Box.{Box}
-use Rattle.boxes.specs.Kin.{All2, nil, cons}
+use Rattle.boxes.specs.Kin.{All2}
 use Rattle.boxes.specs.Words.{moved}
 use Rattle.boxes.proofs.Wording.{moved-low, moved-high}
 use Rattle.media.specs.Relocate.{Alike}
+use Rattle.media.proofs.Staying.{alike-then}
 use Rattle.clocks.specs.declared.Zone.{Zone}
-use Rattle.clocks.specs.Clocks.{zoneFine, zoneOf, shiftTime, mayShift}
+use Rattle.clocks.specs.Clocks.{zoneOf, shiftTime, mayShift}
 use Rattle.clocks.specs.Zones.{leaves}
 use Rattle.clocks.proofs.Whole.{shift-is, may-is}
-use Rattle.settle.proofs.Settled.{settled-same, settled-length}
-use Rattle.shift.specs.Shift.{times, timesBy, allTimesBy, allTimes, shiftOf}
+use Rattle.settle.proofs.Settled.{settled-same}
+use Rattle.shift.specs.Shift.{times, timesBy, allTimesBy, shiftOf}
 use Rattle.shift.specs.Amount.{byZone, zoneText}
 use Rattle.shift.proofs.Passing.{times-length, times-bytes, times-alike}
 
@@ -47,10 +45,6 @@ pub leaves-are : (z : ℤ) → leaves (zoneOf z) ≡ mayShift z
 leaves-are z = ext _ _ (λ t. sym (may-is z t))
 
 -- ---- nothing moves
-
-alike-then : {l m n : List Box} → All2 Alike l m → All2 Alike m n → All2 Alike l n
-alike-then nil nil = nil
-alike-then (cons r a) (cons s b) = cons (record { head = r .head ∙ s .head; code = r .code ∙ s .code; long = r .long ∙ s .long }) (alike-then a b)
 
 module _ (f : ℕ → ℕ) (xs : List ℕ) (v : Bytes xs) (h : length xs < 4294967296) where
   all-alike : All2 Alike (boxes xs) (boxes (allTimesBy f xs))

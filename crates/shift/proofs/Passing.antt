@@ -1,29 +1,25 @@
 -- The times of one kind of header, rewritten in place. Assumes nothing.
-use Prim.Native.Nat.{ℕ, _+_, _<_}
+use Prim.Native.Nat.{ℕ, _<_}
 use native.Mathlib.Omega.{arith}
-use mathlib.Core.Path.{_≡_, refl, sym, ap, _∙_}
-use mathlib.Core.List.{List, [], _∷_, _++_, map}
+use mathlib.Core.Path.{_≡_, sym, _∙_}
+use mathlib.Core.List.{List, _++_}
 use lib.ListN.{length, take, drop}
 use lib.Seq.{take-append-seam, drop-append-seam}
 use Rattle.wire.specs.Codes.{MOOV, MVHD, TRAK, TKHD, MDIA, MDHD}
 use Rattle.wire.specs.Numbers.{Bytes}
 use Rattle.wire.specs.Writing.{Wrote}
 use Rattle.boxes.specs.declared.words.Target.{Target}
-use Rattle.boxes.specs.Box.{Box}
 use Rattle.boxes.specs.Boxes.{boxes}
 use Rattle.boxes.specs.Containers.{FILE, DEPTH}
-use Rattle.boxes.specs.Kin.{All2, nil, cons}
-use Rattle.boxes.specs.Rewrite.{Bodies, over, overBoxes, editBox, editIn}
+use Rattle.boxes.specs.Kin.{All2}
+use Rattle.boxes.specs.Rewrite.{Bodies, overBoxes, editBox, editIn}
 use Rattle.boxes.specs.Words.{rewordLeaf}
 use Rattle.boxes.proofs.Editing.{edit-length, edit-bytes, edit-deep, box-length}
 use Rattle.boxes.proofs.Rewriting.{boxes-over, length-over}
 use Rattle.boxes.proofs.Wording.{leaf-length, leaf-bytes}
 use Rattle.media.specs.Relocate.{Alike}
+use Rattle.media.proofs.Staying.{alike-over}
 use Rattle.shift.specs.Shift.{times, timesBy, allTimesBy}
-
-over-alike : (f : Bodies) → ((c : ℕ) (b : List ℕ) → length (f c b) ≡ length b) → (l : List Box) → All2 Alike l (map (over f) l)
-over-alike f h [] = nil
-over-alike f h (x ∷ l) = cons (record { head = refl; code = refl; long = sym (h (x .code) (x .body)) }) (over-alike f h l)
 
 module _ (t : Target) (f : ℕ → ℕ) where
   pub times-length : (xs : List ℕ) → length (timesBy t f xs) ≡ length xs
@@ -38,7 +34,7 @@ module _ (t : Target) (f : ℕ → ℕ) where
       let g : Bodies = editBox (rewordLeaf t f) (editIn (rewordLeaf t f) 5) FILE in
       let k : (c : ℕ) (b : List ℕ) → length (g c b) ≡ length b = box-length (rewordLeaf t f) (leaf-length t f) 5 FILE in
       let e : overBoxes g xs ≡ timesBy t f xs = edit-deep (rewordLeaf t f) DEPTH FILE xs (λ z. omega arith) in
-      rw (← e, boxes-over g xs v (omega (arith, length-over g k xs))) (over-alike g k (boxes xs))
+      rw (← e, boxes-over g xs v (omega (arith, length-over g k xs))) (alike-over g k (boxes xs))
 
   -- in the front of a lent buffer
   pub pass : (xs rest : List ℕ) {n : ℕ} {out after : List ℕ} → out ≡ xs ++ rest → n ≡ length xs → after ≡ timesBy t f (take n out) ++ drop n out → after ≡ timesBy t f xs ++ rest

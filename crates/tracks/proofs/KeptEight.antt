@@ -3,9 +3,8 @@ use Prim.Native.Nat.{ℕ, suc}
 use native.Mathlib.Omega.{arith}
 use mathlib.Core.Path.{_≡_, refl, _∙_}
 use mathlib.Core.Bool.{Bool, true, false}
-use mathlib.Core.List.{List, []}
-use Rattle.wire.specs.Tests.{pick, ifEq, ifLe}
-use Rattle.wire.specs.Numbers.{word}
+use mathlib.Core.List.{List}
+use Rattle.wire.specs.Tests.{pick, ifEq}
 use Rattle.wire.specs.Codes.{STBL, STSC, STSZ, STCO}
 use Rattle.boxes.specs.Box.{Box}
 use Rattle.boxes.specs.Boxes.{boxes}
@@ -18,6 +17,7 @@ use Rattle.boxes.proofs.Kin.{kin-find}
 use Rattle.media.specs.Payloads.{mdats}
 use Rattle.media.specs.Relocate.{Relocated}
 use Rattle.media.proofs.Keeping.{eight-kept}
+use Rattle.media.proofs.Staying.{relocated-none}
 use Rattle.verdict.specs.declared.Verdict.the-variants.{Fine}
 use Rattle.verdict.specs.Verdict.{isFine}
 use Rattle.verdict.specs.Rule.{allIn, Says}
@@ -31,11 +31,6 @@ use Rattle.tracks.proofs.Kept.{Tables, same-table, six-kept, seven-kept
 pub eight-says : (l : List Box) → Says (eight l) (eightRule l)
 unfolding eightAt eightIn
 eight-says l = record { leaf = λ k c b p q. refl; node = λ k xs home p. through isFine k STBL _ Fine ∙ rw unless-fine; end = λ xs p. refl }
-
--- a table that is missing of both has no offsets
-relocated-none : (l m : List Box) → Relocated l m [] []
-unfolding word ifLe
-relocated-none l m = record { same = refl; offsets = λ k h. absurd (omega arith) }
 
 -- what is read only where two tests hold
 read-kept : (s t a b : Bool) → (a ≡ true → b ≡ true) → pick s (pick t a true) true ≡ true → pick s (pick t b true) true ≡ true

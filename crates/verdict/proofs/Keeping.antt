@@ -2,13 +2,13 @@
 use Prim.Native.Nat.{ℕ, zero, suc}
 use mathlib.Core.Path.{_≡_, refl, sym, ap, subst, _∙_}
 use mathlib.Core.Bool.{Bool, true, false}
-use mathlib.Core.List.{List, [], _∷_}
+use mathlib.Core.List.{List}
 use lib.Dec.{eqb}
 use borrow.Author.Tests.{eqb-true, eqb-false}
 use Rattle.wire.specs.Tests.{pick, ifEq}
-use Rattle.wire.proofs.Tests.{both}
+use Rattle.wire.proofs.Tests.{both, if-kept}
 use Rattle.boxes.specs.Box.{Box}
-use Rattle.boxes.specs.Boxes.{boxes, after}
+use Rattle.boxes.specs.Boxes.{after}
 use Rattle.boxes.specs.Containers.{kindIn}
 use Rattle.boxes.specs.Kin.{All2, Leaf, KinBox, Kin}
 use Rattle.boxes.specs.Kin.All2.{nil, cons}
@@ -46,9 +46,4 @@ module _ (r s : Rule) (G : Leaf)
 -- a rule of one kind of container
 pub kept-at : (G : Leaf) (K : ℕ) (f g : List ℕ → Bool) (d k : ℕ) (xs ys : List ℕ) → (Kin G (suc d) K xs ys → f xs ≡ true → g ys ≡ true)
     → Kin G (suc d) k xs ys → ifEq k K (f xs) true ≡ true → ifEq k K (g ys) true ≡ true
-unfolding ifEq
-kept-at G K f g d k xs ys h a = go (eqb k K) refl
-  where
-    go : (t : Bool) → eqb k K ≡ t → pick t (f xs) true ≡ true → pick t (g ys) true ≡ true
-    go true e q = h (subst (λ (j : ℕ). Kin G (suc d) j xs ys) (eqb-true k K e) a) q
-    go false e q = refl
+kept-at G K f g d k xs ys h a = if-kept k K (f xs) (g ys) true true (λ e. h (subst (λ (j : ℕ). Kin G (suc d) j xs ys) e a)) (λ q. q)

@@ -1,15 +1,15 @@
 -- The loop over the boxes of a container: the same for every rule. Assumes nothing.
 use Prim.Native.Nat.{ℕ, _+_, _≤_}
 use native.Mathlib.Omega.{arith}
-use mathlib.Core.Path.{_≡_, refl, sym, ap, _∙_}
-use mathlib.Core.List.{List, [], _∷_}
+use mathlib.Core.Path.{_≡_, sym, ap, _∙_}
+use mathlib.Core.List.{List}
 use lib.ListN.{length, drop}
 use Rattle.boxes.specs.declared.walk.Walk.{Walk}
 use Rattle.boxes.specs.declared.walk.BoxAt.{BoxAt}
-use Rattle.boxes.specs.Box.{Box, size}
+use Rattle.boxes.specs.Box.{Box}
 use Rattle.boxes.specs.Boxes.{boxes}
-use Rattle.boxes.specs.Walk.{payload, boxAt, Ran, Over}
-use Rattle.boxes.proofs.Seeking.{length-payload}
+use Rattle.boxes.specs.Walk.{boxAt, Ran, Over}
+use Rattle.boxes.proofs.Seeking.{ran-next}
 use Rattle.verdict.specs.declared.Verdict.{Verdict}
 use Rattle.verdict.specs.Verdict.{sooner}
 use Rattle.verdict.specs.Judge.{judgeList}
@@ -28,9 +28,8 @@ module _ (f : Box → ℕ → Verdict) (e : ℕ → Verdict) (xs : List ℕ) (ba
     pub found-more : {b : BoxAt} {w : Walk} → Ran xs at b w → {v : Verdict} → v ≡ f (boxAt xs b) (base + b .at) → {u : Verdict} → u ≡ sooner found v → Found f e xs base whole u (w .at)
     unfolding judgeList
     found-more {b} {w} s {v} q {u} r =
-        let n : base + at + size (boxAt xs b) ≡ base + w .at = omega (arith, length-payload s, s .next, s .least, s .start) in
         let h : base + at ≡ base + b .at = omega (arith, s .start) in
-        let l : judgeList f e (boxes (drop at xs)) (base + at) ≡ sooner v (judgeList f e (boxes (drop (w .at) xs)) (base + w .at)) = rw (s .list, n, q) (ap (λ (p : ℕ). sooner (f (boxAt xs b) p) (judgeList f e (boxes (drop (w .at) xs)) (base + w .at))) h) in
+        let l : judgeList f e (boxes (drop at xs)) (base + at) ≡ sooner v (judgeList f e (boxes (drop (w .at) xs)) (base + w .at)) = rw (s .list, ran-next s base, q) (ap (λ (p : ℕ). sooner (f (boxAt xs b) p) (judgeList f e (boxes (drop (w .at) xs)) (base + w .at))) h) in
         record {
           is = i .is ∙ rw (l, r) (sym (sooner-then found v (judgeList f e (boxes (drop (w .at) xs)) (base + w .at))));
           inside = omega (arith, s .next, s .inside);

@@ -1,9 +1,9 @@
 -- A test's two ways, each in the direction of a need: the result is the choice.
 use Prim.Native.Nat.{ℕ, _≤_, _<_}
-use mathlib.Core.Path.{_≡_, refl, sym, ap, subst, _∙_}
+use mathlib.Core.Path.{_≡_, refl, sym, subst}
 use mathlib.Core.Bool.{Bool, true, false}
-use lib.Dec.{T}
-use borrow.Author.Tests.{le-ltb, lt-ltb, le-leb, lt-leb, eq-eqb, ne-eqb}
+use lib.Dec.{T, eqb}
+use borrow.Author.Tests.{le-ltb, lt-ltb, le-leb, lt-leb, eq-eqb, ne-eqb, eqb-true}
 use Rattle.wire.specs.Tests.{pick, ifEq, ifLt, ifLe}
 
 pub eq-yea : {A : Type 0} (m n : ℕ) (a b r : A) → m ≡ n → r ≡ a → r ≡ ifEq m n a b
@@ -34,3 +34,12 @@ le-nay m n a b r h g = rw (lt-leb m n h) g
 pub both : (s t : Bool) → pick s t false ≡ true → (s ≡ true) × (t ≡ true)
 both true t e = (refl, e)
 both false t e = absurd (subst T (sym e) tt)
+
+-- a test that is asked where m is n, and one that is asked elsewhere
+pub if-kept : (m n : ℕ) (s s′ t t′ : Bool) → (m ≡ n → s ≡ true → s′ ≡ true) → (t ≡ true → t′ ≡ true) → ifEq m n s t ≡ true → ifEq m n s′ t′ ≡ true
+unfolding ifEq
+if-kept m n s s′ t t′ h g = go (eqb m n) refl
+  where
+    go : (e : Bool) → eqb m n ≡ e → pick e s t ≡ true → pick e s′ t′ ≡ true
+    go true e = h (eqb-true m n e)
+    go false e = g

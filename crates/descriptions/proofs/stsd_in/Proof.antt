@@ -1,9 +1,9 @@
 use borrow.Author.Needs.{needs}
-use Rattle.boxes.proofs.Placing.{found-short}
 use Rattle.descriptions.proofs.Entry.{stsd-is}
 use native.Mathlib.Omega.{arith}
 use Rattle.descriptions.proofs.stsd_in.Statement.{statement}
 use Rattle.descriptions.proofs.stsd_in.Tie as tie
+use Rattle.boxes.proofs.Numbered.{found-short}
 
 pub stsd-in-spec : {M : Type 1} → statement M
 stsd-in-spec = tie.close (tie.spec

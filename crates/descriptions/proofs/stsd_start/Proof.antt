@@ -1,9 +1,9 @@
 use borrow.Author.Needs.{needs}
-use Rattle.boxes.proofs.Placing.{found-short}
 use Rattle.descriptions.proofs.Entry.{start-is}
 use native.Mathlib.Omega.{arith}
 use Rattle.descriptions.proofs.stsd_start.Statement.{statement}
 use Rattle.descriptions.proofs.stsd_start.Tie as tie
+use Rattle.boxes.proofs.Numbered.{found-short}
 
 pub stsd-start-spec : {M : Type 1} → statement M
 stsd-start-spec = tie.close (tie.spec

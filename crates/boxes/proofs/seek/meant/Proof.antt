@@ -1,8 +1,7 @@
-use borrow.Author.Needs.{needs}
-use Rattle.boxes.proofs.Seeking.{meant-any, meant-yes, meant-no}
 use native.Mathlib.Omega.{arith}
 use Rattle.boxes.proofs.seek.meant.Statement.{statement}
 use Rattle.boxes.proofs.seek.meant.Tie as tie
+use Rattle.boxes.proofs.Meaning.{meant-any, meant-yes, meant-no}
 
 pub meant-spec : {M : Type 1} → statement M
 meant-spec = tie.close (tie.spec

@@ -1,9 +1,9 @@
 use borrow.Author.Needs.{needs}
-use Rattle.boxes.proofs.Seeking.{cut-as, none-as, cut-payload, nth-none}
 use mathlib.Core.Path.{_∙_}
-use native.Mathlib.Omega.{arith}
 use Rattle.boxes.proofs.seek.payload.Statement.{statement}
 use Rattle.boxes.proofs.seek.payload.Tie as tie
+use Rattle.boxes.proofs.Numbered.{nth-none}
+use Rattle.boxes.proofs.Cutting.{cut-as, none-as, cut-payload}
 
 pub payload-spec : {M : Type 1} → statement M
 payload-spec = tie.close (tie.spec

@@ -1,8 +1,8 @@
 use borrow.Author.Needs.{needs}
 use Rattle.boxes.proofs.Placing.{place-at, place-none}
-use Rattle.boxes.proofs.Seeking.{cut-as, none-as}
 use Rattle.boxes.proofs.seek.place.Statement.{statement}
 use Rattle.boxes.proofs.seek.place.Tie as tie
+use Rattle.boxes.proofs.Cutting.{cut-as, none-as}
 
 pub place-spec : {M : Type 1} → statement M
 place-spec = tie.close (tie.spec

@@ -1,9 +1,9 @@
 use borrow.Author.Needs.{needs}
 use Rattle.boxes.proofs.Placing.{start-at, start-none}
-use Rattle.boxes.proofs.Seeking.{cut-as, none-as}
 use native.Mathlib.Omega.{arith}
 use Rattle.boxes.proofs.seek.start.Statement.{statement}
 use Rattle.boxes.proofs.seek.start.Tie as tie
+use Rattle.boxes.proofs.Cutting.{cut-as, none-as}
 
 pub start-spec : {M : Type 1} → statement M
 start-spec = tie.close (tie.spec

@@ -1,7 +1,6 @@
 -- The cycle of calls {put_around, put_box, put_turn, put_way}. With n turns left the measures are 4n + 2, 4n + 1, 4n + 3 and 4n.
 use Prim.Native.Nat.{ℕ, _+_, _-_, _*_, _<_}
 use Rattle.boxes.proofs.Putting.{take-size, around-room, around-end, around-put, turn-room, way-put}
-use Rattle.boxes.proofs.Seeking.{cut-as, none-as}
 use Rattle.boxes.proofs.Turning.{pen-box, nth-at, nth-missing, way-end, way-length}
 use Rattle.boxes.specs.Way.{tailBy, editWay}
 use Rattle.wire.proofs.Writing.{pen-is}
@@ -31,6 +30,7 @@ use Rattle.wire.proofs.number.least.Reads as least-reads
 use Rattle.wire.proofs.pen.put_part.Reads as put-part-reads
 use Rattle.boxes.proofs.way.+put_around+put_box+put_turn+put_way.{statement}
 use Rattle.boxes.proofs.way.+put_around+put_box+put_turn+put_way.Tie.{close}
+use Rattle.boxes.proofs.Cutting.{cut-as, none-as}
 
 abbrev μ-put-around : Measures 3 put-around-kinds.ps ℕ
 μ-put-around κs a = 4 * (7 - a .1 .1 .1 .1 .1 .0) + 2

@@ -1,8 +1,8 @@
 use borrow.Author.Needs.{needs}
-use Rattle.boxes.proofs.Seeking.{cut-as, none-as}
 use Rattle.brands.proofs.Holding.{second-is, second-none}
 use Rattle.brands.proofs.conditions.second.Statement.{statement}
 use Rattle.brands.proofs.conditions.second.Tie as tie
+use Rattle.boxes.proofs.Cutting.{cut-as, none-as}
 
 pub second-spec : {M : Type 1} → statement M
 second-spec = tie.close (tie.spec

@@ -1,9 +1,9 @@
 use borrow.Author.Needs.{needs}
 use Rattle.headers.proofs.Fresh.{place-is}
 use native.Mathlib.Omega.{arith}
-use Rattle.boxes.proofs.Placing.{found-short}
 use Rattle.headers.proofs.identities.tkhd_place.Statement.{statement}
 use Rattle.headers.proofs.identities.tkhd_place.Tie as tie
+use Rattle.boxes.proofs.Numbered.{found-short}
 
 pub tkhd-place-spec : {M : Type 1} → statement M
 tkhd-place-spec = tie.close (tie.spec

@@ -1,7 +1,6 @@
 -- The cycle of calls {broken}. The measure is the number of codes that are left.
 use borrow.Author.Needs.{needs}
 use Prim.Native.Nat.{ℕ, _-_, _<_}
-use Rattle.boxes.proofs.Seeking.{cut-as, none-as}
 use Rattle.lists.proofs.Inner.{payload-room}
 use Rattle.lists.proofs.Totals.{broken-end, broken-none, broken-more}
 use lib.ListN.{length}
@@ -13,6 +12,7 @@ use Rattle.lists.proofs.total.broken.Kinds as broken-kinds
 use Rattle.lists.proofs.total.+broken.Lts-broken as broken-lts
 use Rattle.boxes.proofs.seek.nth.Reads as nth-reads
 use Rattle.boxes.proofs.walk.body.Reads as body-reads
+use Rattle.boxes.proofs.Cutting.{cut-as, none-as}
 use Rattle.lists.proofs.total.+broken.{statement}
 use Rattle.lists.proofs.total.+broken.Tie.{close}
 

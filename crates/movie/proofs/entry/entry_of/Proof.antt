@@ -1,9 +1,9 @@
 use borrow.Author.Needs.{needs}
-use Rattle.boxes.proofs.Seeking.{cut-as}
 use Rattle.movie.proofs.Asking.{placed-at, placed-none}
 use native.Mathlib.Omega.{arith}
 use Rattle.movie.proofs.entry.entry_of.Statement.{statement}
 use Rattle.movie.proofs.entry.entry_of.Tie as tie
+use Rattle.boxes.proofs.Cutting.{cut-as}
 
 pub entry-of-spec : {M : Type 1} → statement M
 entry-of-spec = tie.close (tie.spec

@@ -1,9 +1,9 @@
 use borrow.Author.Needs.{needs}
-use Rattle.boxes.proofs.Placing.{found-short}
 use Rattle.movie.proofs.Asking.{list-start-is}
 use native.Mathlib.Omega.{arith}
 use Rattle.movie.proofs.entry.list_start.Statement.{statement}
 use Rattle.movie.proofs.entry.list_start.Tie as tie
+use Rattle.boxes.proofs.Numbered.{found-short}
 
 pub list-start-spec : {M : Type 1} → statement M
 list-start-spec = tie.close (tie.spec

@@ -1,8 +1,8 @@
 use borrow.Author.Needs.{needs}
-use Rattle.boxes.proofs.Seeking.{meant-yes, meant-no}
 use native.Mathlib.Omega.{arith}
 use Rattle.movie.proofs.entry.one_track.Statement.{statement}
 use Rattle.movie.proofs.entry.one_track.Tie as tie
+use Rattle.boxes.proofs.Meaning.{meant-yes, meant-no}
 
 pub one-track-spec : {M : Type 1} → statement M
 one-track-spec = tie.close (tie.spec

@@ -1,9 +1,9 @@
 use borrow.Author.Needs.{needs}
-use Rattle.boxes.proofs.Seeking.{cut-as, none-as}
 use Rattle.settle.proofs.Accepted.{one-moov}
 use native.Mathlib.Omega.{arith}
 use Rattle.replace.proofs.write.replaced.Statement.{statement}
 use Rattle.replace.proofs.write.replaced.Tie as tie
+use Rattle.boxes.proofs.Cutting.{cut-as, none-as}
 
 pub replaced-spec : {M : Type 1} → statement M
 replaced-spec = tie.close (tie.spec

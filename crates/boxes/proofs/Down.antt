@@ -1,21 +1,24 @@
--- A rewriting of one opaque box, by the way to it, leaves all other opaque boxes as they were. Assumes nothing.
-use Prim.Native.Nat.{ℕ, suc, _<_}
+-- A rewriting of one opaque box, by the way to it: its body is rewritten, and all other opaque boxes are as they were. Assumes nothing.
+use Prim.Native.Nat.{ℕ, suc, _≤_, _<_}
+use native.Mathlib.Omega.{arith}
 use mathlib.Core.Path.{_≡_, refl, sym, ap, subst, _∙_}
 use mathlib.Core.List.{List, [], _∷_}
 use mathlib.Core.Logic.{_⊎_, inl, inr}
 use lib.ListN.{length, take, drop}
 use Rattle.wire.specs.Numbers.{Bytes}
 use Rattle.wire.proofs.Numbers.{bytes-append, bytes-take, bytes-drop}
 use Rattle.boxes.specs.declared.way.Turn.{Turn}
 use Rattle.boxes.specs.Box.{Box}
 use Rattle.boxes.specs.Boxes.{boxes}
 use Rattle.boxes.specs.Containers.{kindIn}
 use Rattle.boxes.specs.Seek.{ANY, nth}
 use Rattle.boxes.specs.Way.{overNth, overTurn, editWay}
 use Rattle.boxes.specs.Kin.{KinBox, Kin}
 use Rattle.boxes.proofs.Kin.{kin-refl}
-use Rattle.boxes.proofs.Seeking.{meant-is}
-use Rattle.replace.proofs.Nth.{over-level, bytes-nth}
+use Rattle.boxes.proofs.Meaning.{meant-is}
+use Rattle.boxes.proofs.Numbered.{nth-there, found-short}
+use Rattle.boxes.proofs.OneOfPart.{over-level, bytes-nth, nth-here}
+use Rattle.boxes.proofs.Lying.{bytes-lies, lies-found}
 
 -- ---- a way down containers
 
@@ -41,7 +44,7 @@ module _ (h : List ℕ → List ℕ) (hb : (b : List ℕ) → Bytes b → Bytes 
   way-bytes [] xs v = hb xs v
   way-bytes (t ∷ w) xs v =
       bytes-append (take (t .skip) xs) (overNth (t .code) (t .nth) (editWay w h) (drop (t .skip) xs)) (bytes-take (t .skip) xs v)
-      (bytes-nth (t .code) (t .nth) (editWay w h) (λ b u. way-bytes w b u) (drop (t .skip) xs) (bytes-drop (t .skip) xs v))
+      (bytes-nth (t .code) (t .nth) (editWay w h) (drop (t .skip) xs) (bytes-drop (t .skip) xs v) (λ b u. way-bytes w b u))
 
   same-box : (k′ c′ : ℕ) (b₀ b₁ : List ℕ) (d k : ℕ) (x : Box) → KinBox (Once k′ c′ b₀ b₁) (λ j us vs. Kin (Once k′ c′ b₀ b₁) d j us vs) k x x
   same-box k′ c′ b₀ b₁ d k x = record { head = refl; code = refl; leaf = λ e. inl refl; node = λ e. kin-refl (Once k′ c′ b₀ b₁) (λ j c b. inl refl) d (kindIn k (x .code)) (x .body) }
@@ -65,3 +68,21 @@ module _ (h : List ℕ → List ℕ) (hb : (b : List ℕ) → Bytes b → Bytes 
             subst (λ (j : ℕ). Kin (Once k′ c′ (endOf w (nth c n (boxes xs))) (h (endOf w (nth c n (boxes xs))))) d (kindIn k j) (x .body) (editWay w h (x .body))) (sym i)
             (subst (λ (b : List ℕ). Kin (Once k′ c′ (endOf w b) (h (endOf w b))) d (kindIn k c) (x .body) (editWay w h (x .body))) f (kin-way a (x .body) u m));
       })
+
+-- ---- the body at its end
+
+-- nothing stands in nothing
+end-nothing : {d k : ℕ} {w : List Turn} {k′ c′ : ℕ} → Down d k w k′ c′ → endOf w [] ≡ []
+unfolding endOf boxes nth
+end-nothing (last d k c n z e) = refl
+end-nothing (into d k c n z e a) = end-nothing a
+
+module _ (h : List ℕ → List ℕ) where
+  -- a way to a body that isn't empty leads through boxes that are there, and the body is rewritten
+  pub end-by : {d k : ℕ} {w : List Turn} {k′ c′ : ℕ} → Down d k w k′ c′ → (xs : List ℕ) → Bytes xs → length (editWay w h xs) < 4294967296 → 1 ≤ length (endOf w xs) → endOf w (editWay w h xs) ≡ h (endOf w xs)
+  unfolding editWay overTurn endOf
+  end-by (last d k c n z e) xs v s l = nth-here c n h xs v s (nth-there c n (boxes xs) (λ q. let m = ap length q in omega arith))
+  end-by (into d k c n {w} z e a) xs v s l =
+      let p = nth-there c n (boxes xs) (λ q. let m = ap length (ap (endOf w) q ∙ end-nothing a) in omega arith) in
+      let q = nth-here c n (editWay w h) xs v s p in
+      ap (endOf w) q ∙ end-by a (nth c n (boxes xs)) (bytes-lies (lies-found c n xs v) v) (omega (arith, found-short c n (overNth c n (editWay w h) xs) (sym q))) l

@@ -1,0 +1,61 @@
+-- What holds of every box of a list. Assumes nothing.
+use Prim.Native.Nat.{ℕ, _≤_, _<_}
+use native.Mathlib.Omega.{arith}
+use mathlib.Core.Path.{_≡_}
+use mathlib.Core.List.{List, [], _∷_, _++_}
+use Rattle.boxes.specs.Box.{Box}
+use Rattle.boxes.specs.Seek.{ANY, count, nth, find}
+use Rattle.boxes.proofs.Reading.{All}
+use Rattle.boxes.proofs.Reading.All.{none, some}
+use Rattle.boxes.proofs.Meaning.{meant-yes, meant-is, meant-or, nth-hit, nth-next, nth-miss}
+use Rattle.boxes.proofs.Numbered.{by-number}
+
+-- ---- parts of a list
+
+module _ {P : Box → Type 0} where
+  pub all-head : {x : Box} {l : List Box} → All P (x ∷ l) → P x
+  all-head (some h a) = h
+
+  pub all-tail : {x : Box} {l : List Box} → All P (x ∷ l) → All P l
+  all-tail (some h a) = a
+
+  pub all-left : (p q : List Box) → All P (p ++ q) → All P p
+  all-left [] q a = none
+  all-left (x ∷ p) q (some h a) = some h (all-left p q a)
+
+  -- one box before the others
+  pub all-front : (p : List Box) (x : Box) (q : List Box) → All P (p ++ x ∷ q) → All P (x ∷ (p ++ q))
+  all-front [] x q a = a
+  all-front (y ∷ p) x q (some h a) = let b = all-front p x q a in some (all-head b) (some h (all-tail b))
+
+-- ---- the boxes of a code
+
+module _ (c : ℕ) (z : c ≡ ANY → ⊥) (P : List ℕ → Type 0) where
+  -- what holds of every one holds of the n-th
+  pub each-nth : (n : ℕ) (l : List Box) → All (λ x. x .code ≡ c → P (x .body)) l → n < count c l → P (nth c n l)
+  unfolding count
+  each-nth =
+      by-number c (λ n l. All (λ x. x .code ≡ c → P (x .body)) l → n < count c l → P (nth c n l))
+      (λ n a h. absurd (omega arith))
+      (λ n x l e ih a h. rw (nth-miss c x l e n) (ih (all-tail a) (omega arith)))
+      (λ x l e a h. rw (nth-hit c x l e) (all-head a (meant-is c (x .code) z e)))
+      (λ n x l e ih a h. rw (nth-next c x l e n) (ih (all-tail a) (omega arith)))
+
+  -- whether there is one or not, where it holds of nothing
+  pub each-or-none : P [] → (n : ℕ) (l : List Box) → All (λ x. x .code ≡ c → P (x .body)) l → P (nth c n l)
+  unfolding nth
+  each-or-none o =
+      by-number c (λ n l. All (λ x. x .code ≡ c → P (x .body)) l → P (nth c n l))
+      (λ n a. o)
+      (λ n x l e ih a. rw (nth-miss c x l e n) (ih (all-tail a)))
+      (λ x l e a. rw (nth-hit c x l e) (all-head a (meant-is c (x .code) z e)))
+      (λ n x l e ih a. rw (nth-next c x l e n) (ih (all-tail a)))
+
+  -- and what holds of the first holds of every one, where there is one at most
+  pub found-each : (l : List Box) → (0 < count c l → P (find c l)) → count c l ≤ 1 → All (λ x. x .code ≡ c → P (x .body)) l
+  unfolding count
+  found-each [] p h = none
+  found-each (x ∷ l) p h =
+      meant-or c (x .code)
+      (λ e. some (λ f. rw (nth-hit c x l e) at (p (omega arith))) (found-each l (λ m. absurd (omega arith)) (omega arith)))
+      (λ e. some (λ f. absurd (omega (arith, meant-yes c (x .code) z f))) (found-each l (λ m. rw (nth-miss c x l e 0) at (p (omega arith))) (omega arith)))
