@@ -4,7 +4,7 @@ use crate::on_records;
 use crate::print;
 use entries::rule;
 use entries::rule::Around;
-use heads::lend;
+use wire::lend;
 use wire::number;
 
 // The largest frames_per_sample, and the one of an older release.

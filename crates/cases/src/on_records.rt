@@ -2,7 +2,6 @@
 use crate::named;
 use crate::print;
 use entries::decoder;
-use heads::lend;
 use records::field::Amr;
 use records::field::H263;
 use records::field::Rates;
@@ -10,6 +9,7 @@ use records::field::Record;
 use records::record;
 use records::record::Written;
 use wire::compare;
+use wire::lend;
 use wire::number;
 ghost use Prim.Native.Nat.{_<_};
 

@@ -8,7 +8,7 @@ use lib.ListN.{length, getD, take, drop}
 use lib.Seq.{drop-cons, drop-length}
 use Rattle.wire.specs.Tests.{ifEq}
 use Rattle.wire.specs.Numbers.{Bytes}
-use Rattle.heads.proofs.Meeting.{eq-ways}
+use Rattle.wire.proofs.Tests.{eq-ways}
 use Rattle.records.specs.declared.field.Record.{Record}
 use Rattle.records.specs.declared.field.Record.the-variants.{Speech, Picture, Broken}
 use Rattle.records.specs.Texts.{textOf}

@@ -11,13 +11,13 @@ use Rattle.wire.specs.Numbers.{bytes, word}
 use Rattle.wire.proofs.Lists.{take-past}
 use Rattle.wire.proofs.Numbers.{length-bytes, word-bytes, word-right}
 use Rattle.wire.proofs.Clauses.{is-eq, eq-is}
+use Rattle.wire.proofs.Tests.{eq-ways, eq-met}
 use Rattle.boxes.specs.Box.{Box, size, header, remade}
 use Rattle.boxes.specs.Boxes.{HEAD}
 use Rattle.boxes.specs.Way.{tailBy}
 use Rattle.boxes.proofs.Whole.{Good, length-header}
 use Rattle.heads.specs.Kinds.{kindOf}
 use Rattle.heads.specs.Heads.{headSize}
-use Rattle.heads.proofs.Meeting.{eq-ways, eq-met}
 use Rattle.heads.proofs.Heading.{audio-size, visual-size}
 use Rattle.entries.specs.declared.rule.Around.{Around}
 use Rattle.entries.specs.Decoders.{recordRule}
