@@ -5,13 +5,13 @@ use mathlib.Core.Path.{_≡_, refl, sym, ap, _∙_}
 use mathlib.Core.List.{List, []}
 use lib.ListN.{length}
 use Rattle.wire.specs.Numbers.{Bytes}
+use Rattle.wire.proofs.Tests.{lt-or}
 use Rattle.boxes.specs.declared.way.Turn.{Turn}
 use Rattle.boxes.specs.Boxes.{boxes}
 use Rattle.boxes.specs.Seek.{count, nth}
 use Rattle.boxes.specs.Way.{overNth, overTurn, editWay}
 use Rattle.boxes.proofs.Placing.{found-short}
 use Rattle.boxes.proofs.Seeking.{nth-none}
-use Rattle.media.proofs.Payloads.{either}
 use Rattle.movie.proofs.Lying.{bytes-lies, lies-found}
 use Rattle.replace.proofs.Kinship.{Down, last, into, endOf}
 use Rattle.differs.proofs.Finding.{nth-here}
@@ -24,7 +24,7 @@ end-nothing (into d k c n z e a) = end-nothing a
 
 -- a way to a body that isn't empty leads through boxes that are there
 there : (c n : ℕ) (xs : List ℕ) → ((nth c n (boxes xs) ≡ []) → ⊥) → n < count c (boxes xs)
-there c n xs h = either n (count c (boxes xs)) (λ p. p) (λ p. absurd (h (sym (nth-none c n (boxes xs) p))))
+there c n xs h = lt-or n (count c (boxes xs)) (λ p. p) (λ p. absurd (h (sym (nth-none c n (boxes xs) p))))
 
 module _ (h : List ℕ → List ℕ) where
   -- it is rewritten

@@ -1,26 +1,15 @@
 -- Rule 6 is kept where the tables are. Assumes nothing.
 use Prim.Native.Nat.{ℕ}
-use mathlib.Core.Path.{_≡_, refl, sym, ap, subst, _∙_}
-use mathlib.Core.Bool.{Bool, true, false}
+use mathlib.Core.Path.{_≡_, sym, ap, subst, _∙_}
+use mathlib.Core.Bool.{Bool, true}
 use mathlib.Core.List.{List}
-use lib.Dec.{eqb}
-use borrow.Author.Tests.{eqb-true}
-use Rattle.wire.specs.Tests.{pick, ifEq}
 use Rattle.wire.specs.Codes.{STBL, STTS, STSC, STSZ, STCO}
+use Rattle.wire.proofs.Tests.{eq-kept}
 use Rattle.boxes.specs.Kin.{Leaf}
 use Rattle.tables.specs.Tables.{tableForm}
 use Rattle.tables.specs.Sizes.{sizesForm}
 use Rattle.tracks.specs.Six.{tableOf, tableIn}
 use Rattle.tracks.proofs.Kept.{Tables}
-
--- a test that is asked where m is n, and one that is asked elsewhere
-if-kept : (m n : ℕ) (s s′ t t′ : Bool) → (m ≡ n → s ≡ true → s′ ≡ true) → (t ≡ true → t′ ≡ true) → ifEq m n s t ≡ true → ifEq m n s′ t′ ≡ true
-unfolding ifEq
-if-kept m n s s′ t t′ h g = go (eqb m n) refl
-  where
-    go : (e : Bool) → eqb m n ≡ e → pick e s t ≡ true → pick e s′ t′ ≡ true
-    go true e = h (eqb-true m n e)
-    go false e = g
 
 module _ (G : Leaf) (t : Tables G) where
   -- a table that is kept has what it had
@@ -30,12 +19,12 @@ module _ (G : Leaf) (t : Tables G) where
   table-kept : (c : ℕ) (b b′ : List ℕ) → G STBL c b b′ → tableOf c b ≡ true → tableOf c b′ ≡ true
   unfolding tableOf
   table-kept c b b′ g =
-      if-kept c STTS _ _ _ _ (λ e. same-form STTS (tableForm 8) (λ u v r. ap (tableForm 8) (t .stts u v r)) e g)
-      (if-kept c STSC _ _ _ _ (λ e. same-form STSC (tableForm 12) (λ u v r. ap (tableForm 12) (t .stsc u v r)) e g)
-      (if-kept c STCO _ _ _ _ (λ e. same-form STCO (tableForm 4) (λ u v r. t .stco u v r .1) e g)
-      (if-kept c STSZ _ _ _ _ (λ e. same-form STSZ sizesForm (λ u v r. ap sizesForm (t .stsz u v r)) e g) (λ q. q))))
+      eq-kept c STTS _ _ _ _ (λ e. same-form STTS (tableForm 8) (λ u v r. ap (tableForm 8) (t .stts u v r)) e g)
+      (eq-kept c STSC _ _ _ _ (λ e. same-form STSC (tableForm 12) (λ u v r. ap (tableForm 12) (t .stsc u v r)) e g)
+      (eq-kept c STCO _ _ _ _ (λ e. same-form STCO (tableForm 4) (λ u v r. t .stco u v r .1) e g)
+      (eq-kept c STSZ _ _ _ _ (λ e. same-form STSZ sizesForm (λ u v r. ap sizesForm (t .stsz u v r)) e g) (λ q. q))))
 
   -- each table that had its form has it
   pub six-forms : (k c : ℕ) (b b′ : List ℕ) → G k c b b′ → tableIn k c b ≡ true → tableIn k c b′ ≡ true
   unfolding tableIn
-  six-forms k c b b′ g = if-kept k STBL _ _ _ _ (λ e. table-kept c b b′ (subst (λ (i : ℕ). G i c b b′) e g)) (λ q. q)
+  six-forms k c b b′ g = eq-kept k STBL _ _ _ _ (λ e. table-kept c b b′ (subst (λ (i : ℕ). G i c b b′) e g)) (λ q. q)

@@ -6,18 +6,16 @@ use mathlib.Core.List.{List, [], _∷_}
 use lib.ListN.{drop}
 use Rattle.wire.specs.Codes.{MOOV, TRAK, STSD}
 use Rattle.wire.specs.Tests.{ifEq}
-use Rattle.wire.proofs.Tests.{lt-yea, lt-nay}
+use Rattle.wire.proofs.Tests.{lt-yea, lt-nay, lt-or, eq-or}
 use Rattle.boxes.specs.Box.{Box, size}
 use Rattle.boxes.specs.Boxes.{boxes}
 use Rattle.boxes.specs.Seek.{meant, nth, startIn}
 use Rattle.boxes.proofs.Seeking.{meant-yes, meant-no}
-use Rattle.media.proofs.Payloads.{either}
 use Rattle.movie.specs.declared.entry.Spot.the-variants.{In}
 use Rattle.movie.specs.Movie.{movie, track, table}
 use Rattle.movie.specs.Entries.{FRONT, entriesStart, entriesOf, entriesAfter, entries}
 use Rattle.movie.specs.Named.{listIn, held, spotIn, bytesAt}
 use Rattle.movie.proofs.Counting.{length-of}
-use Rattle.settle.proofs.One.{code-or}
 use Rattle.keeping.proofs.Split.{Split, split-from, bytes-past, held-hit, after-hit, held-miss, after-miss}
 
 -- after t tracks: of track m from there on, box n of its `stsd` is entry i
@@ -31,7 +29,7 @@ module _ (t : ℕ) (x : Box) (l : List Box) (i p : ℕ) where
   spot-here : i < held (x .code) (x .body) → Spotted t (x ∷ l) i p t i
   unfolding nth ifEq entriesOf listIn
   spot-here h =
-      code-or (x .code) TRAK
+      eq-or (x .code) TRAK
       (λ e.
       let o = meant-yes TRAK (x .code) (λ z. omega arith) e in
       let s = split-from (t + 1) (boxes (drop FRONT (table STSD (x .body)))) (p + x .head + entriesStart (x .body)) i (entriesAfter (t + 1) l (p + size x)) (omega (arith, held-hit x l e)) in
@@ -54,7 +52,7 @@ module _ (t : ℕ) (x : Box) (l : List Box) (i p : ℕ) where
   unfolding nth ifEq
   spot-next u n h ih =
       let s = ih (p + size x) in
-      code-or (x .code) TRAK
+      eq-or (x .code) TRAK
       (λ e.
       let o = meant-yes TRAK (x .code) (λ z. omega arith) e in
       record { m = suc (s .m); is = omega (arith, s .is, o); split = rw (skip-hit e h, ← o) (rw (← o) at (s .split)) })
@@ -66,7 +64,7 @@ spotted : (t : ℕ) (l : List Box) (i p u n : ℕ) → spotIn t l i ≡ In u n �
 unfolding spotIn
 spotted t [] i p u n e = let z : _≡_ {A = ℕ} 0 1 = cc in absurd (omega arith)
 spotted t (x ∷ l) i p u n e =
-    either i (held (x .code) (x .body))
+    lt-or i (held (x .code) (x .body))
     (λ h.
     let q : In t i ≡ In u n = lt-yea _ _ _ _ _ h refl ∙ e in
     let a : t ≡ u = cc in

@@ -2,24 +2,21 @@
 use Prim.Native.Nat.{ℕ, _-_, _≤_}
 use native.Mathlib.Omega.{arith}
 use mathlib.Core.Path.{_≡_, refl, sym, ap, _∙_}
-use mathlib.Core.Bool.{Bool, true, false}
 use mathlib.Core.List.{List, _++_}
-use lib.Dec.{eqb}
 use lib.ListN.{length, take, drop}
 use lib.Seq.{take-at, drop-at}
-use Rattle.wire.specs.Tests.{pick, ifEq}
-use Rattle.wire.specs.Codes.{MOOV, SOUN, VIDE}
+use Rattle.wire.specs.Codes.{MOOV}
 use Rattle.wire.specs.Numbers.{Bytes}
 use Rattle.wire.specs.Writing.{Wrote, Put}
 use Rattle.wire.proofs.Writing.{pen-front}
+use Rattle.wire.proofs.Tests.{eq-any}
 use Rattle.boxes.specs.declared.walk.BoxAt.{BoxAt}
 use Rattle.boxes.specs.Boxes.{HEAD, boxes}
 use Rattle.boxes.specs.Containers.{FILE, DEPTH}
 use Rattle.boxes.specs.Seek.{find, Cut}
 use Rattle.boxes.specs.Rewrite.{editIn}
 use Rattle.boxes.specs.Words.{moved, rewordLeaf}
-use Rattle.heads.specs.Kinds.{handlerOf}
-use Rattle.heads.specs.Heads.{AUDIO, VISUAL, COMMON, headSize}
+use Rattle.heads.specs.Heads.{headSize}
 use Rattle.entries.specs.Decoders.{recordRule}
 use Rattle.descriptions.specs.Ten.{MOST}
 use Rattle.movie.specs.declared.entry.Spot.{Spot}
@@ -67,10 +64,5 @@ module _ (xs : List ℕ) (i : ℕ) (new : List ℕ) {moov : List ℕ} (e : moov 
 -- ---- the head
 
 pub head-least : (kind : ℕ) → 8 ≤ headSize kind
-unfolding headSize ifEq
-head-least kind = go (eqb (handlerOf kind) SOUN) (eqb (handlerOf kind) VIDE)
-  where
-    go : (s t : Bool) → 8 ≤ pick s AUDIO (pick t VISUAL COMMON)
-    go true t = omega arith
-    go false true = omega arith
-    go false false = omega arith
+unfolding headSize
+head-least kind = eq-any (λ n. 8 ≤ n) _ _ _ _ (omega arith) (eq-any (λ n. 8 ≤ n) _ _ _ _ (omega arith) (omega arith))
