@@ -2,10 +2,10 @@
 use Prim.Native.Nat.{ℕ, _≤_}
 use native.Mathlib.Omega.{arith}
 use mathlib.Core.Path.{_≡_, refl, _∙_}
-use mathlib.Core.Bool.{Bool, true, false}
+use mathlib.Core.Bool.{true, false}
 use mathlib.Core.List.{List, [], _∷_, _++_}
 use Rattle.wire.specs.Numbers.{word}
-use Rattle.wire.specs.Clauses.{isEq, every, oneIf}
+use Rattle.wire.specs.Clauses.{isEq, oneIf}
 use Rattle.wire.specs.Codes.{MOOV, STSD, AVC1}
 use Rattle.wire.proofs.Clauses.{is-lt, not-lt}
 use Rattle.boxes.specs.Box.{Box}
@@ -15,19 +15,6 @@ use Rattle.boxes.proofs.Numbered.{count-any}
 use Rattle.movie.specs.Movie.{table}
 use Rattle.movie.specs.Named.{listIn}
 use Rattle.brands.specs.Brands.{times, listed, oneEntry, plain, second, ready}
-
--- ---- an answer over clauses
-
--- the last of them
-pub last-is : (t : Bool) {r : ℕ} → r ≡ oneIf t → r ≡ oneIf (every (t ∷ []))
-unfolding every
-last-is true e = e
-last-is false e = e
-
--- one that holds
-pub next-is : (t : Bool) (ts : List Bool) {r : ℕ} → t ≡ true → r ≡ oneIf (every ts) → r ≡ oneIf (every (t ∷ ts))
-unfolding every
-next-is t ts h e = rw h e
 
 -- ---- a brand that is listed, and one that isn't
 

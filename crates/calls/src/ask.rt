@@ -1,6 +1,6 @@
 // The functions for C, by the number of the call.
 use crate::call;
-use heads::lend;
+use wire::lend;
 use wire::number;
 
 // Those that answer a number alone.

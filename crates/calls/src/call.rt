@@ -1,5 +1,5 @@
 // What a call says: which it is, the room that it is lent, three numbers, a name, and more bytes.
-use heads::lend;
+use wire::lend;
 use wire::number;
 
 // Which call it is, as tests/calls.py counts them.

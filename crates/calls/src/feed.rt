@@ -1,6 +1,6 @@
 // A file of groups: how many there are, then each behind its length.
 use crate::group;
-use heads::lend;
+use wire::lend;
 use wire::number;
 
 // The next 32-bit number.

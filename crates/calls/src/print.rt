@@ -1,5 +1,5 @@
 // What is written of an answer, and of a room after it.
-use heads::lend;
+use wire::lend;
 ghost use Prim.Native.Nat.{_<_};
 
 fn say(words: &[u8], n: u64) {

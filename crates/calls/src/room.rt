@@ -2,7 +2,7 @@
 use crate::ask;
 use crate::call;
 use crate::print;
-use heads::lend;
+use wire::lend;
 use wire::number;
 
 // The longest room but for the files of a megabyte.

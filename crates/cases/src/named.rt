@@ -1,6 +1,6 @@
 // A case with a name: the name's length in one byte, the name, and what the case is about.
 use crate::print;
-use heads::lend;
+use wire::lend;
 use wire::number;
 
 pub fn name(case: &[u8]) {

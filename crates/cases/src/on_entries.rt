@@ -3,7 +3,7 @@ use crate::named;
 use crate::print;
 use entries::rule;
 use entries::rule::Around;
-use heads::lend;
+use wire::lend;
 use wire::number;
 
 // The largest frames_per_sample of an older release.

@@ -3,7 +3,7 @@ use crate::named;
 use crate::print;
 use entries::decoder;
 use entries::rule;
-use heads::lend;
+use wire::lend;
 use wire::number;
 
 // The kind of entry that a record goes into, and its bytes.

@@ -10,7 +10,7 @@ use lib.IntN.{ℤ, pos, negsuc, subℕ, _-ℤ_, _*ℤ_, negℤ-negℤ}
 use borrow.Author.Tests.{ltb-true, ltb-false, le-ltb, lt-ltb}
 use Rattle.wire.specs.Clauses.{isLe, isLt, every}
 use Rattle.wire.specs.Tests.{pick, ifEq}
-use Rattle.wire.proofs.Tests.{lt-yea, lt-nay, eq-yea, eq-nay}
+use Rattle.wire.proofs.Tests.{lt-yea, lt-nay, eq-yea, eq-nay, lt-or}
 use Rattle.wire.proofs.Clauses.{is-le, not-le, is-lt, not-lt}
 use Rattle.clocks.specs.declared.Zone.{Zone}
 use Rattle.clocks.specs.declared.Order.{Order}
@@ -77,12 +77,7 @@ module _ (m n : ℕ) where
 
 -- three cases
 split : {A : Type 0} (m n : ℕ) → (m < n → A) → (m ≡ n → A) → (n < m → A) → A
-split {A = A} m n f g h = go (ltb m n) (ltb n m) refl refl
-  where
-    go : (s t : Bool) → ltb m n ≡ s → ltb n m ≡ t → A
-    go true t p q = f (ltb-true m n p)
-    go false true p q = h (ltb-true n m q)
-    go false false p q = g (omega (arith, ltb-false m n p, ltb-false n m q))
+split m n f g h = lt-or m n f (λ p. lt-or n m h (λ q. g (omega arith)))
 
 -- as far apart
 apart : (a b c d : ℕ) → a + d ≡ c + b → inOrder a b ≡ inOrder c d

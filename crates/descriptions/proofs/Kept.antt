@@ -9,6 +9,7 @@ use Rattle.wire.specs.Tests.{ifEq}
 use Rattle.wire.specs.Numbers.{word}
 use Rattle.wire.specs.Codes.{MDIA, MDHD, HDLR, MINF, DINF, DREF, STBL, STSD}
 use Rattle.boxes.specs.Boxes.{boxes, FRONT}
+use Rattle.wire.proofs.Tests.{through}
 use Rattle.boxes.specs.Seek.{ANY, find}
 use Rattle.boxes.specs.Containers.{kindIn, parent}
 use Rattle.boxes.specs.Kin.{Leaf, Kin}
@@ -19,7 +20,7 @@ use Rattle.verdict.specs.Verdict.{isFine}
 use Rattle.verdict.specs.Rule.{allIn, Says}
 use Rattle.verdict.proofs.Acceptance.{list-fine}
 use Rattle.verdict.proofs.Keeping.{keep, kept-at}
-use Rattle.verdict.proofs.Places.{unless-fine, through}
+use Rattle.verdict.proofs.Places.{unless-fine}
 use Rattle.descriptions.specs.Ten.{stsd, aroundIn, entryFine, entriesFrom, entriesFine, tenAt, tenIn, ten, tenRule}
 use Rattle.descriptions.proofs.Entry.{entryAt, noEnd}
 

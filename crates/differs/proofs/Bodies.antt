@@ -5,9 +5,9 @@ use mathlib.Core.Path.{_≡_, refl, sym, ap, _∙_}
 use mathlib.Core.List.{List, _++_, append-assoc}
 use lib.ListN.{length, take, drop, length-append, length-take, length-drop, drop-of-length-le}
 use lib.Seq.{take-at, drop-at, length-take-le}
+use Rattle.wire.proofs.Tests.{lt-or}
 use Rattle.boxes.specs.Words.{eachWord, reword}
 use Rattle.boxes.proofs.Wording.{each-length, reword-length, reword-past}
-use Rattle.media.proofs.Payloads.{either}
 use Rattle.differs.specs.Differs.{But}
 
 -- a body and itself
@@ -27,14 +27,14 @@ module _ (f : ℕ → ℕ) (from span : ℕ) (b : List ℕ) where
   reword-before : take from b ≡ take from (reword f from span b)
   unfolding reword
   reword-before =
-      either (length b) from
+      lt-or (length b) from
       (λ h. ap (take from) (reword-past f from span b (omega arith)))
       (λ h. sym (take-at (take from b) (each ++ drop (from + span) b) from (length-take-le from b h)))
 
   reword-behind : drop (from + span) b ≡ drop (from + span) (reword f from span b)
   unfolding reword
   reword-behind =
-      either (length b) (from + span)
+      lt-or (length b) (from + span)
       (λ h. drop-of-length-le b {i = from + span} (omega arith) ∙ sym (drop-of-length-le (reword f from span b) {i = from + span} (omega (arith, reword-length f from span b))))
       (λ h.
       let n : length (take from b ++ each) ≡ from + span = rw (length-append, each-length f (take span (drop from b)), length-take-le from b (omega arith), length-take, length-drop) (omega arith) in

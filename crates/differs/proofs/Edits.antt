@@ -9,7 +9,7 @@ use lib.IntN.{ℤ}
 use lib.ListN.{length}
 use Rattle.wire.specs.Codes.{TRAK}
 use Rattle.wire.specs.Numbers.{Bytes}
-use Rattle.wire.proofs.Tests.{lt-yea, lt-nay}
+use Rattle.wire.proofs.Tests.{lt-yea, lt-nay, lt-or}
 use Rattle.boxes.specs.Box.{Box}
 use Rattle.boxes.specs.Boxes.{boxes}
 use Rattle.boxes.specs.Seek.{meant}
@@ -18,7 +18,6 @@ use Rattle.entries.specs.Entries.{FRAMES}
 use Rattle.entries.specs.Decoders.{recordRule}
 use Rattle.media.specs.Payloads.{mdats}
 use Rattle.media.proofs.Mdats.{kin-mdats}
-use Rattle.media.proofs.Payloads.{either}
 use Rattle.movie.specs.declared.entry.Spot.{Spot}
 use Rattle.movie.specs.declared.entry.Spot.the-variants.{In, Past}
 use Rattle.movie.specs.Movie.{movie}
@@ -49,7 +48,7 @@ held-past : (t : ℕ) (l : List Box) (i : ℕ) → spotIn t l i ≡ Past → hel
 unfolding spotIn heldIn
 held-past t [] i e = omega arith
 held-past t (x ∷ l) i e =
-    either i (held (x .code) (x .body)) (λ h. absurd (in-not t i (lt-yea _ _ _ _ _ h refl ∙ e)))
+    lt-or i (held (x .code) (x .body)) (λ h. absurd (in-not t i (lt-yea _ _ _ _ _ h refl ∙ e)))
     (λ h. let k = held-past (t + meant TRAK (x .code)) l (i - held (x .code) (x .body)) (lt-nay _ _ _ _ _ h refl ∙ e) in omega arith)
 
 -- "Replace decoder record of entry i": one that meets its rule, where the result is not too long

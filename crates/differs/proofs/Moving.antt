@@ -6,6 +6,7 @@ use mathlib.Core.List.{List}
 use lib.ListN.{length}
 use Rattle.wire.specs.Codes.{STBL}
 use Rattle.wire.specs.Numbers.{Bytes}
+use Rattle.wire.proofs.Tests.{eq-or}
 use Rattle.boxes.specs.Box.{write}
 use Rattle.boxes.specs.Boxes.{boxes}
 use Rattle.boxes.specs.Containers.{FILE, DEPTH, LONGEST}
@@ -17,7 +18,6 @@ use Rattle.media.specs.Relocate.{relocate}
 use Rattle.judge.specs.Acceptance.{Meets}
 use Rattle.settle.specs.Settle.{offsets, settled}
 use Rattle.settle.proofs.Accepted.{file-tiled}
-use Rattle.settle.proofs.One.{code-or}
 use Rattle.settle.proofs.Settled.{settled-length}
 use Rattle.moving.specs.Moving.{moovSecond, moveOf}
 use Rattle.keeping.proofs.Arranging.{arranged-boxes, arranged-bytes, arranged-length}
@@ -29,7 +29,7 @@ use Rattle.differs.proofs.Bodies.{but-tail}
 
 module _ (f : ℕ → ℕ) (k c : ℕ) (b : List ℕ) where
   others-same : (Offsets k c → ⊥) → b ≡ rewordLeaf offsets f k c b
-  others-same n = code-or k STBL (λ e. leaf-code offsets f k c b e (λ g. n (e, g))) (leaf-kind offsets f k c b)
+  others-same n = eq-or k STBL (λ e. leaf-code offsets f k c b e (λ g. n (e, g))) (leaf-kind offsets f k c b)
 
   pub only-offsets : (b′ : List ℕ) → Made (rewordLeaf offsets f) k c b b′ → OnlyOffsets k c b b′
   only-offsets b′ r =

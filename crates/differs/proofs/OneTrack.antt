@@ -6,6 +6,7 @@ use mathlib.Core.List.{List, _∷_}
 use lib.ListN.{length}
 use Rattle.wire.specs.Numbers.{Bytes}
 use Rattle.wire.specs.Codes.{MOOV, TRAK, MDIA, MINF, STBL, STSD}
+use Rattle.wire.proofs.Tests.{lt-or}
 use Rattle.boxes.specs.Boxes.{boxes}
 use Rattle.boxes.specs.Containers.{FILE, DEPTH}
 use Rattle.boxes.specs.Seek.{count, nth, find}
@@ -16,7 +17,6 @@ use Rattle.boxes.proofs.Numbered.{found-short}
 use Rattle.boxes.proofs.Lying.{bytes-lies, lies-found}
 use Rattle.boxes.proofs.Down.{endOf, end-by}
 use Rattle.boxes.proofs.OneOfPart.{nth-here, nth-other}
-use Rattle.media.proofs.Payloads.{either}
 use Rattle.movie.specs.declared.entry.Spot.the-variants.{In}
 use Rattle.movie.specs.Movie.{track, table}
 use Rattle.settle.specs.Settle.{settled}
@@ -66,7 +66,7 @@ module _ (t n keep : ℕ) (new xs : List ℕ) (w : Bytes new) (v : Bytes xs) (s 
   unfolding track
   track-same u z =
       let M = find MOOV (boxes xs) in
-      either 0 (count MOOV (boxes xs))
+      lt-or 0 (count MOOV (boxes xs))
       (λ p.
       let q : find MOOV (boxes zs) ≡ inMoov M = rw by-moov (nth-here MOOV 0 inMoov xs v (rw by-moov at s) p) in
       let l = found-short MOOV 0 zs (sym q) in

@@ -5,9 +5,8 @@ use mathlib.Core.Path.{_≡_, refl, sym}
 use mathlib.Core.List.{List}
 use lib.ListN.{length, drop}
 use Rattle.wire.specs.Numbers.{word}
-use Rattle.wire.proofs.Tests.{eq-yea, eq-nay, lt-nay}
+use Rattle.wire.proofs.Tests.{eq-yea, eq-nay, lt-nay, eq-met}
 use Rattle.heads.specs.Heads.{headSize, headRule}
-use Rattle.heads.proofs.Meeting.{eq-met}
 use Rattle.entries.specs.declared.rule.Around.{Around}
 use Rattle.entries.specs.Decoders.{boxRule, recordRule}
 use Rattle.entries.specs.Entries.{aroundRule, insideRule, ruleAs}

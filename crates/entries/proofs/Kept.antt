@@ -7,9 +7,9 @@ use mathlib.Core.Logic.{_⊎_, inl, inr, ⊎-elim}
 use lib.ListN.{length, take}
 use Rattle.wire.specs.Numbers.{bytes, word}
 use Rattle.wire.proofs.Numbers.{length-bytes}
+use Rattle.wire.proofs.Tests.{eq-ways, eq-met}
 use Rattle.heads.specs.Kinds.{kindOf}
 use Rattle.heads.specs.Heads.{headSize, audioIn, visualIn, headRule}
-use Rattle.heads.proofs.Meeting.{eq-ways, eq-met}
 use Rattle.heads.proofs.Heading.{audio-length, visual-length, name-zero, begins-of, audio-size, audio-rule, visual-size, visual-rule}
 use Rattle.entries.specs.declared.rule.Around.{Around}
 use Rattle.entries.specs.Decoders.{damrRule, d263Rule, recordRule}

@@ -8,11 +8,10 @@ use lib.ListN.{length, take, drop, length-drop}
 use Rattle.wire.specs.Tests.{ifEq}
 use Rattle.wire.specs.Numbers.{bytes, word}
 use Rattle.wire.specs.Codes.{VIDE, D263, BITR}
-use Rattle.wire.proofs.Tests.{eq-yea, eq-nay}
+use Rattle.wire.proofs.Tests.{eq-yea, eq-nay, eq-ways, eq-met}
 use Rattle.wire.proofs.Numbers.{length-bytes, word-drop}
 use Rattle.heads.specs.Kinds.{handlerOf}
 use Rattle.heads.specs.Heads.{nameIn, visualIn}
-use Rattle.heads.proofs.Meeting.{eq-ways, eq-met}
 use Rattle.heads.proofs.Heading.{visual-length, name-zero, begins-is, begins-of, visual-size, visual-rule}
 use Rattle.entries.specs.declared.rule.Around.{Around}
 use Rattle.entries.specs.Decoders.{boxRule, d263Rule, recordRule}

@@ -1,19 +1,13 @@
 -- An entry keeps its rule when its decoder record is replaced by another that meets the record's rule. Assumes nothing.
 use Prim.Native.Nat.{ℕ, _+_, _-_, _≤_, _<_}
 use native.Mathlib.Omega.{arith}
-use mathlib.Core.Path.{_≡_, sym, ap, _∙_}
+use mathlib.Core.Path.{_≡_, ap, _∙_}
 use mathlib.Core.List.{List, _++_, append-assoc}
-use lib.ListN.{length, take, drop, length-append, length-drop, take-append-drop}
+use lib.ListN.{length, take, drop, length-append, length-drop}
 use lib.Seq.{take-at, drop-at, length-take-le}
 use Rattle.wire.specs.Numbers.{bytes, word}
-use Rattle.wire.proofs.Numbers.{length-bytes, word-bytes, word-drop, word-left, word-right}
+use Rattle.wire.proofs.Numbers.{length-bytes, word-bytes, word-drop, word-left, word-right, word-take}
 use Rattle.entries.specs.Entries.{replaced}
-
--- a word of the front of a part
-pub word-take : (w n : ℕ) (xs : List ℕ) (at : ℕ) → at + w ≤ n → n ≤ length xs → word w (take n xs) at ≡ word w xs at
-word-take w n xs at h k =
-    let l : length (take n xs) ≡ n = length-take-le n xs k in
-    sym (ap (λ (ys : List ℕ). word w ys at) (sym (take-append-drop n xs)) ∙ word-left w (take n xs) (drop n xs) at (omega arith))
 
 module _ (head : ℕ) (xs ys : List ℕ) (h : 4 ≤ head) (l : head ≤ length xs) (s : head + length ys < 4294967296) where
   front : List ℕ

@@ -8,11 +8,10 @@ use lib.ListN.{length, take, drop, length-drop}
 use Rattle.wire.specs.Tests.{ifEq}
 use Rattle.wire.specs.Numbers.{word}
 use Rattle.wire.specs.Codes.{SOUN, DAMR}
-use Rattle.wire.proofs.Tests.{eq-yea, eq-nay}
+use Rattle.wire.proofs.Tests.{eq-yea, eq-nay, eq-met}
 use Rattle.wire.proofs.Numbers.{word-drop}
 use Rattle.heads.specs.Kinds.{handlerOf}
 use Rattle.heads.specs.Heads.{audioIn}
-use Rattle.heads.proofs.Meeting.{eq-met}
 use Rattle.heads.proofs.Heading.{audio-length, begins-is, begins-of, audio-size, audio-rule}
 use Rattle.entries.specs.declared.rule.Around.{Around}
 use Rattle.entries.specs.Decoders.{framesRule, damrRule, recordRule}

@@ -1,8 +1,8 @@
 // Decoder records: the `damr` and `d263` boxes of an entry.
-use heads::lend;
-use heads::test;
 use wire::codes;
+use wire::lend;
 use wire::number;
+use wire::test;
 ghost use mathlib.Core.Path.{_≡_};
 ghost use Prim.Native.Nat.{_<_};
 ghost use Rattle.entries.specs.Decoders.{boxRule, strayModes, periodRule, framesRule, damrRule, d263Rule, recordRule};
@@ -63,8 +63,8 @@ fn damr_rule(kind: usize, most: usize, part: &[u8]) -> usize
         kind,
         most,
         number::word16(part, 13),
-        lend::word8(part, 15),
-        lend::word8(part, 16),
+        number::byte(part, 15),
+        number::byte(part, 16),
     );
     let sized = test::choose(part.len(), 17, fields, 0);
     test::choose(box_rule(codes::DAMR, part), 1, sized, 0)

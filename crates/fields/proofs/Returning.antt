@@ -9,7 +9,7 @@ use lib.Seq.{drop-cons, drop-length}
 use Rattle.wire.specs.Tests.{ifEq}
 use Rattle.wire.specs.Numbers.{Bytes}
 use Rattle.entries.specs.Entries.{FRAMES}
-use Rattle.heads.proofs.Meeting.{eq-ways}
+use Rattle.wire.proofs.Tests.{eq-ways}
 use Rattle.records.specs.declared.field.Record.{Record}
 use Rattle.records.specs.declared.field.Record.the-variants.{Speech, Picture, Broken}
 use Rattle.records.specs.Texts.{textOf}

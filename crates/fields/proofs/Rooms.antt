@@ -8,9 +8,8 @@ use mathlib.Core.Logic.{⊎-elim}
 use lib.Dec.{ltb}
 use lib.ListN.{length, drop}
 use Rattle.wire.specs.Tests.{pick, ifLt}
-use Rattle.wire.proofs.Tests.{eq-yea}
+use Rattle.wire.proofs.Tests.{eq-yea, eq-ways}
 use Rattle.entries.specs.Entries.{FRAMES}
-use Rattle.heads.proofs.Meeting.{eq-ways}
 use Rattle.records.specs.declared.field.Record.{Record}
 use Rattle.records.specs.declared.field.Record.the-variants.{Speech, Picture, Broken}
 use Rattle.records.specs.declared.record.Written.the-variants as written

@@ -8,6 +8,7 @@ use Rattle.wire.specs.Tests.{ifEq}
 use Rattle.wire.specs.Numbers.{word}
 use Rattle.wire.specs.Codes.{MOOV, TRAK, TKHD}
 use Rattle.wire.proofs.Sums.{all-of, all-at}
+use Rattle.wire.proofs.Tests.{through}
 use Rattle.boxes.specs.Boxes.{boxes}
 use Rattle.boxes.specs.Seek.{count, find}
 use Rattle.boxes.specs.Containers.{kindIn, parent}
@@ -18,7 +19,7 @@ use Rattle.verdict.specs.declared.Verdict.the-variants.{Fine, Bad}
 use Rattle.verdict.specs.Verdict.{isFine}
 use Rattle.verdict.specs.Rule.{allIn, Says}
 use Rattle.verdict.proofs.Keeping.{keep, kept-at}
-use Rattle.verdict.proofs.Places.{unless-fine, through}
+use Rattle.verdict.proofs.Places.{unless-fine}
 use Rattle.headers.specs.Forms.{form}
 use Rattle.headers.specs.Identities.{identity, fresh, freshTo, different}
 use Rattle.headers.specs.Four.{tracksIn, tracksFine, four, fourRule}

@@ -1,11 +1,12 @@
 -- Laws of heads. Assumes nothing.
-use Prim.Native.Nat.{ℕ, _+_, _<_}
+use Prim.Native.Nat.{ℕ, _+_, _≤_, _<_}
 use native.Mathlib.Omega.{arith}
-use mathlib.Core.Path.{_≡_, refl, sym}
-use mathlib.Core.List.{List}
+use mathlib.Core.Path.{_≡_, refl, sym, ap, _∙_}
+use mathlib.Core.List.{List, _++_, append-assoc}
 use lib.ListN.{length, take, drop, length-append, length-take, length-drop}
-use Rattle.wire.specs.Numbers.{bytesOn, bytes}
+use Rattle.wire.specs.Numbers.{Bytes, bytesOn, bytes, word}
 use Rattle.wire.proofs.Tests.{eq-yea, eq-nay}
+use Rattle.wire.proofs.Putting.{grow}
 use Rattle.wire.proofs.Same.{same-refl, same-is, same-not}
 use Rattle.wire.specs.Codes.{SOUN, VIDE}
 use Rattle.heads.specs.Kinds.{handlerOf}
@@ -28,6 +29,13 @@ start-length size code reference width height = refl
 pub visual-length : (size code reference width height : ℕ) (name : List ℕ) → length (visualHead size code reference width height name) ≡ 54 + length name
 unfolding visualHead bytes bytesOn
 visual-length size code reference width height name = simp (length-append, start-length) (omega arith)
+
+-- the front of a part, a box's header longer
+pub grow-header : (xs : List ℕ) → Bytes xs → {p : List ℕ} (at size code : ℕ) → at + 8 ≤ length xs → word 4 xs at ≡ size → word 4 xs (at + 4) ≡ code → take at xs ≡ p → take (at + 8) xs ≡ p ++ boxHeader size code
+unfolding boxHeader
+grow-header xs b {p} at size code h e f t =
+    let s : at + 8 ≡ at + 4 + 4 = omega arith in
+    ap (λ (n : ℕ). take n xs) s ∙ grow xs b (at + 4) 4 code (omega arith) f (grow xs b at 4 size (omega arith) e t) ∙ append-assoc p (bytes 4 size) (bytes 4 code)
 
 -- ---- the name
 
@@ -52,7 +60,7 @@ begins-is head xs e = same-is _ _ (λ z. omega arith)
 
 pub begins-short : (head xs : List ℕ) → length xs < length head → 0 ≡ begins head xs
 unfolding begins
-begins-short head xs h = same-not _ _ (λ e. omega (arith, length-take (length head) xs, e))
+begins-short head xs h = same-not _ _ (λ e. omega (arith, length-take (length head) xs, ap length e))
 
 pub visual-short : (kind : ℕ) (xs : List ℕ) → kind ≡ 6 → length xs < 82 → 0 ≡ begins (visualIn (nameIn kind xs) xs) xs
 visual-short kind xs e h = begins-short _ xs (rw (visual-length, ← name-free kind xs e, length-take, length-drop) (omega arith))

@@ -1,3 +1,2 @@
-pub mod Putting
 pub mod Heading
-pub mod Meeting
+pub mod Coding

@@ -1,12 +1,12 @@
 // The heads of sample entries: written, and told from other bytes.
 use crate::kind;
-use crate::lend;
 use crate::put;
-use crate::test;
 use wire::codes;
 use wire::compare;
+use wire::lend;
 use wire::number;
 use wire::pen;
+use wire::test;
 ghost use mathlib.Core.Path.{_≡_};
 ghost use Prim.Native.Nat.{_<_};
 ghost use lib.ListN.{length};
@@ -18,8 +18,8 @@ fn put_common(out: &mut [u8], size: usize, code: usize, reference: usize) -> usi
     ensures { λ r. ⌜ Put (commonHead size code reference) (now (out .entry)) 0 r (now (out .exit)) × (r ≡ 16) ⌝ }
 {
     let a = put::header(out, 0, size, code);
-    let b = put::number(out, a, 6, 0);
-    put::number(out, b, 2, reference)
+    let b = pen::put_number(out, a, 6, 0);
+    pen::put_number(out, b, 2, reference)
 }
 
 // Writes the head of an audio entry.
@@ -27,12 +27,12 @@ pub fn put_audio(out: &mut [u8], size: usize, code: usize, reference: usize, sca
     ensures { λ r. ⌜ Put (audioHead size code reference scale) (now (out .entry)) 0 r (now (out .exit)) × (r ≡ 36) ⌝ }
 {
     let a = put_common(out, size, code, reference);
-    let b = put::number(out, a, 8, 0);
-    let c = put::number(out, b, 2, 2);
-    let d = put::number(out, c, 2, 16);
-    let e = put::number(out, d, 4, 0);
-    let f = put::number(out, e, 2, scale);
-    put::number(out, f, 2, 0)
+    let b = pen::put_number(out, a, 8, 0);
+    let c = pen::put_number(out, b, 2, 2);
+    let d = pen::put_number(out, c, 2, 16);
+    let e = pen::put_number(out, d, 4, 0);
+    let f = pen::put_number(out, e, 2, scale);
+    pen::put_number(out, f, 2, 0)
 }
 
 // Writes the head of a visual entry up to its resolutions.
@@ -47,11 +47,11 @@ fn put_visual_start(
     ensures { λ r. ⌜ Put (visualStart size code reference width height) (now (out .entry)) 0 r (now (out .exit)) × (r ≡ 44) ⌝ }
 {
     let a = put_common(out, size, code, reference);
-    let b = put::number(out, a, 16, 0);
-    let c = put::number(out, b, 2, width);
-    let d = put::number(out, c, 2, height);
-    let e = put::number(out, d, 4, 0x00480000);
-    put::number(out, e, 4, 0x00480000)
+    let b = pen::put_number(out, a, 16, 0);
+    let c = pen::put_number(out, b, 2, width);
+    let d = pen::put_number(out, c, 2, height);
+    let e = pen::put_number(out, d, 4, 0x00480000);
+    pen::put_number(out, e, 4, 0x00480000)
 }
 
 // Writes the head of a visual entry.
@@ -68,11 +68,11 @@ pub fn put_visual(
     ensures { λ r. ⌜ Put (visualHead size code reference width height (now (name .entry))) (now (out .entry)) 0 r (now (out .exit)) × (r ≡ 86) ⌝ }
 {
     let a = put_visual_start(out, size, code, reference, width, height);
-    let b = put::number(out, a, 4, 0);
-    let c = put::number(out, b, 2, 1);
+    let b = pen::put_number(out, a, 4, 0);
+    let c = pen::put_number(out, b, 2, 1);
     let d = pen::put_part(out, c, name);
-    let e = put::number(out, d, 2, 24);
-    put::number(out, e, 2, 0xFFFF)
+    let e = pen::put_number(out, d, 2, 24);
+    pen::put_number(out, e, 2, 0xFFFF)
 }
 
 // 1 where an entry begins with a head, else 0.

@@ -1,6 +1,6 @@
 // The kinds of sample entry.
-use crate::test;
 use wire::codes;
+use wire::test;
 ghost use mathlib.Core.Path.{_≡_};
 ghost use Rattle.heads.specs.Kinds.{kindOf, codeOf, handlerOf};
 

@@ -1,6 +1,4 @@
 // The kinds of sample entry, and the heads of entries: written, and told from other bytes.
 pub mod head;
 pub mod kind;
-pub mod lend;
 pub mod put;
-pub mod test;

@@ -1,27 +1,24 @@
 -- What the code of the traversal cites. Assumes nothing.
 use Prim.Native.Nat.{ℕ, zero, suc, _+_, _-_, _≤_, _<_}
 use native.Mathlib.Omega.{arith}
-use native.Mathlib.Numerals.{add-one}
 use mathlib.Core.Path.{_≡_, refl, sym, ap, _∙_}
 use mathlib.Core.Bool.{Bool, true, false}
 use mathlib.Core.List.{List, []}
-use lib.Dec.{eqb}
 use lib.ListN.{length, drop, length-drop, drop-of-length-le}
-use Rattle.wire.specs.Tests.{pick, ifEq}
 use Rattle.wire.specs.Clauses.{isEq, oneIf}
-use Rattle.wire.proofs.Tests.{eq-yea, eq-nay}
+use Rattle.wire.proofs.Tests.{eq-yea, eq-nay, eq-any}
 use Rattle.wire.proofs.Clauses.{not-eq}
 use Rattle.boxes.specs.Box.{Box}
-use Rattle.boxes.specs.Boxes.{boxes, after}
+use Rattle.boxes.specs.Boxes.{after}
 use Rattle.boxes.specs.Walk.{Over}
 use Rattle.boxes.specs.Containers.{kindIn}
 use Rattle.verdict.specs.declared.Verdict.{Verdict}
 use Rattle.verdict.specs.declared.Verdict.the-variants.{Fine, Bad}
 use Rattle.verdict.specs.Verdict.{sooner, unless}
-use Rattle.verdict.specs.Judge.{Judge, judgeList, judgeBox, judgeIn}
-use Rattle.verdict.proofs.Places.{sooner-none, unless-yea, unless-nay}
+use Rattle.verdict.specs.Judge.{Judge, judgeBox, judgeIn}
+use Rattle.verdict.proofs.Places.{sooner-none, unless-nay}
 use Rattle.verdict.proofs.Traverse.{Found, found-none, found-over}
-use Rattle.judge.specs.Rules.{unlessAnswer, endBy, judgeBy}
+use Rattle.judge.specs.Rules.{unlessAnswer, endBy}
 
 pub unless-is : (t : Bool) (p : ℕ) {r : ℕ} {v : Verdict} → r ≡ oneIf t → v ≡ unlessAnswer r p → v ≡ unless t p
 unfolding unlessAnswer unless oneIf
@@ -56,12 +53,8 @@ module _ (j : Judge) where
 -- ---- the end
 
 end-nothing : (n p : ℕ) → endBy n [] p ≡ Fine
-unfolding endBy ifEq isEq unless
-end-nothing n p = go (eqb n 2)
-  where
-    go : (t : Bool) → pick t Fine Fine ≡ Fine
-    go true = refl
-    go false = refl
+unfolding endBy isEq unless
+end-nothing n p = eq-any (λ v. v ≡ Fine) _ _ _ _ refl refl
 
 end-other : (n : ℕ) (xs : List ℕ) (p : ℕ) → (n ≡ 2 → ⊥) → endBy n xs p ≡ Fine
 unfolding endBy

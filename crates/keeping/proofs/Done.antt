@@ -9,12 +9,10 @@ use lib.IntN.{ℤ}
 use lib.ListN.{length}
 use Rattle.wire.specs.Tests.{pick, ifEq}
 use Rattle.wire.specs.Numbers.{Bytes}
-use Rattle.wire.proofs.Tests.{lt-yea}
+use Rattle.wire.proofs.Tests.{lt-yea, eq-ways, lt-or}
 use Rattle.boxes.specs.Containers.{LONGEST}
 use Rattle.entries.specs.Entries.{FRAMES}
-use Rattle.heads.proofs.Meeting.{eq-ways}
 use Rattle.entries.specs.Decoders.{recordRule}
-use Rattle.media.proofs.Payloads.{either}
 use Rattle.verdict.specs.declared.Answer.{Answer}
 use Rattle.verdict.specs.declared.Answer.the-variants.{Done, Refused}
 use Rattle.judge.specs.declared.Judgement.the-variants as judgement
@@ -44,7 +42,7 @@ equal-done m r a k p e = ⊎-elim (λ w. w) (λ w. absurd (refused-not k p _ (w 
 
 room-done : (new out : List ℕ) {n : ℕ} → roomAnswer new out ≡ Done n → length new ≤ LONGEST
 unfolding roomAnswer
-room-done new out e = either LONGEST (length new) (λ h. absurd (refused-not 24 0 _ (lt-yea _ _ _ _ _ h refl ∙ e))) (λ h. h)
+room-done new out e = lt-or LONGEST (length new) (λ h. absurd (refused-not 24 0 _ (lt-yea _ _ _ _ _ h refl ∙ e))) (λ h. h)
 
 -- ---- what a call that is done has passed
 

@@ -2,13 +2,12 @@
 use Prim.Native.Nat.{ℕ, zero, suc, _≤_}
 use native.Mathlib.Omega.{arith}
 use mathlib.Core.Path.{_≡_, refl}
-use mathlib.Core.Bool.{Bool, true, false}
+use mathlib.Core.Bool.{Bool, true}
 use mathlib.Core.List.{List, [], _∷_}
-use lib.Dec.{eqb}
 use lib.ListN.{length}
-use Rattle.wire.specs.Tests.{pick, ifEq}
 use Rattle.wire.specs.Clauses.{isLe}
 use Rattle.wire.proofs.Clauses.{is-le}
+use Rattle.wire.proofs.Tests.{eq-any}
 use Rattle.boxes.specs.Box.{Box, write}
 use Rattle.boxes.specs.Boxes.{boxes}
 use Rattle.boxes.specs.Containers.{kindIn}
@@ -57,12 +56,8 @@ module _ (n : ℕ) where
   short-list f h (x ∷ l) k = let e = length-cons x l in rw (h x (omega arith)) (short-list f h l (omega arith))
 
   short-box : (d k : ℕ) → ((j : ℕ) (ys : List ℕ) → length ys ≤ n → allIn (short n) d j ys ≡ true) → (x : Box) → length (x .body) ≤ n → allBox (short n) (allIn (short n) d) k x ≡ true
-  unfolding allBox ifEq
-  short-box d k ih x h = go (eqb (kindIn k (x .code)) 0)
-    where
-      go : (t : Bool) → pick t (isLe (length (x .body)) n) (allIn (short n) d (kindIn k (x .code)) (x .body)) ≡ true
-      go true = is-le _ _ h
-      go false = ih (kindIn k (x .code)) (x .body) h
+  unfolding allBox
+  short-box d k ih x h = eq-any (λ t. t ≡ true) _ _ _ _ (is-le _ _ h) (ih (kindIn k (x .code)) (x .body) h)
 
   -- it holds of a file of n bytes at most
   pub short-all : (d k : ℕ) (xs : List ℕ) → length xs ≤ n → allIn (short n) d k xs ≡ true

@@ -2,17 +2,13 @@
 use Prim.Native.Nat.{ℕ}
 use mathlib.Core.Path.{_≡_, refl, ap}
 use mathlib.Core.Bool.{Bool, true, false}
-use mathlib.Core.List.{List, [], _∷_, _++_, map}
+use mathlib.Core.List.{List, [], _∷_, map, map-append}
 use lib.Dec.{eqb}
 use Rattle.wire.specs.Tests.{pick, ifEq}
 use Rattle.wire.specs.Codes.{MOOV}
 use Rattle.boxes.specs.Box.{Box}
 use Rattle.boxes.specs.Rewrite.{Bodies, over}
 use Rattle.moving.specs.Moving.{just, others, moovSecond}
-
-map-append : {A B : Type 0} (f : A → B) (l m : List A) → map f (l ++ m) ≡ map f l ++ map f m
-map-append f [] m = refl
-map-append f (x ∷ l) m = rw (map-append f l m)
 
 just-maps : (c : ℕ) (f : Bodies) (l : List Box) → just c (map (over f) l) ≡ map (over f) (just c l)
 unfolding just ifEq

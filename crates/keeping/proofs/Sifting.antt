@@ -7,6 +7,7 @@ use lib.Dec.{eqb}
 use borrow.Author.Tests.{eqb-true, eqb-false}
 use Rattle.wire.specs.Tests.{pick, ifEq}
 use Rattle.wire.specs.Codes.{MOOV}
+use Rattle.wire.proofs.Tests.{eq-any}
 use Rattle.boxes.specs.Box.{Box}
 use Rattle.boxes.proofs.Reading.{All}
 use Rattle.boxes.proofs.Reading.All.{none, some}
@@ -52,22 +53,14 @@ module _ {P : Box → Type 0} where
   all-append (some h a) b = some h (all-append a b)
 
   each-just : (c : ℕ) {l : List Box} → All P l → All P (just c l)
-  unfolding just ifEq
+  unfolding just
   each-just c none = none
-  each-just c (some {x} {l} h a) = go (eqb (x .code) c) (each-just c a)
-    where
-      go : (t : Bool) → All P (just c l) → All P (pick t (x ∷ just c l) (just c l))
-      go true ih = some h ih
-      go false ih = ih
+  each-just c (some h a) = let i = each-just c a in eq-any (All P) _ _ _ _ (some h i) i
 
   each-others : (c : ℕ) {l : List Box} → All P l → All P (others c l)
-  unfolding others ifEq
+  unfolding others
   each-others c none = none
-  each-others c (some {x} {l} h a) = go (eqb (x .code) c) (each-others c a)
-    where
-      go : (t : Bool) → All P (others c l) → All P (pick t (others c l) (x ∷ others c l))
-      go true ih = ih
-      go false ih = some h ih
+  each-others c (some h a) = let i = each-others c a in eq-any (All P) _ _ _ _ i (some h i)
 
   -- it is one of every box in the other order
   pub each-second : {l : List Box} → All P l → All P (moovSecond l)

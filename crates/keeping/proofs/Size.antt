@@ -5,11 +5,10 @@ use mathlib.Core.List.{List}
 use lib.IntN.{ℤ}
 use lib.ListN.{length}
 use Rattle.wire.specs.Tests.{pick, ifEq, ifLt}
-use Rattle.wire.proofs.Tests.{lt-yea, lt-nay}
+use Rattle.wire.proofs.Tests.{lt-yea, lt-nay, lt-or}
 use Rattle.boxes.specs.Containers.{LONGEST}
 use Rattle.entries.specs.Entries.{FRAMES}
 use Rattle.entries.specs.Decoders.{recordRule}
-use Rattle.media.proofs.Payloads.{either}
 use Rattle.verdict.specs.declared.Answer.{Answer}
 use Rattle.verdict.specs.declared.Answer.the-variants.{Done, Refused}
 use Rattle.verdict.specs.Answers.{inRoom}
@@ -44,6 +43,6 @@ replace-size xs i new out e =
     let b = pick-done (takes (kindAt xs i) new) (ifEq (recordRule (kindAt xs i) FRAMES new) 1 s (Refused 21 0)) 20 0 (a .1) in
     let c = equal-done (recordRule (kindAt xs i) FRAMES new) 1 s 21 0 (b .1) in
     let d = pick-done (plain xs) (ifLt LONGEST (length (replaceOf xs i new)) (Refused 24 0) (inRoom (replaceOf xs i new) out)) 23 0 (c .1) in
-    either LONGEST (length (replaceOf xs i new))
+    lt-or LONGEST (length (replaceOf xs i new))
     (λ h. absurd (refused-not 24 0 _ (lt-yea _ _ _ _ _ h refl ∙ d .1)))
     (λ h. room-size (replaceOf xs i new) out (lt-nay _ _ _ _ _ h refl ∙ d .1))

@@ -5,12 +5,11 @@ use mathlib.Core.Path.{_≡_, refl, sym, ap, _∙_}
 use mathlib.Core.List.{List, [], _∷_}
 use lib.ListN.{drop}
 use Rattle.wire.specs.Codes.{MOOV, TRAK, STSD}
-use Rattle.wire.proofs.Tests.{lt-yea, lt-nay}
+use Rattle.wire.proofs.Tests.{lt-yea, lt-nay, lt-or}
 use Rattle.boxes.specs.Box.{Box, size}
 use Rattle.boxes.specs.Boxes.{boxes, FRONT}
 use Rattle.boxes.specs.Seek.{meant, nth, startIn}
 use Rattle.boxes.proofs.Meaning.{meant-or, nth-hit, nth-next, nth-miss}
-use Rattle.media.proofs.Payloads.{either}
 use Rattle.movie.specs.declared.entry.Spot.the-variants.{In}
 use Rattle.movie.specs.Movie.{movie, track, table}
 use Rattle.movie.specs.Entries.{entriesStart, entriesOf, entriesAfter, entries}
@@ -59,7 +58,7 @@ spotted : (t : ℕ) (l : List Box) (i p u n : ℕ) → spotIn t l i ≡ In u n �
 unfolding spotIn
 spotted t [] i p u n e = let z : _≡_ {A = ℕ} 0 1 = cc in absurd (omega arith)
 spotted t (x ∷ l) i p u n e =
-    either i (held (x .code) (x .body))
+    lt-or i (held (x .code) (x .body))
     (λ h.
     let q : In t i ≡ In u n = lt-yea _ _ _ _ _ h refl ∙ e in
     let a : t ≡ u = cc in

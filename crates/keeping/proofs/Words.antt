@@ -7,9 +7,9 @@ use lib.ListN.{length, take, drop, getD, length-append, length-take, length-drop
 use lib.Seq.{length-take-le}
 use Rattle.wire.specs.Numbers.{word}
 use Rattle.wire.proofs.Numbers.{word-left, word-right, word-drop, word-out}
+use Rattle.wire.proofs.Tests.{lt-or}
 use Rattle.boxes.specs.Words.{eachWord, reword}
 use Rattle.boxes.proofs.Wording.{each-length, reword-length, reword-past}
-use Rattle.media.proofs.Payloads.{either}
 
 module _ (f : ℕ → ℕ) (from span : ℕ) (b : List ℕ) where
   -- the rest of the body, from the stretch on
@@ -23,7 +23,7 @@ module _ (f : ℕ → ℕ) (from span : ℕ) (b : List ℕ) where
   pub byte-before : (i : ℕ) → i < from → getD (reword f from span b) i 0 ≡ getD b i 0
   unfolding reword
   byte-before i h =
-      either (length b) from
+      lt-or (length b) from
       (λ k. ap (λ (xs : List ℕ). getD xs i 0) (sym (reword-past f from span b (omega arith))))
       (λ k. List·getD-append (take from b) rest 0 i (omega (arith, front k)) ∙ sym (List·getD-append (take from b) (drop from b) 0 i (omega (arith, front k))) ∙ ap (λ (xs : List ℕ). getD xs i 0) (take-append-drop from b))
 
@@ -31,7 +31,7 @@ module _ (f : ℕ → ℕ) (from span : ℕ) (b : List ℕ) where
   pub word-before : (at : ℕ) → at + 4 ≤ from → word 4 (reword f from span b) at ≡ word 4 b at
   unfolding reword
   word-before at h =
-      either (length b) from
+      lt-or (length b) from
       (λ k. ap (λ (xs : List ℕ). word 4 xs at) (sym (reword-past f from span b (omega arith))))
       (λ k. word-left 4 (take from b) rest at (omega (arith, front k)) ∙ sym (word-left 4 (take from b) (drop from b) at (omega (arith, front k))) ∙ ap (λ (xs : List ℕ). word 4 xs at) (take-append-drop from b))
 
@@ -45,6 +45,6 @@ module _ (f : ℕ → ℕ) (from span : ℕ) (b : List ℕ) where
   -- a number behind it
   pub word-behind : (at : ℕ) → word 4 (reword f from span b) (from + span + at) ≡ word 4 b (from + span + at)
   word-behind at =
-      either (length b) (from + span)
+      lt-or (length b) (from + span)
       (λ k. word-out 4 (reword f from span b) (from + span + at) (omega (arith, reword-length f from span b)) ∙ sym (word-out 4 b (from + span + at) (omega arith)))
       (behind-in at)

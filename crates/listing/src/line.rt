@@ -53,7 +53,7 @@ fn put_code(out: &mut [u8], at: usize, c: usize) -> usize
     if heads::kind::of_code(c) == 0 {
         return pen::put_part(out, at, b"other");
     }
-    pen::put_word32(out, at, c)
+    pen::put_number(out, at, 4, c)
 }
 
 // A track's line.
@@ -107,7 +107,7 @@ pub fn put_brand(out: &mut [u8], at: usize, code: usize, k: usize) -> usize
     ensures { λ r. ⌜ Put (brandLine code k) (now (out .entry)) at r (now (out .exit)) × (r ≤ at + 15) ⌝ }
 {
     let a = pen::put_part(out, at, b"brand ");
-    let b = pen::put_word32(out, a, code);
+    let b = pen::put_number(out, a, 4, code);
     put_yes(out, b, k)
 }
 

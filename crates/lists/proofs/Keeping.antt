@@ -7,8 +7,8 @@ use mathlib.Core.List.{List, [], _∷_}
 use lib.Dec.{eqb}
 use borrow.Author.Tests.{eqb-true}
 use Rattle.wire.specs.Tests.{pick, ifEq}
-use Rattle.wire.proofs.Tests.{if-kept}
 use Rattle.wire.specs.Codes.{MOOV, TRAK, MDIA, MINF, STBL, STSD, DINF, DREF}
+use Rattle.wire.proofs.Tests.{eq-kept}
 use Rattle.boxes.specs.Box.{Box}
 use Rattle.boxes.specs.Boxes.{boxes}
 use Rattle.boxes.specs.Containers.{parent, kindIn}
@@ -74,19 +74,19 @@ module _ (G : Leaf)
   form-keep : (k c : ℕ) (b b′ : List ℕ) → G k c b b′ → formIn k c b ≡ true → formIn k c b′ ≡ true
   unfolding formIn
   form-keep k c b b′ g =
-      if-kept k STBL _ _ _ _ (λ e. if-kept c STSD _ _ _ _ (λ f. stsd b b′ (rw (e, f) at g)) (λ t. t))
-      (if-kept k DINF _ _ _ _ (λ e. if-kept c DREF _ _ _ _ (λ f. dref b b′ (rw (e, f) at g)) (λ t. t)) (λ t. t))
+      eq-kept k STBL _ _ _ _ (λ e. eq-kept c STSD _ _ _ _ (λ f. stsd b b′ (rw (e, f) at g)) (λ t. t))
+      (eq-kept k DINF _ _ _ _ (λ e. eq-kept c DREF _ _ _ _ (λ f. dref b b′ (rw (e, f) at g)) (λ t. t)) (λ t. t))
 
   pub kin-5 : (d k : ℕ) (xs ys : List ℕ) → Kin G d k xs ys → allIn fiveRule d k xs ≡ true → allIn fiveRule d k ys ≡ true
   kin-5 = keep fiveRule fiveRule G (λ k c b b′ z g. form-keep k c b b′ g)
-      (λ d k xs ys a. if-kept k MOOV _ _ _ _ (λ e t. rw (← same-entries G counts d (subst (λ (i : ℕ). Kin G (suc d) i xs ys) e a .0)) t) (λ t. t))
+      (λ d k xs ys a. eq-kept k MOOV _ _ _ _ (λ e t. rw (← same-entries G counts d (subst (λ (i : ℕ). Kin G (suc d) i xs ys) e a .0)) t) (λ t. t))
       (λ xs t. t)
 
 -- of `dref` that its entries are of this file
 module _ (G : Leaf) (dref : (b b′ : List ℕ) → G DINF DREF b b′ → allUrls b ≡ true → allUrls b′ ≡ true) where
   urls-keep : (k c : ℕ) (b b′ : List ℕ) → G k c b b′ → allUrlsIn k c b ≡ true → allUrlsIn k c b′ ≡ true
   unfolding allUrlsIn
-  urls-keep k c b b′ g = if-kept k DINF _ _ _ _ (λ e. if-kept c DREF _ _ _ _ (λ f. dref b b′ (rw (e, f) at g)) (λ t. t)) (λ t. t)
+  urls-keep k c b b′ g = eq-kept k DINF _ _ _ _ (λ e. eq-kept c DREF _ _ _ _ (λ f. dref b b′ (rw (e, f) at g)) (λ t. t)) (λ t. t)
 
   pub kin-9 : (d k : ℕ) (xs ys : List ℕ) → Kin G d k xs ys → allIn nineRule d k xs ≡ true → allIn nineRule d k ys ≡ true
   kin-9 = keep nineRule nineRule G (λ k c b b′ z g. urls-keep k c b b′ g) (λ d k xs ys a t. t) (λ xs t. t)

@@ -12,13 +12,14 @@ use Rattle.wire.specs.Clauses.{isLe}
 use Rattle.wire.specs.Codes.{TRAK, MOOV, DINF, DREF}
 use Rattle.wire.proofs.Numbers.{word-out}
 use Rattle.wire.proofs.Clauses.{is-le, not-le}
+use Rattle.wire.proofs.Tests.{through}
 use Rattle.boxes.specs.Box.{Box, size}
 use Rattle.boxes.specs.Boxes.{boxes}
 use Rattle.boxes.specs.Seek.{nth}
 use Rattle.verdict.specs.declared.Verdict.the-variants.{Fine}
 use Rattle.verdict.specs.Verdict.{isFine}
 use Rattle.verdict.specs.Rule.{Says}
-use Rattle.verdict.proofs.Places.{through, unless-fine}
+use Rattle.verdict.proofs.Places.{unless-fine}
 use Rattle.verdict.proofs.Acceptance.{list-fine}
 use Rattle.lists.specs.Forms.{stored, formIn}
 use Rattle.lists.specs.Totals.{MOST, toStsd, NoneAny, follow, brokenAt, entriesOf, entries, overMost}

@@ -5,6 +5,7 @@ use mathlib.Core.Path.{_≡_, sym}
 use mathlib.Core.Bool.{true}
 use mathlib.Core.List.{List, [], _∷_, _++_}
 use Rattle.wire.specs.Codes.{MDAT}
+use Rattle.wire.proofs.Tests.{lt-or}
 use Rattle.boxes.specs.Box.{Box, size}
 use Rattle.boxes.specs.Boxes.{total}
 use Rattle.boxes.specs.Words.{moved}
@@ -12,7 +13,6 @@ use Rattle.boxes.specs.declared.words.By.{By}
 use Rattle.boxes.proofs.Wording.{moved-low, moved-high}
 use Rattle.media.specs.Payloads.{mdats, inAt}
 use Rattle.media.specs.Relocate.{relocate}
-use Rattle.media.proofs.Payloads.{either}
 use Rattle.media.proofs.Moving.{relocate-before, relocate-past}
 use Rattle.media.proofs.Swapping.{relocate-under, relocate-beyond}
 
@@ -26,7 +26,7 @@ pub record Changes (p : List Box) (x y : Box) (by : By) : Type 0 where
 pub moved-change : (p q : List Box) (x y : Box) → (x .code ≡ MDAT → ⊥) → (y .code ≡ MDAT → ⊥) → 0 < size x → (by : By) → Changes p x y by
     → (o n : ℕ) → inAt (p ++ x ∷ q) o n ≡ true → moved by o ≡ relocate (p ++ x ∷ q) (p ++ y ∷ q) o
 moved-change p q x y nx ny z by c o n h =
-    either o (by .limit)
+    lt-or o (by .limit)
     (λ k. sym (moved-low by o k (omega (arith, c .low, c .limit, relocate-before p q x y nx ny o (omega (arith, c .limit))))))
     (λ k. sym (moved-high by o k (omega (arith, c .high, c .less, relocate-past p q x y nx ny z o n h (omega (arith, c .limit))))))
 
@@ -40,6 +40,6 @@ pub record Fronts (p b : List Box) (x : Box) (by : By) : Type 0 where
 pub moved-front : (p b q : List Box) (x : Box) → (x .code ≡ MDAT → ⊥) → mdats p ≡ [] → 0 < size x → (by : By) → Fronts p b x by
     → (o n : ℕ) → inAt (p ++ (b ++ x ∷ q)) o n ≡ true → moved by o ≡ relocate (p ++ (b ++ x ∷ q)) (p ++ x ∷ (b ++ q)) o
 moved-front p b q x nx np z by c o n h =
-    either o (by .limit)
+    lt-or o (by .limit)
     (λ k. sym (moved-low by o k (omega (arith, c .low, relocate-under p b q x nx np z o n h (omega (arith, c .limit))))))
     (λ k. sym (moved-high by o k (omega (arith, c .high, c .less, relocate-beyond p b q x nx np z o n h (omega (arith, c .limit))))))

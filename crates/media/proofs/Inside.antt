@@ -8,6 +8,7 @@ use lib.ListN.{length, drop}
 use Rattle.wire.specs.Clauses.{isLe}
 use Rattle.wire.specs.Codes.{MDAT}
 use Rattle.wire.proofs.Clauses.{is-eq, not-eq, is-le, not-le, fails, done, holds as and}
+use Rattle.wire.proofs.Tests.{lt-or}
 use Rattle.boxes.specs.Box.{Box, size}
 use Rattle.boxes.specs.Boxes.{boxes}
 use Rattle.boxes.specs.Walk.{boxAt, Ran, Over}
@@ -15,7 +16,7 @@ use Rattle.boxes.specs.declared.walk.Walk.{Walk}
 use Rattle.boxes.specs.declared.walk.BoxAt.{BoxAt}
 use Rattle.boxes.proofs.Seeking.{ran-size}
 use Rattle.media.specs.Payloads.{mdats, Spot, nowhere, spot, past, resolve, fits, inAt, holds}
-use Rattle.media.proofs.Payloads.{either, mdat-or, resolve-here, resolve-past, mdats-hit, within-hit, within-low, within-miss, past-nowhere}
+use Rattle.media.proofs.Payloads.{mdat-or, resolve-here, resolve-past, mdats-hit, within-hit, within-low, within-miss, past-nowhere}
 use Rattle.media.proofs.Behind.{behind-some}
 
 -- ---- over a list of boxes
@@ -28,7 +29,7 @@ module _ (x : Box) (l : List Box) (o n : ℕ) where
   hit : x .code ≡ MDAT → x .head ≤ o → isLe (o - x .head + n) (length (x .body)) ≡ holds (x .code) (x .head) (size x) o n
   unfolding holds
   hit c k =
-      either (size x) (o + n)
+      lt-or (size x) (o + n)
       (λ e. not-le _ _ (omega arith) ∙ fails 2 _ (not-le _ _ e))
       (λ e. is-le _ _ (omega arith) ∙ and _ _ (is-eq _ _ c) (and _ _ (is-le _ _ k) (and _ _ (is-le _ _ e) done)))
 
@@ -37,7 +38,7 @@ module _ (x : Box) (l : List Box) (o n : ℕ) where
   unfolding inAt holds
   in-here h =
       rw (resolve-here x l o h) (mdat-or x
-      (λ c. either o (x .head) (λ k. rw (within-low x c o k) (fails 1 _ (not-le _ _ k))) (λ k. rw (within-hit x c o k, mdats-hit x c l) (hit c k)))
+      (λ c. lt-or o (x .head) (λ k. rw (within-low x c o k) (fails 1 _ (not-le _ _ k))) (λ k. rw (within-hit x c o k, mdats-hit x c l) (hit c k)))
       (λ c. rw (within-miss x c o) (fails 0 _ (not-eq _ _ c))))
 
   -- past it

@@ -6,11 +6,11 @@ use mathlib.Core.Bool.{true}
 use mathlib.Core.List.{List, _∷_, _++_}
 use lib.ListN.{length}
 use Rattle.wire.specs.Codes.{MDAT}
+use Rattle.wire.proofs.Tests.{lt-or}
 use Rattle.boxes.specs.Box.{Box, size}
 use Rattle.boxes.specs.Boxes.{total}
 use Rattle.media.specs.Payloads.{mdats, Spot, nowhere, spot, resolve, placeOf, inAt}
 use Rattle.media.specs.Relocate.{relocate}
-use Rattle.media.proofs.Payloads.{either}
 use Rattle.media.proofs.Resolving.{Found, resolved}
 use Rattle.media.proofs.Relocating.{in-lies, relocate-to, relocate-out}
 use Rattle.media.proofs.Joining.{place-left, place-before, place-behind}
@@ -42,7 +42,7 @@ module _ (p q : List Box) (x y : Box) (nx : x .code ≡ MDAT → ⊥) (ny : y .c
       go nowhere e = relocate-out old new o e
       go (spot j i) e =
           let f = resolved old o j i e in
-          relocate-to old new o j i e ∙ either j (length (mdats p)) (λ r. left o j i f r .0) (λ r. absurd (omega (arith, right o j i f r .1)))
+          relocate-to old new o j i e ∙ lt-or j (length (mdats p)) (λ r. left o j i f r .0) (λ r. absurd (omega (arith, right o j i f r .1)))
 
   -- past it, one in a payload moves by the change of size
   pub relocate-past : 0 < size x → (o n : ℕ) → inAt old o n ≡ true → total p + size x ≤ o → relocate old new o + size x ≡ o + size y
@@ -50,4 +50,4 @@ module _ (p q : List Box) (x y : Box) (nx : x .code ≡ MDAT → ⊥) (ny : y .c
       let s = in-lies old o n h in
       let f = resolved old o (s .j) (s .i) (s .found) in
       rw (relocate-to old new o (s .j) (s .i) (s .found))
-      (either (s .j) (length (mdats p)) (λ r. absurd (omega (arith, left o (s .j) (s .i) f r .1))) (λ r. right o (s .j) (s .i) f r .0))
+      (lt-or (s .j) (length (mdats p)) (λ r. absurd (omega (arith, left o (s .j) (s .i) f r .1))) (λ r. right o (s .j) (s .i) f r .0))

@@ -1,30 +1,14 @@
 -- Laws of payloads, one box at a time. Assumes nothing.
 use Prim.Native.Nat.{ℕ, _+_, _-_, _≤_, _<_}
 use mathlib.Core.Path.{_≡_, refl, sym}
-use mathlib.Core.Bool.{Bool, true, false}
 use mathlib.Core.List.{List, _∷_}
-use lib.Dec.{eqb, ltb}
-use borrow.Author.Tests.{ltb-true, ltb-false, eqb-true, eqb-false}
 use Rattle.wire.specs.Codes.{MDAT}
-use Rattle.wire.proofs.Tests.{eq-yea, eq-nay, lt-yea, lt-nay}
+use Rattle.wire.proofs.Tests.{eq-yea, eq-nay, lt-yea, lt-nay, eq-or}
 use Rattle.boxes.specs.Box.{Box, size}
 use Rattle.media.specs.Payloads.{mdats, nowhere, spot, within, past, resolve, placeOf}
 
--- ---- two cases
-
-pub either : {A : Type 0} (m n : ℕ) → (m < n → A) → (n ≤ m → A) → A
-either {A} m n f g = go (ltb m n) refl
-  where
-    go : (t : Bool) → ltb m n ≡ t → A
-    go true e = f (ltb-true _ _ e)
-    go false e = g (ltb-false _ _ e)
-
 pub mdat-or : {A : Type 0} (x : Box) → (x .code ≡ MDAT → A) → ((x .code ≡ MDAT → ⊥) → A) → A
-mdat-or {A} x f g = go (eqb (x .code) MDAT) refl
-  where
-    go : (t : Bool) → eqb (x .code) MDAT ≡ t → A
-    go true e = f (eqb-true _ _ e)
-    go false e = g (eqb-false _ _ e)
+mdat-or x = eq-or (x .code) MDAT
 
 -- ---- a place in the first box, or past it
 

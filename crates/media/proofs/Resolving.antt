@@ -5,9 +5,10 @@ use mathlib.Core.Path.{_≡_, sym, _∙_}
 use mathlib.Core.List.{List, [], _∷_}
 use lib.ListN.{length, getD}
 use Rattle.wire.specs.Codes.{MDAT}
+use Rattle.wire.proofs.Tests.{lt-or}
 use Rattle.boxes.specs.Box.{Box, size}
 use Rattle.media.specs.Payloads.{mdats, spot, within, resolve, placeOf}
-use Rattle.media.proofs.Payloads.{either, mdat-or, resolve-here, resolve-past, mdats-hit, place-hit, within-hit, within-low, within-miss}
+use Rattle.media.proofs.Payloads.{mdat-or, resolve-here, resolve-past, mdats-hit, place-hit, within-hit, within-low, within-miss}
 use Rattle.media.proofs.Behind.{Behind, past-or}
 
 -- place o is i bytes into payload j
@@ -28,7 +29,7 @@ module _ (x : Box) (l : List Box) (o j i : ℕ) where
   found-here : o ≤ size x → within x o ≡ spot j i → Found (x ∷ l) o j i
   found-here h e =
       mdat-or x
-      (λ c. either o (x .head) (λ k. let y = within-low x c o k in let z : _≡_ {A = ℕ} 0 1 = cc in absurd (omega arith)) (λ k. found-hit h e c k))
+      (λ c. lt-or o (x .head) (λ k. let y = within-low x c o k in let z : _≡_ {A = ℕ} 0 1 = cc in absurd (omega arith)) (λ k. found-hit h e c k))
       (λ c. let y = within-miss x c o in let z : _≡_ {A = ℕ} 0 1 = cc in absurd (omega arith))
 
   found-behind : size x < o → (h : ℕ) → Behind x h j → Found l (o - size x) h i → Found (x ∷ l) o j i
@@ -38,6 +39,6 @@ pub resolved : (l : List Box) (o j i : ℕ) → resolve l o ≡ spot j i → Fou
 unfolding resolve
 resolved [] o j i e = let z : _≡_ {A = ℕ} 0 1 = cc in absurd (omega arith)
 resolved (x ∷ l) o j i e =
-    either (size x) o
+    lt-or (size x) o
     (λ k. past-or x (resolve l (o - size x)) j i (sym (resolve-past x l o k) ∙ e) (λ h q b. found-behind x l o j i k h b (resolved l (o - size x) h i q)))
     (λ k. found-here x l o j i k (sym (resolve-here x l o k) ∙ e))

@@ -6,11 +6,11 @@ use mathlib.Core.Bool.{true}
 use mathlib.Core.List.{List, [], _∷_, _++_}
 use lib.ListN.{length, getD}
 use Rattle.wire.specs.Codes.{MDAT}
+use Rattle.wire.proofs.Tests.{lt-or}
 use Rattle.boxes.specs.Box.{Box, size}
 use Rattle.boxes.specs.Boxes.{total}
 use Rattle.media.specs.Payloads.{mdats, placeOf, inAt}
 use Rattle.media.specs.Relocate.{relocate}
-use Rattle.media.proofs.Payloads.{either}
 use Rattle.media.proofs.Behind.{behind-miss}
 use Rattle.media.proofs.Resolving.{Found, resolved}
 use Rattle.media.proofs.Relocating.{in-lies, relocate-to}
@@ -53,11 +53,11 @@ module _ (p b q : List Box) (x : Box) (nx : x .code ≡ MDAT → ⊥) (np : mdat
         let s = in-lies old o n h in
         let f = resolved old o (s .j) (s .i) (s .found) in
         relocate-to old new o (s .j) (s .i) (s .found)
-        ∙ either (s .j) (length (mdats b)) (λ r. left o (s .j) (s .i) f r .0) (λ r. absurd (omega (arith, right o (s .j) (s .i) f r .1)))
+        ∙ lt-or (s .j) (length (mdats b)) (λ r. left o (s .j) (s .i) f r .0) (λ r. absurd (omega (arith, right o (s .j) (s .i) f r .1)))
 
     pub relocate-beyond : total p + total b + size x ≤ o → relocate old new o ≡ o
     relocate-beyond k =
         let s = in-lies old o n h in
         let f = resolved old o (s .j) (s .i) (s .found) in
         relocate-to old new o (s .j) (s .i) (s .found)
-        ∙ either (s .j) (length (mdats b)) (λ r. absurd (omega (arith, left o (s .j) (s .i) f r .1))) (λ r. right o (s .j) (s .i) f r .0)
+        ∙ lt-or (s .j) (length (mdats b)) (λ r. absurd (omega (arith, left o (s .j) (s .i) f r .1))) (λ r. right o (s .j) (s .i) f r .0)

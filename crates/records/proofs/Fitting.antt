@@ -6,8 +6,7 @@ use mathlib.Core.List.{List, [], _∷_}
 use mathlib.Core.Logic.{⊎-elim, _⊎_, inl, inr}
 use lib.ListN.{getD}
 use Rattle.wire.specs.Tests.{ifLt}
-use Rattle.wire.proofs.Tests.{lt-yea, eq-yea, eq-nay}
-use Rattle.heads.proofs.Meeting.{lt-met, eq-met, eq-ways}
+use Rattle.wire.proofs.Tests.{lt-yea, eq-yea, eq-nay, lt-met, eq-met, eq-ways}
 use Rattle.records.specs.declared.field.Rates.{Rates}
 use Rattle.records.specs.Fields.{below, ratesRule}
 

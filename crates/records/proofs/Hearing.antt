@@ -9,10 +9,11 @@ use lib.Seq.{take-all}
 use Rattle.wire.specs.Numbers.{Bytes, word}
 use Rattle.wire.specs.Codes.{DAMR}
 use Rattle.wire.proofs.Numbers.{word-fits}
+use Rattle.wire.proofs.Putting.{grow}
 use Rattle.heads.specs.Kinds.{kindOf, codeOf}
 use Rattle.heads.specs.Heads.{audioHead}
-use Rattle.heads.proofs.Meeting.{kind-code}
-use Rattle.heads.proofs.Putting.{grow, grow-header}
+use Rattle.heads.proofs.Coding.{kind-code}
+use Rattle.heads.proofs.Heading.{grow-header}
 use Rattle.entries.proofs.Speech.{Spoken, SpeechAt}
 use Rattle.records.specs.Fields.{amrIn, amrRule}
 use Rattle.records.specs.Texts.{amrText}

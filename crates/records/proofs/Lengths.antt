@@ -1,12 +1,10 @@
 -- How long the entries of records are. Assumes nothing.
 use Prim.Native.Nat.{ℕ}
 use mathlib.Core.Path.{_≡_, refl, sym, _∙_}
-use mathlib.Core.Bool.{Bool, true, false}
-use mathlib.Core.List.{List}
-use lib.Dec.{eqb}
 use lib.ListN.{length}
-use Rattle.wire.specs.Tests.{pick, ifEq}
+use Rattle.wire.specs.Tests.{ifEq}
 use Rattle.wire.specs.Numbers.{bytesOn, bytes}
+use Rattle.wire.proofs.Tests.{through}
 use Rattle.heads.specs.Heads.{boxHeader, commonHead, audioHead, visualStart, visualHead}
 use Rattle.records.specs.declared.field.Amr.{Amr}
 use Rattle.records.specs.declared.field.H263.{H263}
@@ -24,14 +22,6 @@ pub rated-length : (f : H263) → length (ratedText f) ≡ 117
 unfolding ratedText plainText visualHead visualStart commonHead boxHeader bytes bytesOn
 rated-length f = refl
 
-length-chosen : (m n : ℕ) (xs ys : List ℕ) → length (ifEq m n xs ys) ≡ ifEq m n (length xs) (length ys)
-unfolding ifEq
-length-chosen m n xs ys = go (eqb m n)
-  where
-    go : (t : Bool) → length (pick t xs ys) ≡ pick t (length xs) (length ys)
-    go true = refl
-    go false = refl
-
 pub h263-length : (f : H263) → ifEq (f .rates .given) 1 117 101 ≡ length (h263Text f)
 unfolding h263Text
-h263-length f = sym (length-chosen (f .rates .given) 1 (ratedText f) (plainText 101 15 f) ∙ rw (rated-length f, plain-length 101 15 f))
+h263-length f = sym (through length (f .rates .given) 1 (ratedText f) (plainText 101 15 f) ∙ rw (rated-length f, plain-length 101 15 f))

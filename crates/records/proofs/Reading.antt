@@ -7,9 +7,9 @@ use mathlib.Core.Logic.{inl, inr, ⊎-elim}
 use Rattle.wire.specs.Tests.{ifEq}
 use Rattle.wire.specs.Numbers.{word}
 use Rattle.wire.specs.Codes.{S263}
-use Rattle.wire.proofs.Tests.{eq-yea, eq-nay}
+use Rattle.wire.proofs.Tests.{eq-yea, eq-nay, eq-ways, eq-met}
 use Rattle.heads.specs.Kinds.{kindOf}
-use Rattle.heads.proofs.Meeting.{eq-ways, eq-met, code-kind}
+use Rattle.heads.proofs.Coding.{code-kind}
 use Rattle.entries.specs.declared.rule.Around.the-variants.{Alone}
 use Rattle.entries.specs.Entries.{ruleAs, entryRule}
 use Rattle.entries.proofs.Speech.{Spoken, speech-is}

@@ -5,9 +5,8 @@ use mathlib.Core.Path.{_≡_, refl, sym, subst, _∙_}
 use mathlib.Core.List.{List}
 use mathlib.Core.Logic.{inl, inr, ⊎-elim}
 use Rattle.wire.specs.Numbers.{Bytes, word}
-use Rattle.wire.proofs.Tests.{eq-yea, eq-nay}
+use Rattle.wire.proofs.Tests.{eq-yea, eq-nay, eq-ways}
 use Rattle.heads.specs.Kinds.{kindOf}
-use Rattle.heads.proofs.Meeting.{eq-ways}
 use Rattle.entries.specs.declared.rule.Around.the-variants.{Alone}
 use Rattle.entries.specs.Entries.{ruleAs, entryRule}
 use Rattle.entries.proofs.Speech.{Spoken, speech-met}

@@ -10,9 +10,10 @@ use Rattle.wire.specs.Numbers.{Bytes, word}
 use Rattle.wire.specs.Codes.{S263, D263, BITR}
 use Rattle.wire.proofs.Tests.{eq-yea, eq-nay}
 use Rattle.wire.proofs.Numbers.{word-fits, word-out}
+use Rattle.wire.proofs.Putting.{grow}
 use Rattle.heads.specs.Kinds.{kindOf, codeOf}
-use Rattle.heads.proofs.Meeting.{kind-code}
-use Rattle.heads.proofs.Putting.{grow, grow-header}
+use Rattle.heads.proofs.Coding.{kind-code}
+use Rattle.heads.proofs.Heading.{grow-header}
 use Rattle.entries.proofs.Picture.{PictureAt, RatedAt}
 use Rattle.records.specs.Fields.{ratesIn, h263In, ratesRule, h263Rule}
 use Rattle.records.specs.Texts.{plainText, ratedText, h263Text}

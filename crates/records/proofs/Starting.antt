@@ -8,9 +8,8 @@ use lib.Seq.{take-take}
 use Rattle.wire.specs.Tests.{ifLe}
 use Rattle.wire.specs.Numbers.{bytesOn, bytes, word}
 use Rattle.wire.specs.Codes.{S263, D263}
-use Rattle.wire.proofs.Numbers.{word-bytes}
+use Rattle.wire.proofs.Numbers.{word-bytes, word-take}
 use Rattle.heads.specs.Heads.{boxHeader, commonHead, visualStart, visualHead}
-use Rattle.entries.proofs.Replacing.{word-take}
 use Rattle.entries.proofs.Picture.{PictureAt}
 use Rattle.records.specs.declared.field.H263.{H263}
 use Rattle.records.specs.Texts.{plainText}

@@ -1,8 +1,7 @@
 // The fields of a record, and their rule.
 use entries::decoder;
-use heads::lend;
-use heads::test;
 use wire::number;
+use wire::test;
 ghost use mathlib.Core.Path.{_≡_};
 ghost use Rattle.records.specs.Fields.{amrIn, ratesIn, h263In, recordIn, amrRule, ratesRule, h263Rule, speechRule, fieldsRule};
 
@@ -53,10 +52,10 @@ fn read_amr(kind: usize, entry: &[u8]) -> Amr
         reference: number::word16(entry, 14),
         scale: number::word16(entry, 32),
         vendor: number::word32(entry, 44),
-        version: lend::word8(entry, 48),
+        version: number::byte(entry, 48),
         modes: number::word16(entry, 49),
-        period: lend::word8(entry, 51),
-        frames: lend::word8(entry, 52),
+        period: number::byte(entry, 51),
+        frames: number::byte(entry, 52),
     }
 }
 
@@ -80,9 +79,9 @@ fn read_h263(entry: &[u8]) -> H263
         width: number::word16(entry, 32),
         height: number::word16(entry, 34),
         vendor: number::word32(entry, 94),
-        version: lend::word8(entry, 98),
-        level: lend::word8(entry, 99),
-        profile: lend::word8(entry, 100),
+        version: number::byte(entry, 98),
+        level: number::byte(entry, 99),
+        profile: number::byte(entry, 100),
         rates: read_rates(entry),
     }
 }

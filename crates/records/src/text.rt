@@ -5,8 +5,9 @@ use crate::field::Record;
 use heads::head;
 use heads::kind;
 use heads::put;
-use heads::test;
 use wire::codes;
+use wire::pen;
+use wire::test;
 ghost use mathlib.Core.Path.{_≡_};
 ghost use lib.ListN.{length};
 ghost use Rattle.wire.specs.Writing.{Put};
@@ -18,11 +19,11 @@ fn put_amr(out: &mut [u8], f: Amr) -> usize
 {
     let a = head::put_audio(out, 53, kind::code(f.kind), f.reference, f.scale);
     let b = put::header(out, a, 17, codes::DAMR);
-    let c = put::number(out, b, 4, f.vendor);
-    let d = put::number(out, c, 1, f.version);
-    let e = put::number(out, d, 2, f.modes);
-    let g = put::number(out, e, 1, f.period);
-    put::number(out, g, 1, f.frames)
+    let c = pen::put_number(out, b, 4, f.vendor);
+    let d = pen::put_number(out, c, 1, f.version);
+    let e = pen::put_number(out, d, 2, f.modes);
+    let g = pen::put_number(out, e, 1, f.period);
+    pen::put_number(out, g, 1, f.frames)
 }
 
 // Writes an `s263` entry up to its profile; the two sizes are those of the entry and of its `d263`.
@@ -39,10 +40,10 @@ fn put_plain(out: &mut [u8], size: usize, inner: usize, f: H263) -> usize
         &[0u8; 32],
     );
     let b = put::header(out, a, inner, codes::D263);
-    let c = put::number(out, b, 4, f.vendor);
-    let d = put::number(out, c, 1, f.version);
-    let e = put::number(out, d, 1, f.level);
-    put::number(out, e, 1, f.profile)
+    let c = pen::put_number(out, b, 4, f.vendor);
+    let d = pen::put_number(out, c, 1, f.version);
+    let e = pen::put_number(out, d, 1, f.level);
+    pen::put_number(out, e, 1, f.profile)
 }
 
 // Writes an `s263` entry with a `bitr`.
@@ -51,8 +52,8 @@ fn put_rated(out: &mut [u8], f: H263) -> usize
 {
     let a = put_plain(out, 117, 31, f);
     let b = put::header(out, a, 16, codes::BITR);
-    let c = put::number(out, b, 4, f.rates.average);
-    put::number(out, c, 4, f.rates.maximum)
+    let c = pen::put_number(out, b, 4, f.rates.average);
+    pen::put_number(out, c, 4, f.rates.maximum)
 }
 
 // Writes an `s263` entry.

@@ -11,15 +11,14 @@ use Rattle.wire.specs.Clauses.{oneIf}
 use Rattle.wire.specs.Numbers.{word}
 use Rattle.wire.proofs.Clauses.{is-eq, not-eq, is-lt, not-lt, fails, holds, done, yea, nay}
 use Rattle.wire.proofs.Numbers.{word-out}
-use Rattle.wire.proofs.Tests.{eq-yea, eq-nay, lt-yea, lt-nay}
+use Rattle.wire.proofs.Tests.{eq-yea, eq-nay, lt-yea, lt-nay, eq-ways, eq-met, eq-or}
 use Rattle.heads.specs.Kinds.{kindOf}
-use Rattle.entries.specs.Decoders.{recordRule}
+use Rattle.entries.specs.Decoders.{recordRule, damrRule, d263Rule}
 use Rattle.entries.proofs.Kept.{record-kinds}
 use Rattle.movie.specs.declared.entry.EntryAt.{EntryAt}
 use Rattle.movie.specs.Entries.{entries}
 use Rattle.movie.specs.Named.{EntryIs}
 use Rattle.movie.proofs.Spots.{bytes-at, bytes-none}
-use Rattle.settle.proofs.One.{code-or}
 use Rattle.replace.specs.Replace.{kindAt, recordCode, takes}
 
 -- ---- the kind
@@ -44,7 +43,7 @@ module _ (xs : List ℕ) (i : ℕ) where
   pub kind-none : length (entries xs) ≤ i - 1 → 0 ≡ kindAt xs i
   unfolding kindAt
   kind-none h =
-      code-or i 0 (λ e. eq-yea _ _ _ _ _ e refl)
+      eq-or i 0 (λ e. eq-yea _ _ _ _ _ e refl)
       (λ e. eq-nay _ _ _ _ _ e (none-known ∙ ap kindOf (sym (ap (λ (ys : List ℕ). word 4 ys 4) (bytes-none (i - 1) (entries xs) h) ∙ word-out 4 [] 4 (omega arith)))))
 
 -- ---- a record that meets its rule
@@ -55,7 +54,7 @@ record-short kind most new e = let d = record-kinds kind most new e in (⊎-elim
 
 -- so there is such an entry
 pub record-first : (xs : List ℕ) (i most kind : ℕ) (new : List ℕ) → kind ≡ kindAt xs i → recordRule kind most new ≡ 1 → 1 ≤ i
-record-first xs i most kind new k e = code-or i 0 (λ z. absurd (omega (arith, kind-zero xs i z, record-short kind most new e .0))) (λ z. omega arith)
+record-first xs i most kind new k e = eq-or i 0 (λ z. absurd (omega (arith, kind-zero xs i z, record-short kind most new e .0))) (λ z. omega arith)
 
 -- ---- whether a kind takes a record
 

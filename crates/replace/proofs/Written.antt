@@ -2,16 +2,14 @@
 use Prim.Native.Nat.{ℕ, _-_, _≤_}
 use native.Mathlib.Omega.{arith}
 use mathlib.Core.Path.{_≡_, refl, sym, ap, _∙_}
-use mathlib.Core.Bool.{Bool, true, false}
 use mathlib.Core.List.{List, _++_}
-use lib.Dec.{eqb}
 use lib.ListN.{length, take, drop}
 use lib.Seq.{take-at, drop-at}
-use Rattle.wire.specs.Tests.{pick, ifEq}
-use Rattle.wire.specs.Codes.{MOOV, SOUN, VIDE}
+use Rattle.wire.specs.Codes.{MOOV}
 use Rattle.wire.specs.Numbers.{Bytes}
 use Rattle.wire.specs.Writing.{Wrote, Put}
 use Rattle.wire.proofs.Writing.{pen-front}
+use Rattle.wire.proofs.Tests.{eq-any}
 use Rattle.boxes.specs.declared.walk.BoxAt.{BoxAt}
 use Rattle.boxes.specs.Boxes.{HEAD, boxes}
 use Rattle.boxes.specs.Containers.{FILE, DEPTH}
@@ -67,10 +65,5 @@ module _ (xs : List ℕ) (i : ℕ) (new : List ℕ) {moov : List ℕ} (e : moov 
 -- ---- the head
 
 pub head-least : (kind : ℕ) → 8 ≤ headSize kind
-unfolding headSize ifEq
-head-least kind = go (eqb (handlerOf kind) SOUN) (eqb (handlerOf kind) VIDE)
-  where
-    go : (s t : Bool) → 8 ≤ pick s AUDIO (pick t VISUAL COMMON)
-    go true t = omega arith
-    go false true = omega arith
-    go false false = omega arith
+unfolding headSize
+head-least kind = eq-any (λ n. 8 ≤ n) _ _ _ _ (omega arith) (eq-any (λ n. 8 ≤ n) _ _ _ _ (omega arith) (omega arith))

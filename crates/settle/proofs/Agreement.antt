@@ -4,7 +4,7 @@ use mathlib.Core.Path.{_≡_, refl, sym, ap, subst, _∙_}
 use mathlib.Core.Bool.{Bool, true}
 use mathlib.Core.List.{List}
 use Rattle.wire.specs.Codes.{STBL, STCO}
-use Rattle.wire.proofs.Tests.{eq-yea, eq-nay}
+use Rattle.wire.proofs.Tests.{eq-yea, eq-nay, eq-or}
 use Rattle.boxes.specs.Box.{Box}
 use Rattle.boxes.specs.Boxes.{boxes}
 use Rattle.boxes.specs.Containers.{kindIn, FILE, DEPTH}
@@ -19,7 +19,6 @@ use Rattle.tracks.specs.Six.{sixRule}
 use Rattle.tracks.specs.Seven.{sevenRule}
 use Rattle.tracks.specs.Eight.{eightRule}
 use Rattle.settle.proofs.Each.{all-with, all-four, each-all, rule-leaves, rule-inside}
-use Rattle.settle.proofs.One.{code-or}
 use Rattle.settle.proofs.Offsets.{agreeOn, agreeIn, agree}
 use Rattle.settle.proofs.Placed.{Chunked, all-agree}
 
@@ -33,8 +32,8 @@ module _ (f g : ℕ → ℕ) where
   leaf-agrees : (k c : ℕ) (b : List ℕ) → (k ≡ STBL → c ≡ STCO → agreeOn f g b ≡ true) → agreeIn f g k c b ≡ true
   unfolding agreeIn
   leaf-agrees k c b h =
-      sym (code-or k STBL
-      (λ e. eq-yea _ _ _ _ _ e (code-or c STCO (λ r. eq-yea _ _ _ _ _ r (sym (h e r))) (λ r. eq-nay _ _ _ _ _ r refl)))
+      sym (eq-or k STBL
+      (λ e. eq-yea _ _ _ _ _ e (eq-or c STCO (λ r. eq-yea _ _ _ _ _ r (sym (h e r))) (λ r. eq-nay _ _ _ _ _ r refl)))
       (λ e. eq-nay _ _ _ _ _ e refl))
 
   agrees-leaf : (k c : ℕ) (b : List ℕ) → agreeIn f g k c b ≡ true → k ≡ STBL → c ≡ STCO → agreeOn f g b ≡ true
@@ -46,7 +45,7 @@ module _ (f g : ℕ → ℕ) where
     leaves : (d k : ℕ) (xs : List ℕ) → Chunked l (suc d) k xs → All (λ x. agreeIn f g k (x .code) (x .body) ≡ true) (boxes xs)
     leaves d k xs s =
         let t = rule-leaves threeRule d k xs (s .three) in
-        code-or k STBL
+        eq-or k STBL
         (λ e. all-with (λ x p q. leaf-agrees k (x .code) (x .body) (λ r. p)) (all-agree l d xs (subst (λ (i : ℕ). Chunked l (suc d) i xs) e s) f g h) t)
         (λ e. all-with (λ x p q. leaf-agrees k (x .code) (x .body) (λ r. absurd (e r))) t t)
 
@@ -54,7 +53,7 @@ module _ (f g : ℕ → ℕ) where
     unfolding allIn allBox
     chunked-agree zero k xs s = refl
     chunked-agree (suc d) k xs s =
-        each-all _ (all-with (λ x p q. sym (code-or (kindIn k (x .code)) 0 (λ z. eq-yea _ _ _ _ _ z (sym p)) (λ z. eq-nay _ _ _ _ _ z (sym (chunked-agree d (kindIn k (x .code)) (x .body) (q z)))))) (leaves d k xs s) (inside l d k xs s))
+        each-all _ (all-with (λ x p q. sym (eq-or (kindIn k (x .code)) 0 (λ z. eq-yea _ _ _ _ _ z (sym p)) (λ z. eq-nay _ _ _ _ _ z (sym (chunked-agree d (kindIn k (x .code)) (x .body) (q z)))))) (leaves d k xs s) (inside l d k xs s))
 
   -- of a file that meets the rules
   pub meets-agree : (xs : List ℕ) → Meets xs → ((o n : ℕ) → inAt (boxes xs) o n ≡ true → f o ≡ g o) → Holds (agree f g) xs

@@ -1,7 +1,6 @@
 pub mod Agreeing
 pub mod Offsets
 pub mod Each
-pub mod One
 pub mod Placed
 pub mod Agreement
 pub mod Settled

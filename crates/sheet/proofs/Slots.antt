@@ -2,14 +2,13 @@
 use Prim.Native.Nat.{ℕ, _+_, _-_, _%_, _<_}
 use native.Mathlib.Omega.{arith}
 use mathlib.Core.Path.{_≡_}
-use mathlib.Core.Bool.{Bool, true, false}
 use mathlib.Core.List.{List, [], _∷_, _++_, append-nil}
-use lib.Dec.{eqb}
 use lib.ListN.{length, take, drop, drop-of-length-le}
-use Rattle.wire.specs.Tests.{pick, ifEq}
+use Rattle.wire.specs.Tests.{ifEq}
 use Rattle.wire.specs.Numbers.{bytesOn, bytes, word}
 use Rattle.wire.specs.Writing.{Put}
 use Rattle.wire.proofs.Writing.{pen-none, pen-is}
+use Rattle.wire.proofs.Tests.{eq-any}
 use Rattle.heads.specs.Kinds.{kindOf}
 use Rattle.movie.specs.declared.entry.EntryAt.{EntryAt}
 use Rattle.movie.specs.declared.entry.Named.{Named}
@@ -22,12 +21,7 @@ use Rattle.sheet.specs.Sheet.{slot, slotOf, slots, bodies}
 -- ---- a slot
 
 either : (m n a b : ℕ) → a < 256 → b < 256 → ifEq m n a b < 256
-unfolding ifEq
-either m n a b k l = go (eqb m n)
-  where
-    go : (t : Bool) → pick t a b < 256
-    go true = k
-    go false = l
+either = eq-any (λ k. k < 256)
 
 pub kind-byte : (code : ℕ) → kindOf code < 256
 unfolding kindOf

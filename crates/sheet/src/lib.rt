@@ -1,6 +1,5 @@
 // The sheet reader: the sheet of a file's own sample entries.
 use heads::kind;
-use heads::put;
 use judge::Judgement;
 use movie::entry;
 use movie::entry::EntryAt;
@@ -37,11 +36,11 @@ pub fn put_slot(
     requires { ⌜ (at < 60000) × (kind < 256) × (track < 256) ⌝ }
     ensures { λ r. ⌜ Put (slotText kind track place size) (now (out .entry)) at r (now (out .exit)) × (r ≡ at + 12) ⌝ }
 {
-    let a = put::number(out, at, 1, kind);
-    let b = put::number(out, a, 1, track);
-    let c = put::number(out, b, 2, 0);
-    let d = put::number(out, c, 4, place);
-    put::number(out, d, 4, size)
+    let a = pen::put_number(out, at, 1, kind);
+    let b = pen::put_number(out, a, 1, track);
+    let c = pen::put_number(out, b, 2, 0);
+    let d = pen::put_number(out, c, 4, place);
+    pen::put_number(out, d, 4, size)
 }
 
 // Writes the slot of an entry that was looked up.
@@ -122,11 +121,11 @@ fn put_sheet(out: &mut [u8], file: &[u8]) -> usize
     ensures { λ r. ⌜ Put (sheetOf (now (file .entry))) (now (out .entry)) 0 r (now (out .exit)) ⌝ }
 {
     let n = entry::entries(file);
-    let a = put::number(out, 0, 1, 1);
-    let b = put::number(out, a, 1, n);
-    let c = put::number(out, b, 2, 0);
+    let a = pen::put_number(out, 0, 1, 1);
+    let b = pen::put_number(out, a, 1, n);
+    let c = pen::put_number(out, b, 2, 0);
     let d = put_slots(out, c, file, n);
-    let e = put::number(out, d, SLOT * (SLOTS - n), 0);
+    let e = pen::put_number(out, d, SLOT * (SLOTS - n), 0);
     put_bodies(out, e, file, n)
 }
 

@@ -1,26 +1,15 @@
 -- The clauses of the form, one by one. Assumes nothing.
 use Prim.Native.Nat.{ℕ, _≤_, _<_}
 use native.Mathlib.Omega.{arith}
-use mathlib.Core.Path.{_≡_, refl, sym, ap, _∙_}
-use mathlib.Core.Bool.{Bool, true, false}
-use mathlib.Core.List.{List, [], _∷_}
+use mathlib.Core.Path.{_≡_, sym, ap, _∙_}
+use mathlib.Core.List.{List}
 use lib.ListN.{getD}
-use Rattle.wire.specs.Clauses.{every, oneIf}
+use Rattle.wire.specs.Clauses.{oneIf}
 use Rattle.wire.specs.Same.{same}
-use Rattle.wire.proofs.Clauses.{is-eq, not-eq, is-le, not-le, fails, nay, was-nay, was-yea}
+use Rattle.wire.proofs.Clauses.{is-eq, not-eq, is-le, not-le, fails, nay, was-nay, was-yea, holds, decides}
 use Rattle.sheet.specs.Sheet.{sheet}
 use Rattle.table.specs.Form.{read, unsheet, steps, allMeet, formed}
 use Rattle.table.proofs.Opening.{Opened, opened}
-
--- the clauses that hold say nothing
-every-one : (t : Bool) → t ≡ every (t ∷ [])
-unfolding every
-every-one true = refl
-every-one false = refl
-
-every-last : {r : Bool} (t : Bool) (ts : List Bool) → t ≡ true → r ≡ every ts → r ≡ every (t ∷ ts)
-unfolding every
-every-last t ts h e = rw h e
 
 module _ (k : ℕ) (s : List ℕ) where
   pub form-none : getD s 1 0 < 1 → 0 ≡ oneIf (formed k s)
@@ -46,7 +35,7 @@ module _ {k n : ℕ} (s : List ℕ) {xs ys : List ℕ} {f : ℕ} (o : Opened k s
       g
       ∙ rw (opened o)
       (ap oneIf
-      (every-last _ _ (is-le _ _ (omega (arith, o .count)))
-      (every-last _ _ (is-le _ _ (omega (arith, o .count)))
-      (every-last _ _ (is-eq _ _ (sym d ∙ i))
-      (every-last _ _ (was-yea _ f z (e ∙ rw (opened o))) (every-one _))))))
+      (holds _ _ (is-le _ _ (omega (arith, o .count)))
+      (holds _ _ (is-le _ _ (omega (arith, o .count)))
+      (holds _ _ (is-eq _ _ (sym d ∙ i))
+      (holds _ _ (was-yea _ f z (e ∙ rw (opened o))) (decides _))))))

@@ -1,6 +1,5 @@
 pub mod Reading
 pub mod Slotting
-pub mod Comparing
 pub mod Judging
 pub mod Making
 pub mod Opening

@@ -9,7 +9,7 @@ use lib.ListN.{length, take, getD}
 use Rattle.wire.specs.Tests.{pick, ifEq}
 use Rattle.wire.specs.Numbers.{word}
 use Rattle.wire.specs.Writing.{Put}
-use Rattle.wire.proofs.Tests.{eq-yea, eq-nay}
+use Rattle.wire.proofs.Tests.{eq-yea, eq-nay, eq-any}
 use Rattle.wire.proofs.Writing.{pen-none, pen-then, pen-is}
 use Rattle.movie.specs.Entries.{Entry}
 use Rattle.sheet.specs.Sheet.{bodies}
@@ -34,12 +34,7 @@ if-bodies a t e es = go (eqb a t)
     go false = refl
 
 pub one-most : (a t : ℕ) → ifEq a t 1 0 ≤ 1
-unfolding ifEq
-one-most a t = go (eqb a t)
-  where
-    go : (b : Bool) → pick b 1 0 ≤ 1
-    go true = omega arith
-    go false = omega arith
+one-most a t = eq-any (λ n. n ≤ 1) a t 1 0 (omega arith) (omega arith)
 
 -- ---- how many
 

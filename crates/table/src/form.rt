@@ -2,10 +2,10 @@
 use crate::slots;
 use entries::rule;
 use entries::rule::Around;
-use heads::lend;
-use heads::test;
 use wire::compare;
+use wire::lend;
 use wire::number;
+use wire::test;
 ghost use mathlib.Core.Path.{_≡_};
 ghost use Prim.Native.Nat.{_≤_, _<_};
 ghost use lib.ListN.{getD};

@@ -1,12 +1,11 @@
 // The table writer: from a sheet and a track the `stsd` box of that track.
 use boxes::containers;
-use heads::lend;
-use heads::put;
-use heads::test;
 use verdict::Answer;
 use wire::codes;
+use wire::lend;
 use wire::number;
 use wire::pen;
+use wire::test;
 ghost use mathlib.Core.Path.{_≡_};
 ghost use mathlib.Core.List.{[]};
 ghost use Prim.Native.Nat.{_+_, _^_, _≤_, _<_};
@@ -86,10 +85,10 @@ fn put_table(
     requires { ⌜ (16 + length (now bodies) < 2 ^ 63) × (size < 2 ^ 63) × (count ≡ length (own track (read n (now slots) (now bodies)))) × (size ≡ length (bodiesText (own track (read n (now slots) (now bodies))))) ⌝ }
     ensures { λ r. ⌜ Put (tableText (own track (read n (now (slots .entry)) (now (bodies .entry))))) (now (out .entry)) 0 r (now (out .exit)) ⌝ }
 {
-    let a = put::number(out, 0, 4, 16 + size);
-    let b = put::number(out, a, 4, codes::STSD);
-    let c = put::number(out, b, 4, 0);
-    let d = put::number(out, c, 4, count);
+    let a = pen::put_number(out, 0, 4, 16 + size);
+    let b = pen::put_number(out, a, 4, codes::STSD);
+    let c = pen::put_number(out, b, 4, 0);
+    let d = pen::put_number(out, c, 4, count);
     put_own(out, d, slots, bodies, n, track)
 }
 

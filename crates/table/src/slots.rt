@@ -1,8 +1,8 @@
 // The slots of a sheet and the bodies that follow them. A slot is read blindly: what it says may be wrong.
 use heads::kind;
-use heads::lend;
-use heads::put;
+use wire::lend;
 use wire::number;
+use wire::pen;
 ghost use mathlib.Core.Path.{_≡_};
 ghost use mathlib.Core.List.{[], _∷_, _++_};
 ghost use Prim.Native.Nat.{_+_, _*_, _≤_, _<_};
@@ -74,8 +74,8 @@ pub fn put_front(out: &mut [u8], slots: &[u8], bodies: &[u8], n: usize) -> usize
     requires { ⌜ n < 256 ⌝ }
     ensures { λ r. ⌜ Put ((1 ∷ n ∷ 0 ∷ 0 ∷ []) ++ slotsText (read n (now (slots .entry)) (now (bodies .entry)))) (now (out .entry)) 0 r (now (out .exit)) ⌝ }
 {
-    let a = put::number(out, 0, 1, 1);
-    let b = put::number(out, a, 1, n);
-    let c = put::number(out, b, 2, 0);
+    let a = pen::put_number(out, 0, 1, 1);
+    let b = pen::put_number(out, a, 1, n);
+    let c = pen::put_number(out, b, 2, 0);
     put_slots(out, c, slots, bodies, n)
 }

@@ -1,26 +1,18 @@
 -- Laws of the walk by chunk. Assumes nothing.
-use Prim.Native.Nat.{ℕ, zero, suc, _+_, _*_, _≤_, _<_}
+use Prim.Native.Nat.{ℕ, _+_, _*_, _≤_, _<_}
 use native.Mathlib.Omega.{arith}
-use native.Mathlib.Numerals.{add-one}
-use native.Mathlib.Nat.{add-mul}
 use mathlib.Core.Path.{_≡_, sym, ap, _∙_}
 use mathlib.Core.List.{List}
 use Rattle.wire.specs.Numbers.{Bytes}
-use Rattle.wire.specs.Sums.{sumTo}
-use Rattle.wire.proofs.Sums.{sum-none, sum-more, sum-mono}
+use Rattle.wire.proofs.Sums.{sum-none, sum-more, sum-mono, sum-at-most}
+use Rattle.wire.proofs.Numbers.{word-most}
 use Rattle.tables.specs.Tables.{count}
 use Rattle.tables.specs.Runs.{runOf, Rising}
 use Rattle.tables.specs.Chunks.{samplesIn, firstSample, walkStart, walkAt, Walkable}
 use Rattle.tables.specs.declared.chunk.ChunkWalk.{ChunkWalk}
-use Rattle.tables.proofs.Tables.{word-most}
 use Rattle.tables.proofs.LastRun.{run-first, run-inside}
 
 -- ---- the first sample of a chunk
-
--- terms that are each at most k
-sum-at-most : (f : ℕ → ℕ) (k n : ℕ) → ((i : ℕ) → f i ≤ k) → sumTo f n ≤ n * k
-sum-at-most f k zero h = omega (arith, sum-none f)
-sum-at-most f k (suc n) h = rw (← add-one n, sum-more f n, add-mul n 1 k) (omega (arith, h n, sum-at-most f k n h))
 
 module _ (stsc : List ℕ) where
   pub first-none : 0 ≡ firstSample stsc 0

@@ -1,13 +1,10 @@
 -- Laws of a step of the walk by chunk. Assumes nothing.
 use Prim.Native.Nat.{ℕ, _+_, _≤_, _<_}
 use native.Mathlib.Omega.{arith}
-use mathlib.Core.Path.{_≡_, refl}
-use mathlib.Core.Bool.{Bool, true, false}
+use mathlib.Core.Path.{_≡_, refl, sym}
 use mathlib.Core.List.{List}
-use lib.Dec.{ltb}
-use borrow.Author.Tests.{ltb-true, ltb-false}
-use Rattle.wire.specs.Tests.{pick, ifLt}
-use Rattle.wire.proofs.Tests.{lt-yea, lt-nay}
+use mathlib.Core.Logic.{⊎-elim}
+use Rattle.wire.proofs.Tests.{lt-yea, lt-nay, lt-ways}
 use Rattle.tables.specs.Tables.{count}
 use Rattle.tables.specs.Runs.{perChunk, description, runOf}
 use Rattle.tables.specs.Chunks.{samplesIn, descriptionOf, offsetAt, chunkAt, walkAt, stepOf}
@@ -48,19 +45,16 @@ module _ (stsc stco : List ℕ) where
   -- back from the answer
   module _ (k : ℕ) where
     pub found-is : (c : Chunk) (w : ChunkWalk) → Found c w ≡ stepOf stsc stco k → Stepped stsc stco k c w
-    unfolding stepOf ifLt
-    found-is c w e = go (ltb k (count stco)) refl e
-      where
-        go : (t : Bool) → ltb k (count stco) ≡ t → Found c w ≡ pick t (Found (chunkAt stsc stco k) (walkAt stsc (k + 1))) End → Stepped stsc stco k c w
-        go true t e =
-            let n : w ≡ walkAt stsc (k + 1) = cc in
-            record { inside = ltb-true _ _ t; found = cc; moved = walk-chunk stsc w (k + 1) n; walk = walk-is stsc w (k + 1) n }
-        go false t e = let z : _≡_ {A = ℕ} 0 1 = cc in absurd (omega arith)
+    unfolding stepOf
+    found-is c w e =
+        ⊎-elim
+        (λ x.
+        let y = x .1 in
+        let n : w ≡ walkAt stsc (k + 1) = cc in
+        record { inside = x .0; found = cc; moved = walk-chunk stsc w (k + 1) n; walk = walk-is stsc w (k + 1) n })
+        (λ x. let y = x .1 in let z : _≡_ {A = ℕ} 0 1 = cc in absurd (omega arith))
+        (lt-ways _ _ _ _ _ (sym e))
 
     pub end-is : End ≡ stepOf stsc stco k → count stco ≤ k
-    unfolding stepOf ifLt
-    end-is e = go (ltb k (count stco)) refl e
-      where
-        go : (t : Bool) → ltb k (count stco) ≡ t → End ≡ pick t (Found (chunkAt stsc stco k) (walkAt stsc (k + 1))) End → count stco ≤ k
-        go true t e = let z : _≡_ {A = ℕ} 0 1 = cc in absurd (omega arith)
-        go false t e = ltb-false _ _ t
+    unfolding stepOf
+    end-is e = ⊎-elim (λ x. let y = x .1 in let z : _≡_ {A = ℕ} 0 1 = cc in absurd (omega arith)) (λ x. x .0) (lt-ways _ _ _ _ _ (sym e))

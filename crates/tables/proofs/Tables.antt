@@ -6,8 +6,6 @@ use mathlib.Core.Path.{_≡_, sym}
 use mathlib.Core.Bool.{true}
 use mathlib.Core.List.{List}
 use lib.ListN.{length}
-use Rattle.wire.specs.Numbers.{Bytes, word}
-use Rattle.wire.proofs.Numbers.{word-fits}
 use Rattle.tables.specs.Tables.{count, hasForm, Form, Table}
 use Rattle.wire.proofs.Clauses.{is-eq, eq-is, done, holds, clause}
 
@@ -29,7 +27,3 @@ item-inside w j i xs t h k =
 -- no stored count makes a length wrap
 pub width-fits : (w n : ℕ) → w ≤ 12 → n < 2 ^ 32 → w * n ≤ 12 * 2 ^ 32
 width-fits w n h l = let m : w * n ≤ 12 * n = mul-le-mul-right n h in omega arith
-
--- a number of an item has 32 bits
-pub word-most : (xs : List ℕ) (at : ℕ) → Bytes xs → word 4 xs at ≤ 4294967295
-word-most xs at b = omega (arith, word-fits 4 xs at b)

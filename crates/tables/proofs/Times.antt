@@ -6,9 +6,9 @@ use mathlib.Core.Path.{_≡_, sym}
 use mathlib.Core.List.{List}
 use Rattle.wire.specs.Numbers.{Bytes}
 use Rattle.wire.proofs.Sums.{sum-none, sum-more, sum-mono, sum-scaled}
+use Rattle.wire.proofs.Numbers.{word-most}
 use Rattle.tables.specs.Tables.{count}
 use Rattle.tables.specs.Times.{counted, delta, timedTo, ticksTo, timed, ticksOf}
-use Rattle.tables.proofs.Tables.{word-most}
 
 module _ (stts : List ℕ) where
   pub timed-none : 0 ≡ timedTo stts 0

@@ -6,7 +6,7 @@ use mathlib.Core.Path.{_≡_, sym, ap, _∙_}
 use mathlib.Core.List.{List}
 use mathlib.Core.Logic.{⊎-elim}
 use Rattle.wire.specs.Numbers.{Bytes}
-use Rattle.wire.proofs.Tests.{lt-yea, lt-nay}
+use Rattle.wire.proofs.Tests.{lt-yea, lt-nay, lt-ways}
 use Rattle.tables.specs.Tables.{count}
 use Rattle.tables.specs.Times.{counted, delta, timedTo, ticksTo, timed, tickAt}
 use Rattle.tables.specs.declared.time.MediaTicks.{MediaTicks}
@@ -14,7 +14,6 @@ use Rattle.tables.proofs.Times.{timed-none, timed-more, ticks-none, ticks-more,
 use Rattle.timeline.specs.declared.clock.Clock.{Clock}
 use Rattle.timeline.specs.declared.clock.Turned.the-variants.{At, Behind}
 use Rattle.timeline.specs.Clocks.{Clocked, clockStart, clockAt, startOf, turnOf}
-use Rattle.timeline.proofs.Ways.{lt-ways}
 use Rattle.timeline.proofs.Ticks.{timed-mono, tick-in, tick-end}
 
 module _ (stts : List ℕ) where
@@ -77,9 +76,9 @@ module _ (stts : List ℕ) where
     pub turned-at : (t : MediaTicks) → At t ≡ turnOf stts i s → (s ≤ timedTo stts (i + 1)) × (t ≡ startOf stts s)
     unfolding turnOf
     turned-at t e =
-        ⊎-elim (λ x. let z : _≡_ {A = ℕ} 0 1 = let y = x .1 in cc in absurd (omega arith)) (λ x. (x .0, let y = x .1 in cc)) (lt-ways _ _ _ _ _ e)
+        ⊎-elim (λ x. let z : _≡_ {A = ℕ} 0 1 = let y = x .1 in cc in absurd (omega arith)) (λ x. (x .0, let y = x .1 in cc)) (lt-ways _ _ _ _ _ (sym e))
 
     pub turned-behind : (c : Clock) → Behind c ≡ turnOf stts i s → (timedTo stts (i + 1) < s) × (c ≡ clockAt stts (i + 1))
     unfolding turnOf
     turned-behind c e =
-        ⊎-elim (λ x. (x .0, let y = x .1 in cc)) (λ x. let z : _≡_ {A = ℕ} 0 1 = let y = x .1 in cc in absurd (omega arith)) (lt-ways _ _ _ _ _ e)
+        ⊎-elim (λ x. (x .0, let y = x .1 in cc)) (λ x. let z : _≡_ {A = ℕ} 0 1 = let y = x .1 in cc in absurd (omega arith)) (lt-ways _ _ _ _ _ (sym e))

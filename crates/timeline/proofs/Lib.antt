@@ -1,4 +1,3 @@
-pub mod Ways
 pub mod Ticks
 pub mod Clocks
 pub mod Walks

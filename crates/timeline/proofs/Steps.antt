@@ -2,9 +2,10 @@
 use Prim.Native.Nat.{ℕ, _+_, _≤_, _<_}
 use native.Mathlib.Omega.{arith}
 use native.Mathlib.Nat.{eq-or-lt-of-le}
-use mathlib.Core.Path.{_≡_, ap}
+use mathlib.Core.Path.{_≡_, sym, ap}
 use mathlib.Core.List.{List}
 use mathlib.Core.Logic.{⊎-elim}
+use Rattle.wire.proofs.Tests.{lt-ways}
 use Rattle.tables.specs.Tables.{count}
 use Rattle.tables.specs.Times.{timedTo, tickAt}
 use Rattle.tables.specs.Chunks.{firstSample, chunkAt}
@@ -16,7 +17,6 @@ use Rattle.timeline.specs.declared.walk.TimedStep.{TimedStep}
 use Rattle.timeline.specs.declared.walk.TimedStep.the-variants.{Found, Ticking, End}
 use Rattle.timeline.specs.Clocks.{startOf}
 use Rattle.timeline.specs.Walks.{Playable, timedAt, Timed, timedStep}
-use Rattle.timeline.proofs.Ways.{lt-ways}
 use Rattle.timeline.proofs.Ticks.{timed-mono}
 use Rattle.timeline.proofs.Walks.{timed-is, first-timed}
 
@@ -54,7 +54,7 @@ module _ (stts stsc stco : List ℕ) (a : Playable stts stsc stco) (w : TimedWal
       → P
   unfolding timedStep
   told r e f g d =
-      ⊎-elim (λ x. ⊎-elim (λ y. f (x .0) (y .0) (y .1)) (λ y. g (x .0) (y .1)) (lt-ways _ _ _ _ _ (x .1))) (λ x. d (x .0) (x .1)) (lt-ways _ _ _ _ _ e)
+      ⊎-elim (λ x. ⊎-elim (λ y. f (x .0) (y .0) (sym (y .1))) (λ y. g (x .0) (sym (y .1))) (lt-ways _ _ _ _ _ (x .1))) (λ x. d (x .0) (sym (x .1))) (lt-ways _ _ _ _ _ (sym e))
 
   pub sounded : (c : Chunk) (t : MediaTicks) (v : TimedWalk) → Found c t v ≡ timedStep stts stsc stco (w .clock .item) (w .walk .chunk) → Sounded stts stsc stco (w .clock .item) (w .walk .chunk) c t v
   sounded c t v e =

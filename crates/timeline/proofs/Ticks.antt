@@ -1,30 +1,15 @@
 -- The tick of a sample, from the item that counts it. Assumes nothing.
-use Prim.Native.Nat.{ℕ, zero, suc, _+_, _-_, _*_, _≤_, _<_}
+use Prim.Native.Nat.{ℕ, _+_, _-_, _*_, _≤_, _<_}
 use native.Mathlib.Omega.{arith}
-use native.Mathlib.Nat.{mul-le-mul-right, eq-or-lt-of-le, le-of-suc-le-suc}
+use native.Mathlib.Nat.{mul-le-mul-right}
 use mathlib.Core.Path.{_≡_, refl, ap, _∙_}
 use mathlib.Core.List.{List}
-use mathlib.Core.Logic.{⊎-elim}
 use Rattle.wire.specs.Numbers.{Bytes}
-use Rattle.wire.specs.Sums.{sumTo}
-use Rattle.wire.proofs.Sums.{sum-same, sum-mono, sum-scaled}
+use Rattle.wire.proofs.Sums.{sum-same, sum-mono, sum-flat, sum-le, sum-scaled}
+use Rattle.wire.proofs.Numbers.{word-most}
 use Rattle.tables.specs.Tables.{count}
 use Rattle.tables.specs.Times.{counted, delta, timedTo, ticksTo, timed, mediaTicks, countedOf, ticksOf, tickAt}
-use Rattle.tables.proofs.Tables.{word-most}
 use Rattle.tables.proofs.Times.{timed-more, tick-more}
-
--- terms that are all 0 from m on
-sum-flat : (f : ℕ → ℕ) (m n : ℕ) → ((i : ℕ) → m ≤ i → f i ≡ 0) → m ≤ n → sumTo f n ≡ sumTo f m
-unfolding sumTo
-sum-flat f m zero h l = let e : m ≡ 0 = omega arith in rw e
-sum-flat f m (suc n) h l =
-    ⊎-elim (λ e. rw e) (λ k. let g = le-of-suc-le-suc k in omega (arith, h n g, sum-flat f m n h g)) (eq-or-lt-of-le l)
-
--- terms that are each at most those of g
-sum-le : (f g : ℕ → ℕ) (n : ℕ) → ((i : ℕ) → f i ≤ g i) → sumTo f n ≤ sumTo g n
-unfolding sumTo
-sum-le f g zero h = omega arith
-sum-le f g (suc n) h = omega (arith, h n, sum-le f g n h)
 
 module _ (stts : List ℕ) where
   pub timed-mono : (m n : ℕ) → m ≤ n → timedTo stts m ≤ timedTo stts n

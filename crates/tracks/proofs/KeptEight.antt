@@ -6,6 +6,7 @@ use mathlib.Core.Bool.{Bool, true, false}
 use mathlib.Core.List.{List}
 use Rattle.wire.specs.Tests.{pick, ifEq}
 use Rattle.wire.specs.Codes.{STBL, STSC, STSZ, STCO}
+use Rattle.wire.proofs.Tests.{through}
 use Rattle.boxes.specs.Box.{Box}
 use Rattle.boxes.specs.Boxes.{boxes}
 use Rattle.boxes.specs.Seek.{find}
@@ -22,7 +23,7 @@ use Rattle.verdict.specs.declared.Verdict.the-variants.{Fine}
 use Rattle.verdict.specs.Verdict.{isFine}
 use Rattle.verdict.specs.Rule.{allIn, Says}
 use Rattle.verdict.proofs.Keeping.{keep, kept-at}
-use Rattle.verdict.proofs.Places.{unless-fine, through}
+use Rattle.verdict.proofs.Places.{unless-fine}
 use Rattle.tracks.specs.Six.{sixHolds}
 use Rattle.tracks.specs.Seven.{sevenHolds}
 use Rattle.tracks.specs.Eight.{eightHolds, eightAt, eightIn, eight, eightRule}

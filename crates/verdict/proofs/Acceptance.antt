@@ -4,6 +4,7 @@ use mathlib.Core.Path.{_≡_, refl, sym, ap, _∙_}
 use mathlib.Core.Bool.{Bool, true, false}
 use mathlib.Core.List.{List, [], _∷_}
 use Rattle.wire.specs.Tests.{pick, ifEq}
+use Rattle.wire.proofs.Tests.{through}
 use Rattle.boxes.specs.Box.{Box, size}
 use Rattle.boxes.specs.Boxes.{boxes, after}
 use Rattle.boxes.specs.Containers.{kindIn}
@@ -13,7 +14,7 @@ use Rattle.verdict.specs.Verdict.{sooner, isFine}
 use Rattle.verdict.specs.Judge.{Judge, judgeList, judgeBox, judgeIn}
 use Rattle.verdict.specs.Rule.{Rule, allList, allBox, allIn, Says}
 use Rattle.verdict.specs.Inner.{within, holds}
-use Rattle.verdict.proofs.Places.{fine-is, sooner-fine, through}
+use Rattle.verdict.proofs.Places.{fine-is, sooner-fine}
 
 pub list-fine : (j : Box → ℕ → Verdict) (e : ℕ → Verdict) (f : Box → Bool) (t : Bool) → ((x : Box) (p : ℕ) → isFine (j x p) ≡ f x) → ((p : ℕ) → isFine (e p) ≡ t)
     → (l : List Box) (p : ℕ) → isFine (judgeList j e l p) ≡ allList f t l

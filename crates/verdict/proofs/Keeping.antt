@@ -6,7 +6,7 @@ use mathlib.Core.List.{List}
 use lib.Dec.{eqb}
 use borrow.Author.Tests.{eqb-true, eqb-false}
 use Rattle.wire.specs.Tests.{pick, ifEq}
-use Rattle.wire.proofs.Tests.{both, if-kept}
+use Rattle.wire.proofs.Tests.{both, eq-kept}
 use Rattle.boxes.specs.Box.{Box}
 use Rattle.boxes.specs.Boxes.{after}
 use Rattle.boxes.specs.Containers.{kindIn}
@@ -46,4 +46,4 @@ module _ (r s : Rule) (G : Leaf)
 -- a rule of one kind of container
 pub kept-at : (G : Leaf) (K : ℕ) (f g : List ℕ → Bool) (d k : ℕ) (xs ys : List ℕ) → (Kin G (suc d) K xs ys → f xs ≡ true → g ys ≡ true)
     → Kin G (suc d) k xs ys → ifEq k K (f xs) true ≡ true → ifEq k K (g ys) true ≡ true
-kept-at G K f g d k xs ys h a = if-kept k K (f xs) (g ys) true true (λ e. h (subst (λ (j : ℕ). Kin G (suc d) j xs ys) e a)) (λ q. q)
+kept-at G K f g d k xs ys h a = eq-kept k K (f xs) (g ys) true true (λ e. h (subst (λ (j : ℕ). Kin G (suc d) j xs ys) e a)) (λ q. q)

@@ -1,11 +1,9 @@
 -- Laws of verdicts. Assumes nothing.
-use Prim.Native.Nat.{ℕ, _+_, _≤_, min}
+use Prim.Native.Nat.{ℕ, min}
 use native.Mathlib.Omega.{arith}
-use mathlib.Core.Path.{_≡_, refl, sym, ap, _∙_}
+use mathlib.Core.Path.{_≡_, refl, ap}
 use mathlib.Core.Bool.{Bool, true, false}
-use mathlib.Core.List.{List, [], _∷_}
-use lib.Dec.{eqb}
-use Rattle.wire.specs.Tests.{pick, ifEq}
+use Rattle.wire.specs.Tests.{pick}
 use Rattle.verdict.specs.declared.Verdict.{Verdict}
 use Rattle.verdict.specs.declared.Verdict.the-variants.{Fine, Bad}
 use Rattle.verdict.specs.Verdict.{sooner, unless, isFine}
@@ -60,12 +58,3 @@ unless-yea t p e = rw (← e)
 pub unless-nay : (t : Bool) (p : ℕ) → false ≡ t → Bad p ≡ unless t p
 unfolding unless
 unless-nay t p e = rw (← e)
-
--- a choice by numbers goes through a function
-pub through : {A B : Type 0} (f : A → B) (m n : ℕ) (a b : A) → f (ifEq m n a b) ≡ ifEq m n (f a) (f b)
-unfolding ifEq
-through f m n a b = go (eqb m n)
-  where
-    go : (t : Bool) → f (pick t a b) ≡ pick t (f a) (f b)
-    go true = refl
-    go false = refl

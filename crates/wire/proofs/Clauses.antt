@@ -62,9 +62,15 @@ pub done : true ≡ every []
 unfolding every
 done = refl
 
-pub holds : (t : Bool) (ts : List Bool) → t ≡ true → true ≡ every ts → true ≡ every (t ∷ ts)
+-- one that holds says nothing, and the last decides
+pub holds : {r : Bool} (t : Bool) (ts : List Bool) → t ≡ true → r ≡ every ts → r ≡ every (t ∷ ts)
 unfolding every
 holds t ts h e = rw h e
+
+pub decides : (t : Bool) → t ≡ every (t ∷ [])
+unfolding every
+decides true = refl
+decides false = refl
 
 -- clause i, from all
 pub clause : (i : ℕ) (ts : List Bool) → every ts ≡ true → getD ts i true ≡ true

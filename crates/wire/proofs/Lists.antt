@@ -1,14 +1,12 @@
 -- Parts of lists that were put together.
-use Prim.Native.Nat.{ℕ, _+_, _-_, _≤_, _<_, min}
+use Prim.Native.Nat.{ℕ, _+_, _-_, _≤_, min}
 use native.Mathlib.Omega.{arith}
-use mathlib.Core.Path.{_≡_, refl, sym, ap, _∙_}
-use mathlib.Core.Bool.{Bool, true, false}
+use mathlib.Core.Path.{_≡_, sym}
 use mathlib.Core.List.{List, [], _++_, append-nil}
-use lib.Dec.{leb}
 use lib.ListN.{length, take, drop, length-drop, drop-of-length-le}
 use lib.Seq.{take-all, take-length, drop-length, take-append-add, drop-append-add}
-use borrow.Author.Tests.{leb-true, leb-false}
 use borrow.Rule.Slice.PartMut.{putMid, midOf}
+use Rattle.wire.proofs.Tests.{lt-or}
 
 module _ {A : Type 0} where
   pub take-past : (p q : List A) (a n : ℕ) → length p ≡ a → take (a + n) (p ++ q) ≡ p ++ take n q
@@ -30,17 +28,18 @@ module _ {A : Type 0} where
   pub put-front : (f : List A → List A) (xs ys : List A) (n : ℕ) → ys ≡ f (midOf 0 (n - 0) xs) → putMid 0 (n - 0) xs ys ≡ f (take n xs) ++ drop n xs
   put-front f xs ys n q = let e : n - 0 ≡ n = omega arith in rw e (rw (rw e at q))
 
+  pub nil-is : (xs : List A) → length xs ≡ 0 → xs ≡ []
+  nil-is xs e = drop-of-length-le xs {i = 0} (omega arith)
+
   -- no more than there is
   pub take-min : (n : ℕ) (xs : List A) → take (min n (length xs)) xs ≡ take n xs
-  take-min n xs = go (leb n (length xs)) refl
-    where
-      go : (t : Bool) → leb n (length xs) ≡ t → take (min n (length xs)) xs ≡ take n xs
-      go true e = let h : n ≤ length xs = leb-true _ _ e in let k : min n (length xs) ≡ n = omega arith in rw k
-      go false e = let h : length xs < n = leb-false _ _ e in let k : min n (length xs) ≡ length xs = omega arith in rw (k, take-length) (sym (take-all n xs (omega arith)))
+  take-min n xs =
+      lt-or (length xs) n
+      (λ h. let k : min n (length xs) ≡ length xs = omega arith in rw (k, take-length) (sym (take-all n xs (omega arith))))
+      (λ h. let k : min n (length xs) ≡ n = omega arith in rw k)
 
   pub drop-min : (n : ℕ) (xs : List A) → drop (min n (length xs)) xs ≡ drop n xs
-  drop-min n xs = go (leb n (length xs)) refl
-    where
-      go : (t : Bool) → leb n (length xs) ≡ t → drop (min n (length xs)) xs ≡ drop n xs
-      go true e = let h : n ≤ length xs = leb-true _ _ e in let k : min n (length xs) ≡ n = omega arith in rw k
-      go false e = let h : length xs < n = leb-false _ _ e in let k : min n (length xs) ≡ length xs = omega arith in rw (k, drop-length) (sym (drop-of-length-le xs {i = n} (omega arith)))
+  drop-min n xs =
+      lt-or (length xs) n
+      (λ h. let k : min n (length xs) ≡ length xs = omega arith in rw (k, drop-length) (sym (drop-of-length-le xs {i = n} (omega arith))))
+      (λ h. let k : min n (length xs) ≡ n = omega arith in rw k)

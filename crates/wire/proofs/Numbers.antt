@@ -1,18 +1,16 @@
 -- Laws of big-endian numbers, over every width. Assumes nothing.
 use Prim.Native.Nat.{ℕ, zero, suc, _+_, _-_, _*_, _/_, _%_, _^_, _≤_, _<_}
 use native.Mathlib.Omega.{arith}
-use native.Mathlib.Numerals.{add-one}
-use native.Mathlib.Nat.{add-assoc, add-mul, mul-assoc, mul-le-mul-right, one-le-pow, pow-suc, pow-succ', div-one, zero-add, div-div-eq-div-mul, mul-add-div-right, div-eq-of-lt}
-use mathlib.Core.Path.{_≡_, refl, sym, ap, subst, _∙_}
+use native.Mathlib.Nat.{add-mul, mul-assoc, mul-le-mul-right, one-le-pow, pow-suc, pow-succ', div-one, zero-add, div-div-eq-div-mul, mul-add-div-right, div-eq-of-lt}
+use mathlib.Core.Path.{_≡_, refl, sym, ap, _∙_}
 use mathlib.Core.Bool.{Bool, true, false}
-use mathlib.Core.List.{List, [], _∷_, _++_, append-assoc, append-nil}
+use mathlib.Core.List.{List, [], _∷_, _++_, append-nil}
 use lib.Dec.{leb}
-use lib.ListN.{length, getD, take, drop, length-append, length-drop, length-take, take-append-drop, List·getD-eq-default}
+use lib.ListN.{length, getD, take, drop, length-append, length-drop, take-append-drop, List·getD-eq-default}
 use lib.Seq.{getD-drop, take-add, drop-drop, drop-cons, take-append-le, drop-append-le, take-at, drop-at, length-take-le}
-use borrow.Author.Tests.{leb-true, leb-false}
 use Rattle.wire.specs.Tests.{pick, ifLe}
 use Rattle.wire.specs.Numbers.{Bytes, numberOn, bytesOn, bytes, word}
-use Rattle.wire.proofs.Tests.{le-yea, le-nay}
+use Rattle.wire.proofs.Tests.{le-yea, le-nay, lt-or}
 
 -- ---- bytes stay bytes
 
@@ -120,9 +118,16 @@ pub word-out : (w : ℕ) (xs : List ℕ) (at : ℕ) → length xs < at + w → w
 unfolding word
 word-out w xs at h = sym (le-nay _ _ _ _ _ h refl)
 
+-- nothing stands past the end
+pub byte-past : (xs : List ℕ) (at : ℕ) → length xs ≤ at → 0 ≡ getD xs at 0
+byte-past xs at h = sym (List·getD-eq-default xs 0 h)
+
 -- one byte is a word; two words side by side are one
-pub word-byte : (xs : List ℕ) (at : ℕ) → at < length xs → word 1 xs at ≡ getD xs at 0
-word-byte xs at h = rw (word-in 1 xs at (omega arith), drop-cons xs at 0) (omega arith)
+pub word-byte : (xs : List ℕ) (at : ℕ) → word 1 xs at ≡ getD xs at 0
+word-byte xs at =
+    lt-or at (length xs)
+    (λ h. rw (word-in 1 xs at (omega arith), drop-cons xs at 0) (omega arith))
+    (λ h. word-out 1 xs at (omega arith) ∙ byte-past xs at h)
 
 pub word-join : (v w : ℕ) (xs : List ℕ) (at : ℕ) → at + (v + w) ≤ length xs → word v xs at * 256 ^ w + word w xs (at + v) ≡ word (v + w) xs at
 word-join v w xs at h =
@@ -130,14 +135,16 @@ word-join v w xs at h =
     rw (word-in v xs at (omega arith), word-in w xs (at + v) (omega arith), word-in (v + w) xs at h, take-add v w (drop at xs), drop-drop v at xs, number-append, number-front (numberOn 0 (take v (drop at xs))) (take w (drop (at + v) xs)), l)
 
 pub word-fits : (w : ℕ) (xs : List ℕ) (at : ℕ) → Bytes xs → word w xs at < 256 ^ w
-word-fits w xs at h = go (leb (at + w) (length xs)) refl
-  where
-    go : (t : Bool) → leb (at + w) (length xs) ≡ t → word w xs at < 256 ^ w
-    go true e =
-        let k : at + w ≤ length xs = leb-true _ _ e in
-        let l : length (take w (drop at xs)) ≡ w = length-take-le w (drop at xs) (rw length-drop (omega arith)) in
-        rw (word-in w xs at k) (rw l at (number-fits (take w (drop at xs)) (bytes-take w (drop at xs) (bytes-drop at xs h))))
-    go false e = rw (word-out w xs at (leb-false _ _ e)) (one-le-pow w 256 (omega arith))
+word-fits w xs at h =
+    lt-or (length xs) (at + w)
+    (λ k. rw (word-out w xs at k) (one-le-pow w 256 (omega arith)))
+    (λ k.
+    let l : length (take w (drop at xs)) ≡ w = length-take-le w (drop at xs) (rw length-drop (omega arith)) in
+    rw (word-in w xs at k) (rw l at (number-fits (take w (drop at xs)) (bytes-take w (drop at xs) (bytes-drop at xs h)))))
+
+-- a number of 32 bits
+pub word-most : (xs : List ℕ) (at : ℕ) → Bytes xs → word 4 xs at ≤ 4294967295
+word-most xs at b = omega (arith, word-fits 4 xs at b)
 
 -- the bytes of a word are those that it was read from
 pub bytes-word : (w : ℕ) (xs : List ℕ) (at : ℕ) → Bytes xs → at + w ≤ length xs → bytes w (word w xs at) ≡ take w (drop at xs)
@@ -164,15 +171,10 @@ word-none xs at = go (leb (at + 0) (length xs))
 -- a word further on
 pub word-drop : (w n : ℕ) (xs : List ℕ) (at : ℕ) → word w (drop n xs) at ≡ word w xs (n + at)
 word-drop zero n xs at = word-none (drop n xs) at ∙ sym (word-none xs (n + at))
-word-drop (suc w) n xs at = go (leb (n + at + suc w) (length xs)) refl
-  where
-    go : (t : Bool) → leb (n + at + suc w) (length xs) ≡ t → word (suc w) (drop n xs) at ≡ word (suc w) xs (n + at)
-    go true e =
-        let k : n + at + suc w ≤ length xs = leb-true _ _ e in
-        rw (word-in (suc w) xs (n + at) k, word-in (suc w) (drop n xs) at (rw length-drop (omega arith)), drop-drop at n xs)
-    go false e =
-        let k : length xs < n + at + suc w = leb-false _ _ e in
-        rw (word-out (suc w) xs (n + at) k, word-out (suc w) (drop n xs) at (rw length-drop (omega arith)))
+word-drop (suc w) n xs at =
+    lt-or (length xs) (n + at + suc w)
+    (λ k. rw (word-out (suc w) xs (n + at) k, word-out (suc w) (drop n xs) at (rw length-drop (omega arith))))
+    (λ k. rw (word-in (suc w) xs (n + at) k, word-in (suc w) (drop n xs) at (rw length-drop (omega arith)), drop-drop at n xs))
 
 -- a word of the first of two parts, and of the second
 pub word-left : (w : ℕ) (xs ys : List ℕ) (at : ℕ) → at + w ≤ length xs → word w (xs ++ ys) at ≡ word w xs at
@@ -183,9 +185,15 @@ word-left w xs ys at h =
 pub word-right : (w : ℕ) (xs ys : List ℕ) (n at : ℕ) → length xs ≡ n → word w (xs ++ ys) (n + at) ≡ word w ys at
 word-right w xs ys n at h = sym (word-drop w n (xs ++ ys) at) ∙ ap (λ (zs : List ℕ). word w zs at) (drop-at xs ys n h)
 
+-- a word of the front of a part
+pub word-take : (w n : ℕ) (xs : List ℕ) (at : ℕ) → at + w ≤ n → n ≤ length xs → word w (take n xs) at ≡ word w xs at
+word-take w n xs at h k =
+    let l : length (take n xs) ≡ n = length-take-le n xs k in
+    sym (ap (λ (ys : List ℕ). word w ys at) (sym (take-append-drop n xs)) ∙ word-left w (take n xs) (drop n xs) at (omega arith))
+
 -- the two widths of the format, as code puts them together
 pub word16-is : (xs : List ℕ) (at : ℕ) {a b : ℕ} → a ≡ getD xs at 0 → b ≡ getD xs (at + 1) 0 → at + 2 ≤ length xs → a * 256 + b ≡ word 2 xs at
-word16-is xs at p q h = rw (p, q, ← word-byte xs at (omega arith), ← word-byte xs (at + 1) (omega arith)) (word-join 1 1 xs at h)
+word16-is xs at p q h = rw (p, q, ← word-byte xs at, ← word-byte xs (at + 1)) (word-join 1 1 xs at h)
 
 pub word32-is : (xs : List ℕ) (at : ℕ) {a b : ℕ} → a ≡ word 2 xs at → b ≡ word 2 xs (at + 2) → at + 4 ≤ length xs → a * 65536 + b ≡ word 4 xs at
 word32-is xs at p q h = rw (p, q) (word-join 2 2 xs at h)
@@ -196,7 +204,3 @@ bytes16-is n = refl
 
 pub bytes32-is : (n : ℕ) → bytes 2 (n / 65536) ++ bytes 2 n ≡ bytes 4 n
 bytes32-is n = bytes-join 2 2 n
-
--- nothing stands past the end
-pub byte-past : (xs : List ℕ) (at : ℕ) → length xs ≤ at → 0 ≡ getD xs at 0
-byte-past xs at h = sym (List·getD-eq-default xs 0 h)

@@ -1,17 +1,15 @@
 -- Laws of comparing. Assumes nothing.
-use Prim.Native.Nat.{ℕ, zero, suc, _+_, _≤_, _<_}
+use Prim.Native.Nat.{ℕ, _+_, _≤_, _<_}
 use native.Mathlib.Omega.{arith}
 use native.Mathlib.Numerals.{add-one}
-use mathlib.Core.Path.{_≡_, refl, sym, ap, _∙_}
-use mathlib.Core.Bool.{Bool, true, false}
+use mathlib.Core.Path.{_≡_, refl, sym, _∙_}
 use mathlib.Core.List.{List, [], _∷_}
-use lib.Dec.{eqb}
+use mathlib.Core.Logic.{⊎-elim}
 use lib.ListN.{length, getD, drop}
 use lib.Seq.{drop-cons, drop-length}
-use borrow.Author.Tests.{eqb-true, eqb-false}
-use Rattle.wire.specs.Tests.{pick, ifEq}
+use Rattle.wire.specs.Tests.{ifEq}
 use Rattle.wire.specs.Same.{same, Comparing}
-use Rattle.wire.proofs.Tests.{eq-yea, eq-nay}
+use Rattle.wire.proofs.Tests.{eq-yea, eq-nay, eq-or, eq-ways}
 
 pub same-refl : (xs : List ℕ) → same xs xs ≡ 1
 unfolding same
@@ -19,22 +17,15 @@ same-refl [] = refl
 same-refl (x ∷ xs) = sym (eq-yea _ _ _ _ _ refl (sym (same-refl xs)))
 
 pub same-is : (xs ys : List ℕ) → (same xs ys ≡ 0 → ⊥) → xs ≡ ys
-unfolding same ifEq
+unfolding same
 same-is [] [] h = refl
 same-is [] (y ∷ ys) h = absurd (h refl)
 same-is (x ∷ xs) [] h = absurd (h refl)
-same-is (x ∷ xs) (y ∷ ys) h = go (eqb x y) refl h (same-is xs ys)
-  where
-    go : (t : Bool) → eqb x y ≡ t → (pick t (same xs ys) 0 ≡ 0 → ⊥) → ((same xs ys ≡ 0 → ⊥) → xs ≡ ys) → x ∷ xs ≡ y ∷ ys
-    go true e g ih = rw (eqb-true x y e, ih g)
-    go false e g ih = absurd (g refl)
+same-is (x ∷ xs) (y ∷ ys) h =
+    ⊎-elim (λ w. rw (w .0, same-is xs ys (λ z. h (sym (w .1) ∙ z)))) (λ w. absurd (h (sym (w .1)))) (eq-ways x y (same xs ys) 0 _ refl)
 
-pub same-not : (xs ys : List ℕ) → (length xs ≡ length ys → ⊥) → 0 ≡ same xs ys
-same-not xs ys h = go (eqb (same xs ys) 0) refl
-  where
-    go : (t : Bool) → eqb (same xs ys) 0 ≡ t → 0 ≡ same xs ys
-    go true e = sym (eqb-true (same xs ys) 0 e)
-    go false e = absurd (h (ap length (same-is xs ys (eqb-false (same xs ys) 0 e))))
+pub same-not : (xs ys : List ℕ) → (xs ≡ ys → ⊥) → 0 ≡ same xs ys
+same-not xs ys h = eq-or (same xs ys) 0 (λ e. sym e) (λ n. absurd (h (same-is xs ys n)))
 
 same-step : (a b : List ℕ) (i : ℕ) → i < length a → i < length b → same (drop i a) (drop i b) ≡ ifEq (getD a i 0) (getD b i 0) (same (drop (i + 1) a) (drop (i + 1) b)) 0
 unfolding same

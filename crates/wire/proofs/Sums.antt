@@ -3,7 +3,7 @@ use Prim.Native.Nat.{ℕ, zero, suc, _+_, _*_, _≤_, _<_}
 use native.Mathlib.Omega.{arith}
 use native.Mathlib.Nat.{add-mul, mul-le-mul-left, eq-or-lt-of-le, le-of-suc-le-suc}
 use native.Mathlib.Numerals.{add-one}
-use mathlib.Core.Path.{_≡_, refl, sym, ap, _∙_}
+use mathlib.Core.Path.{_≡_, refl, sym, _∙_}
 use mathlib.Core.Bool.{Bool, true, false}
 use mathlib.Core.Logic.{⊎-elim}
 use Rattle.wire.specs.Sums.{sumTo, allTo}
@@ -28,6 +28,25 @@ pub sum-mono : (f : ℕ → ℕ) (m n : ℕ) → m ≤ n → sumTo f m ≤ sumTo
 unfolding sumTo
 sum-mono f m zero h = let e : m ≡ 0 = omega arith in rw e (omega arith)
 sum-mono f m (suc n) h = ⊎-elim (λ e. rw e (omega arith)) (λ l. omega (arith, sum-mono f m n (le-of-suc-le-suc l))) (eq-or-lt-of-le h)
+
+-- terms that are all 0 from m on
+pub sum-flat : (f : ℕ → ℕ) (m n : ℕ) → ((i : ℕ) → m ≤ i → f i ≡ 0) → m ≤ n → sumTo f n ≡ sumTo f m
+unfolding sumTo
+sum-flat f m zero h l = let e : m ≡ 0 = omega arith in rw e
+sum-flat f m (suc n) h l =
+    ⊎-elim (λ e. rw e) (λ k. let g = le-of-suc-le-suc k in omega (arith, h n g, sum-flat f m n h g)) (eq-or-lt-of-le l)
+
+-- terms that are each at most those of g
+pub sum-le : (f g : ℕ → ℕ) (n : ℕ) → ((i : ℕ) → f i ≤ g i) → sumTo f n ≤ sumTo g n
+unfolding sumTo
+sum-le f g zero h = omega arith
+sum-le f g (suc n) h = omega (arith, h n, sum-le f g n h)
+
+-- terms that are each at most k
+pub sum-at-most : (f : ℕ → ℕ) (k n : ℕ) → ((i : ℕ) → f i ≤ k) → sumTo f n ≤ n * k
+unfolding sumTo
+sum-at-most f k zero h = omega arith
+sum-at-most f k (suc n) h = rw (← add-one n, add-mul n 1 k) (omega (arith, h n, sum-at-most f k n h))
 
 -- terms that are each at most k times those of g
 pub sum-scaled : (f g : ℕ → ℕ) (k n : ℕ) → ((i : ℕ) → g i ≤ k) → sumTo (λ i. f i * g i) n ≤ sumTo f n * k

@@ -4,9 +4,9 @@ use native.Mathlib.Omega.{arith}
 use native.Mathlib.Nat.{add-assoc}
 use native.Mathlib.Numerals.{add-one}
 use mathlib.Core.Path.{_≡_, refl, sym, ap, _∙_}
-use mathlib.Core.List.{List, [], _∷_, _++_, append-assoc, append-nil}
-use lib.ListN.{length, getD, take, drop, set, length-append, length-take, length-drop, length-set, take-append-drop}
-use lib.Seq.{take-append-le, take-take, take-at, drop-at, drop-drop, length-take-le, take-all, take-suc, set-split, sets-eq, append-snoc}
+use mathlib.Core.List.{List, [], _∷_, _++_, append-assoc}
+use lib.ListN.{length, getD, take, drop, set, length-append, length-take, length-drop, take-append-drop}
+use lib.Seq.{take-append-le, take-take, take-at, drop-at, drop-drop, length-take-le, take-suc, set-split, sets-eq}
 use Rattle.wire.specs.Numbers.{bytes}
 use Rattle.wire.specs.Writing.{put, Wrote, Put}
 use Rattle.wire.proofs.Numbers.{length-bytes, bytes16-is, bytes32-is}

@@ -1,5 +1,4 @@
 // Writers into a lent buffer. A total one asks for no room: it answers the place past what it writes, fit or not.
-use crate::number;
 ghost use mathlib.Core.Path.{_≡_};
 ghost use mathlib.Core.List.{[], _∷_};
 ghost use Prim.Native.Nat.{_+_, _^_, _≤_, _<_};
@@ -53,26 +52,14 @@ pub fn put_part(out: &mut [u8], at: usize, src: &[u8]) -> usize
     r
 }
 
-// Writes the last 16 bits of a number.
-pub fn put_word16(out: &mut [u8], at: usize, n: usize) -> usize
-    requires { ⌜ at < 2 ^ 63 ⌝ }
-    ensures { λ r. ⌜ Put (bytes 2 n) (now (out .entry)) at r (now (out .exit)) ⌝ }
+// Writes the last `width` bytes of a number.
+pub fn put_number(out: &mut [u8], at: usize, width: usize, n: usize) -> usize
+    requires { ⌜ (at < 2 ^ 62) × (width < 65536) ⌝ }
+    ensures { λ r. ⌜ Put (bytes width n) (now (out .entry)) at r (now (out .exit)) × (r ≡ at + width) ⌝ }
 {
-    if at + 2 <= out.len() {
-        number::put16(out, at, n);
-        return at + 2;
+    if width == 0 {
+        return at;
     }
-    at + 2
-}
-
-// Writes the last 32 bits of a number.
-pub fn put_word32(out: &mut [u8], at: usize, n: usize) -> usize
-    requires { ⌜ at < 2 ^ 63 ⌝ }
-    ensures { λ r. ⌜ Put (bytes 4 n) (now (out .entry)) at r (now (out .exit)) ⌝ }
-{
-    if at + 4 <= out.len() {
-        number::put32(out, at, n);
-        return at + 4;
-    }
-    at + 4
+    let a = put_number(out, at, width - 1, n / 256);
+    put_byte(out, a, (n % 256) as u8)
 }

@@ -1,7 +1,9 @@
 use borrow.Author.Needs.{needs}
-use Rattle.brands.proofs.Holding.{last-is, next-is, listed-yea, listed-nay}
+use Rattle.brands.proofs.Holding.{listed-yea, listed-nay}
 use Rattle.brands.specs.Brands.{brandHolds}
-use Rattle.wire.proofs.Clauses.{nay, fails}
+use Rattle.wire.proofs.Clauses.{nay, fails, holds, decides}
+use Rattle.wire.specs.Clauses.{oneIf}
+use mathlib.Core.Path.{ap, _∙_}
 use Rattle.brands.proofs.brand_holds.Statement.{statement}
 use Rattle.brands.proofs.brand_holds.Tie as tie
 
@@ -16,4 +18,4 @@ brand-holds-spec = tie.close (tie.spec
     (λ c κs. search needs)
     (λ c.
     let s = c .before .before .before .before in
-    next-is _ _ (listed-yea _ _ (s .before .payload .ensures) (s .times .ensures) (c .before .before .before .if1 .left)) (next-is _ _ (listed-yea _ _ (s .before .payload .ensures) (c .before .before .times2 .ensures) (c .before .if2 .left)) (last-is _ (c .own .ensures)))))
+    c .own .ensures ∙ ap oneIf (holds _ _ (listed-yea _ _ (s .before .payload .ensures) (s .times .ensures) (c .before .before .before .if1 .left)) (holds _ _ (listed-yea _ _ (s .before .payload .ensures) (c .before .before .times2 .ensures) (c .before .if2 .left)) (decides _)))))

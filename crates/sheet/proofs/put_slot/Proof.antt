@@ -13,4 +13,4 @@ put-slot-spec = tie.close (tie.spec
     (λ c κs. search needs)
     (λ c κs. search needs)
     (λ c. search needs)
-    (λ c. (pen-is (slot-is _ _ _ _ (omega arith) (omega arith)) (pen-then (pen-then (pen-then (pen-then (c .before .before .before .before .before .before .before .before .before .before .before .before .before .before .before .before .before .before .number .ensures .0) (c .before .before .before .before .before .before .before .before .before .before .before .before .before .before .number2 .ensures .0)) (c .before .before .before .before .before .before .before .before .before .before .number3 .ensures .0)) (c .before .before .before .before .before .before .number4 .ensures .0)) (c .before .before .number5 .ensures .0)), omega arith)))
+    (λ c. (pen-is (slot-is _ _ _ _ (omega arith) (omega arith)) (pen-then (pen-then (pen-then (pen-then (c .before .before .before .before .before .before .before .before .before .before .before .before .before .before .before .before .before .before .put-number .ensures .0) (c .before .before .before .before .before .before .before .before .before .before .before .before .before .before .put-number2 .ensures .0)) (c .before .before .before .before .before .before .before .before .before .before .put-number3 .ensures .0)) (c .before .before .before .before .before .before .put-number4 .ensures .0)) (c .before .before .put-number5 .ensures .0)), omega arith)))

@@ -8,8 +8,8 @@ use borrow.Fn.PlainCycle.{Measures, is, falls, and}
 use Rattle.table.proofs.count_own.Reads as count-own
 use Rattle.table.proofs.count_own.Kinds as count-own-kinds
 use Rattle.table.proofs.+count_own.Lts-count_own as count-own-lts
-use Rattle.heads.proofs.lend.rest.Reads as rest-reads
-use Rattle.heads.proofs.test.choose.Reads as choose-reads
+use Rattle.wire.proofs.lend.rest.Reads as rest-reads
+use Rattle.wire.proofs.test.choose.Reads as choose-reads
 use Rattle.table.proofs.slots.past.Reads as past-reads
 use Rattle.wire.proofs.number.byte.Reads as byte-reads
 use Rattle.table.proofs.+count_own.{statement}

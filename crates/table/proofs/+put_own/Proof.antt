@@ -11,7 +11,7 @@ use borrow.Fn.PlainCycle.{Measures, is, falls, and}
 use Rattle.table.proofs.put_own.Reads as put-own
 use Rattle.table.proofs.put_own.Kinds as put-own-kinds
 use Rattle.table.proofs.+put_own.Lts-put_own as put-own-lts
-use Rattle.heads.proofs.lend.rest.Reads as rest-reads
+use Rattle.wire.proofs.lend.rest.Reads as rest-reads
 use Rattle.table.proofs.put_if.Reads as put-if-reads
 use Rattle.table.proofs.slots.body.Reads as body-reads
 use Rattle.table.proofs.slots.past.Reads as past-reads

@@ -1,7 +1,8 @@
 use borrow.Author.Needs.{needs}
-use Rattle.brands.proofs.Holding.{last-is, next-is}
 use Rattle.brands.specs.Brands.{early}
-use Rattle.wire.proofs.Clauses.{nay, fails, was-nay, was-yea}
+use Rattle.wire.proofs.Clauses.{nay, fails, was-nay, was-yea, holds, decides}
+use Rattle.wire.specs.Clauses.{oneIf}
+use mathlib.Core.Path.{ap, _∙_}
 use Rattle.brands.proofs.conditions.early.Statement.{statement}
 use Rattle.brands.proofs.conditions.early.Tie as tie
 
@@ -11,4 +12,4 @@ early-spec = tie.close (tie.spec
     (λ c κs. search needs)
     (λ c. nay _ (fails 0 _ (was-nay _ _ (c .if1 .taken) (c .before .few .ensures))))
     (λ c κs. search needs)
-    (λ c. next-is _ _ (was-yea _ _ (c .before .if1 .left) (c .before .before .few .ensures)) (last-is _ (c .all-plain .ensures))))
+    (λ c. c .all-plain .ensures ∙ ap oneIf (holds _ _ (was-yea _ _ (c .before .if1 .left) (c .before .before .few .ensures)) (decides _))))

@@ -1,5 +1,6 @@
 use borrow.Author.Needs.{needs}
 use Rattle.entries.specs.Decoders.{damrRule}
+use Rattle.wire.proofs.Numbers.{word-byte}
 use Rattle.entries.proofs.decoder.damr_rule.Statement.{statement}
 use Rattle.entries.proofs.decoder.damr_rule.Tie as tie
 
@@ -13,4 +14,4 @@ damr-rule-spec = tie.close (tie.spec
     (λ c κs. search needs)
     (λ c κs. search needs)
     (λ c κs. search needs)
-    (λ c. cc))
+    (λ c. let xs = c .before .before .before .before .before .before .before .before .args .part .now in cc (word-byte xs 15, word-byte xs 16)))

@@ -1,6 +1,6 @@
 use borrow.Author.Needs.{needs}
 use Rattle.heads.proofs.Heading.{common-length}
-use Rattle.heads.proofs.Putting.{made-is}
+use Rattle.wire.proofs.Putting.{made-is}
 use mathlib.Core.Path.{sym}
 use Rattle.heads.proofs.head.common.Statement.{statement}
 use Rattle.heads.proofs.head.common.Tie as tie

@@ -24,4 +24,4 @@ put-audio-spec = tie.close (tie.spec
     let t = s .before .before .before .before in
     let u = t .before .before .before .before in
     let v = u .before .before .before .before in
-    (pen-then (pen-then (pen-then (pen-then (pen-then (pen-then (v .put-common .ensures .0) (u .number .ensures .0)) (t .number2 .ensures .0)) (s .number3 .ensures .0)) (r .number4 .ensures .0)) (q .number5 .ensures .0)) (p .number6 .ensures .0), omega arith)))
+    (pen-then (pen-then (pen-then (pen-then (pen-then (pen-then (v .put-common .ensures .0) (u .put-number .ensures .0)) (t .put-number2 .ensures .0)) (s .put-number3 .ensures .0)) (r .put-number4 .ensures .0)) (q .put-number5 .ensures .0)) (p .put-number6 .ensures .0), omega arith)))

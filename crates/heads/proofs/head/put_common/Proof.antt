@@ -13,4 +13,4 @@ put-common-spec = tie.close (tie.spec
     (λ c κs. search needs)
     (λ c. search needs)
     (λ c. let p = c .before .before in let q = p .before .before .before .before in let r = q .before .before .before .before in
-    (pen-then (pen-then (r .header .ensures .0) (q .number .ensures .0)) (p .number2 .ensures .0), omega arith)))
+    (pen-then (pen-then (r .header .ensures .0) (q .put-number .ensures .0)) (p .put-number2 .ensures .0), omega arith)))

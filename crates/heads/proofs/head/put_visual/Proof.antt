@@ -22,4 +22,4 @@ put-visual-spec = tie.close (tie.spec
     let s = r .before .before .before .before in
     let t = s .before .before .before .before in
     let u = t .before .before .before .before in
-    (pen-then (pen-then (pen-then (pen-then (pen-then (u .put-visual-start .ensures .0) (t .number .ensures .0)) (s .number2 .ensures .0)) (r .put-part .ensures)) (q .number3 .ensures .0)) (p .number4 .ensures .0), omega arith)))
+    (pen-then (pen-then (pen-then (pen-then (pen-then (u .put-visual-start .ensures .0) (t .put-number .ensures .0)) (s .put-number2 .ensures .0)) (r .put-part .ensures)) (q .put-number3 .ensures .0)) (p .put-number4 .ensures .0), omega arith)))

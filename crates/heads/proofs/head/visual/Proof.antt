@@ -1,6 +1,6 @@
 use borrow.Author.Needs.{needs}
 use Rattle.heads.proofs.Heading.{visual-length}
-use Rattle.heads.proofs.Putting.{made-is}
+use Rattle.wire.proofs.Putting.{made-is}
 use native.Mathlib.Omega.{arith}
 use Rattle.heads.proofs.head.visual.Statement.{statement}
 use Rattle.heads.proofs.head.visual.Tie as tie

@@ -11,4 +11,4 @@ header-spec = tie.close (tie.spec
     (λ c κs. search needs)
     (λ c κs. search needs)
     (λ c. search needs)
-    (λ c. let p = c .before .before in let q = p .before .before .before .before in (pen-then (q .number .ensures .0) (p .number2 .ensures .0), omega arith)))
+    (λ c. let p = c .before .before in let q = p .before .before .before .before in (pen-then (q .put-number .ensures .0) (p .put-number2 .ensures .0), omega arith)))

@@ -1,6 +1,5 @@
 use borrow.Author.Needs.{needs}
 use Rattle.listing.specs.Lines.{brandLine}
-use Rattle.wire.proofs.Numbers.{length-bytes}
 use Rattle.wire.proofs.Writing.{pen-then}
 use native.Mathlib.Omega.{arith}
 use Rattle.listing.proofs.line.put_brand.Statement.{statement}
@@ -12,6 +11,7 @@ put-brand-spec = tie.close (tie.spec
     (λ c. search needs)
     (λ c κs. search needs)
     (λ c κs. search needs)
-    (λ c κs. omega (arith, c .before .before .before .put-word32 .ensures .next, length-bytes 4 (c .before .before .before .before .before .before .before .before .before .before .before .args .code)))
+    (λ c κs. search needs)
     (λ c. search needs)
-    (λ c. let w = c .before .before .before .before .before .before .put-word32 .ensures in (pen-then (pen-then (c .before .before .before .before .before .before .before .before .before .before .put-part .ensures) w) (c .before .before .put-yes .ensures .0), omega (arith, w .next, length-bytes 4 (c .before .before .before .before .before .before .before .before .before .before .before .before .before .before .args .code)))))
+    (λ c. let p = c .before .before in let q = p .before .before .before .before in let r = q .before .before .before .before in
+    (pen-then (pen-then (r .put-part .ensures) (q .put-number .ensures .0)) (p .put-yes .ensures .0), omega arith)))

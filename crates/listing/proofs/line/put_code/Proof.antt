@@ -1,6 +1,5 @@
 use borrow.Author.Needs.{needs}
 use Rattle.listing.specs.Lines.{codeText}
-use Rattle.wire.proofs.Numbers.{length-bytes}
 use Rattle.wire.proofs.Tests.{eq-yea, eq-nay}
 use Rattle.wire.proofs.Writing.{pen-is}
 use mathlib.Core.Path.{refl}
@@ -18,4 +17,4 @@ put-code-spec = tie.close (tie.spec
     (λ c. (pen-is (eq-yea _ _ _ _ _ (omega arith) refl) (c .before .before .put-part .ensures), omega arith))
     (λ c κs. search needs)
     (λ c. search needs)
-    (λ c. let p = c .before .before .put-word32 .ensures in (pen-is (eq-nay _ _ _ _ _ (omega arith) refl) p, omega (arith, p .next, length-bytes 4 (c .before .before .before .before .before .before .before .args .c)))))
+    (λ c. (pen-is (eq-nay _ _ _ _ _ (omega arith) refl) (c .before .before .put-number .ensures .0), omega arith)))

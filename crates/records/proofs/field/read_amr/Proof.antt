@@ -1,4 +1,5 @@
 use borrow.Author.Needs.{needs}
+use Rattle.wire.proofs.Numbers.{word-byte}
 use Rattle.records.proofs.field.read_amr.Statement.{statement}
 use Rattle.records.proofs.field.read_amr.Tie as tie
 
@@ -11,4 +12,4 @@ read-amr-spec = tie.close (tie.spec
     (λ c κs. search needs)
     (λ c κs. search needs)
     (λ c κs. search needs)
-    (λ c. cc))
+    (λ c. let xs = c .before .before .before .before .before .before .before .before .args .entry .now in cc (word-byte xs 48, word-byte xs 51, word-byte xs 52)))

@@ -1,4 +1,5 @@
 use borrow.Author.Needs.{needs}
+use Rattle.wire.proofs.Numbers.{word-byte}
 use Rattle.records.proofs.field.read_h263.Statement.{statement}
 use Rattle.records.proofs.field.read_h263.Tie as tie
 
@@ -12,4 +13,4 @@ read-h263-spec = tie.close (tie.spec
     (λ c κs. search needs)
     (λ c κs. search needs)
     (λ c κs. search needs)
-    (λ c. cc))
+    (λ c. let xs = c .before .before .before .before .before .before .before .before .before .args .entry .now in cc (word-byte xs 98, word-byte xs 99, word-byte xs 100)))

@@ -24,4 +24,4 @@ put-amr-spec = tie.close (tie.spec
     let t = s .before .before .before .before in
     let u = t .before .before .before .before in
     let v = u .before .before .before .before in
-    pen-then (pen-then (pen-then (pen-then (pen-then (pen-then (rw (v .before .code .ensures) at (v .put-audio .ensures .0)) (u .header .ensures .0)) (t .number .ensures .0)) (s .number2 .ensures .0)) (r .number3 .ensures .0)) (q .number4 .ensures .0)) (p .number5 .ensures .0)))
+    pen-then (pen-then (pen-then (pen-then (pen-then (pen-then (rw (v .before .code .ensures) at (v .put-audio .ensures .0)) (u .header .ensures .0)) (t .put-number .ensures .0)) (s .put-number2 .ensures .0)) (r .put-number3 .ensures .0)) (q .put-number4 .ensures .0)) (p .put-number5 .ensures .0)))

@@ -24,4 +24,4 @@ put-plain-spec = tie.close (tie.spec
     let s = r .before .before .before .before in
     let t = s .before .before .before .before in
     let u = t .before .before .before .before in
-    (pen-then (pen-then (pen-then (pen-then (pen-then (u .put-visual .ensures .0) (t .header .ensures .0)) (s .number .ensures .0)) (r .number2 .ensures .0)) (q .number3 .ensures .0)) (p .number4 .ensures .0), omega arith)))
+    (pen-then (pen-then (pen-then (pen-then (pen-then (u .put-visual .ensures .0) (t .header .ensures .0)) (s .put-number .ensures .0)) (r .put-number2 .ensures .0)) (q .put-number3 .ensures .0)) (p .put-number4 .ensures .0), omega arith)))

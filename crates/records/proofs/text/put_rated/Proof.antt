@@ -17,4 +17,4 @@ put-rated-spec = tie.close (tie.spec
     let q = p .before .before .before .before in
     let r = q .before .before .before .before in
     let s = r .before .before .before .before in
-    pen-then (pen-then (pen-then (s .put-plain .ensures .0) (r .header .ensures .0)) (q .number .ensures .0)) (p .number2 .ensures .0)))
+    pen-then (pen-then (pen-then (s .put-plain .ensures .0) (r .header .ensures .0)) (q .put-number .ensures .0)) (p .put-number2 .ensures .0)))

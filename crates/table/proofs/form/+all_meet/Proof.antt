@@ -9,7 +9,7 @@ use Rattle.table.proofs.form.all_meet.Reads as all-meet
 use Rattle.table.proofs.form.all_meet.Kinds as all-meet-kinds
 use Rattle.table.proofs.form.+all_meet.Lts-all_meet as all-meet-lts
 use Rattle.entries.proofs.rule.entry_rule.Reads as entry-rule-reads
-use Rattle.heads.proofs.lend.rest.Reads as rest-reads
+use Rattle.wire.proofs.lend.rest.Reads as rest-reads
 use Rattle.table.proofs.slots.body.Reads as body-reads
 use Rattle.table.proofs.slots.past.Reads as past-reads
 use Rattle.table.proofs.form.+all_meet.{statement}

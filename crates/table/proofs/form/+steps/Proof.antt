@@ -8,7 +8,7 @@ use borrow.Fn.PlainCycle.{Measures, is, falls, and}
 use Rattle.table.proofs.form.steps.Reads as steps
 use Rattle.table.proofs.form.steps.Kinds as steps-kinds
 use Rattle.table.proofs.form.+steps.Lts-steps as steps-lts
-use Rattle.heads.proofs.lend.rest.Reads as rest-reads
+use Rattle.wire.proofs.lend.rest.Reads as rest-reads
 use Rattle.table.proofs.form.follows.Reads as follows-reads
 use Rattle.table.proofs.slots.past.Reads as past-reads
 use Rattle.wire.proofs.number.byte.Reads as byte-reads

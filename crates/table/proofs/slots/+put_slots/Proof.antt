@@ -8,7 +8,7 @@ use borrow.Fn.PlainCycle.{Measures, is, falls, and}
 use Rattle.table.proofs.slots.put_slots.Reads as put-slots
 use Rattle.table.proofs.slots.put_slots.Kinds as put-slots-kinds
 use Rattle.table.proofs.slots.+put_slots.Lts-put_slots as put-slots-lts
-use Rattle.heads.proofs.lend.rest.Reads as rest-reads
+use Rattle.wire.proofs.lend.rest.Reads as rest-reads
 use Rattle.table.proofs.slots.past.Reads as past-reads
 use Rattle.table.proofs.slots.put_first.Reads as put-first-reads
 use Rattle.table.proofs.slots.+put_slots.{statement}

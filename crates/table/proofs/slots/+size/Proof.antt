@@ -8,7 +8,7 @@ use borrow.Fn.PlainCycle.{Measures, is, falls, and}
 use Rattle.table.proofs.slots.size.Reads as size
 use Rattle.table.proofs.slots.size.Kinds as size-kinds
 use Rattle.table.proofs.slots.+size.Lts-size as size-lts
-use Rattle.heads.proofs.lend.rest.Reads as rest-reads
+use Rattle.wire.proofs.lend.rest.Reads as rest-reads
 use Rattle.table.proofs.slots.body.Reads as body-reads
 use Rattle.table.proofs.slots.past.Reads as past-reads
 use Rattle.table.proofs.slots.+size.{statement}

@@ -1,5 +1,5 @@
 use borrow.Author.Needs.{needs}
-use Rattle.table.proofs.Slotting.{start-is}
+use Rattle.sheet.proofs.Writing.{start-is}
 use Rattle.wire.proofs.Writing.{pen-then, pen-is}
 use native.Mathlib.Omega.{arith}
 use Rattle.table.proofs.slots.put_front.Statement.{statement}
@@ -12,4 +12,4 @@ put-front-spec = tie.close (tie.spec
     (λ c κs. search needs)
     (λ c κs. search needs)
     (λ c. search needs)
-    (λ c. pen-then (pen-is (start-is _ (omega arith)) (pen-then (pen-then (c .before .before .before .before .before .before .before .before .before .before .before .before .before .before .number .ensures .0) (c .before .before .before .before .before .before .before .before .before .before .number2 .ensures .0)) (c .before .before .before .before .before .before .number3 .ensures .0))) (c .before .before .put-slots .ensures)))
+    (λ c. pen-then (pen-is (start-is _ (omega arith)) (pen-then (pen-then (c .before .before .before .before .before .before .before .before .before .before .before .before .before .before .put-number .ensures .0) (c .before .before .before .before .before .before .before .before .before .before .put-number2 .ensures .0)) (c .before .before .before .before .before .before .put-number3 .ensures .0))) (c .before .before .put-slots .ensures)))

@@ -4,6 +4,7 @@ use Prim.Native.Nat.{_-_}
 use Rattle.wire.proofs.Same.{same-not, comparing-none, comparing-more, comparing-bad, comparing-end}
 use Rattle.wire.specs.Same.{Comparing}
 use lib.ListN.{length}
+use mathlib.Core.Path.{ap}
 use native.Mathlib.Omega.{arith}
 use Rattle.wire.proofs.compare.same.Statement.{statement}
 use Rattle.wire.proofs.compare.same.Tie as tie
@@ -16,7 +17,7 @@ abbrev μ : tie.MeasureT-loop
 
 pub same-spec : {M : Type 1} → statement M
 same-spec = tie.close (tie.spec Inv μ
-    (λ c. same-not _ _ (c .if1 .taken))
+    (λ c. same-not _ _ (λ e. c .if1 .taken (ap length e)))
     (λ c. comparing-none _ _)
     (λ c. search needs)
     (λ c. search needs)

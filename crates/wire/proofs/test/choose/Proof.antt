@@ -1,8 +1,8 @@
 use Rattle.wire.proofs.Tests.{eq-yea, eq-nay}
 use mathlib.Core.Path.{refl}
 use native.Mathlib.Omega.{arith}
-use Rattle.heads.proofs.test.choose.Statement.{statement}
-use Rattle.heads.proofs.test.choose.Tie as tie
+use Rattle.wire.proofs.test.choose.Statement.{statement}
+use Rattle.wire.proofs.test.choose.Tie as tie
 
 pub choose-spec : {M : Type 1} → statement M
 choose-spec = tie.close (tie.spec

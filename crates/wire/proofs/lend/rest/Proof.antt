@@ -1,10 +1,10 @@
 use borrow.Author.Needs.{needs}
 use Rattle.wire.proofs.Lists.{tail-is}
 use lib.ListN.{drop-of-length-le}
 use mathlib.Core.Path.{sym}
 use native.Mathlib.Omega.{arith}
-use Rattle.heads.proofs.lend.rest.Statement.{statement}
-use Rattle.heads.proofs.lend.rest.Tie as tie
+use Rattle.wire.proofs.lend.rest.Statement.{statement}
+use Rattle.wire.proofs.lend.rest.Tie as tie
 
 pub rest-spec : {M : Type 1} → statement M
 rest-spec = tie.close (tie.spec

@@ -1,8 +1,8 @@
 use Rattle.wire.proofs.Tests.{lt-yea, lt-nay}
 use mathlib.Core.Path.{refl}
 use native.Mathlib.Omega.{arith}
-use Rattle.heads.proofs.test.under.Statement.{statement}
-use Rattle.heads.proofs.test.under.Tie as tie
+use Rattle.wire.proofs.test.under.Statement.{statement}
+use Rattle.wire.proofs.test.under.Tie as tie
 
 pub under-spec : {M : Type 1} → statement M
 under-spec = tie.close (tie.spec

@@ -3,8 +3,8 @@ use lib.Seq.{take-all}
 use mathlib.Core.Path.{sym}
 use native.Mathlib.Nat.{sub-zero}
 use native.Mathlib.Omega.{arith}
-use Rattle.heads.proofs.lend.front.Statement.{statement}
-use Rattle.heads.proofs.lend.front.Tie as tie
+use Rattle.wire.proofs.lend.front.Statement.{statement}
+use Rattle.wire.proofs.lend.front.Tie as tie
 
 pub front-spec : {M : Type 1} → statement M
 front-spec = tie.close (tie.spec

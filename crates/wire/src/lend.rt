@@ -1,9 +1,6 @@
-// Parts of a part, and bytes of it, at any length.
-use wire::number;
+// Parts of a part, at any length.
 ghost use mathlib.Core.Path.{_≡_};
-ghost use Prim.Native.Nat.{_^_, _<_};
 ghost use lib.ListN.{take, drop};
-ghost use Rattle.wire.specs.Numbers.{word};
 
 // The first n bytes, or all where there are fewer.
 pub fn front(part: &[u8], n: usize) -> &[u8]
@@ -23,11 +20,4 @@ pub fn rest(part: &[u8], n: usize) -> &[u8]
         return &part[n..];
     }
     &part[0..0]
-}
-
-// The 8-bit number at any place, 0 past the end.
-pub fn word8(part: &[u8], at: usize) -> usize
-    ensures { λ r. ⌜ (r ≡ word 1 (now (part .entry)) at) × (r < 2 ^ 8) ⌝ }
-{
-    number::byte(part, at)
 }
