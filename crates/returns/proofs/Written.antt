@@ -7,6 +7,7 @@ use lib.ListN.{length, take, drop, length-drop, take-append-drop}
 use lib.Seq.{take-add}
 use Rattle.wire.specs.Codes.{STSD}
 use Rattle.wire.specs.Numbers.{Bytes, bytes, word}
+use Rattle.wire.proofs.Lists.{nil-is}
 use Rattle.wire.proofs.Numbers.{bytes-drop, bytes-word}
 use Rattle.boxes.specs.Box.{Box, size, header, write}
 use Rattle.boxes.specs.Boxes.{HEAD, boxes, after}
@@ -22,10 +23,6 @@ bodies-from : (t : ℕ) (l : List Box) (p : ℕ) → bodies (entriesFrom t l p) 
 unfolding bodies entriesFrom write
 bodies-from t [] p = refl
 bodies-from t (x ∷ l) p = rw (bodies-from t l (p + size x), append-assoc)
-
-nil-is : (xs : List ℕ) → length xs ≡ 0 → xs ≡ []
-nil-is [] e = refl
-nil-is (x ∷ xs) e = absurd (omega arith)
 
 module _ (b : List ℕ) (v : Bytes b) (g : Listed b) where
   -- its list is tiled by boxes

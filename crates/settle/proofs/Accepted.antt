@@ -1,10 +1,10 @@
 -- What the rules say of the boxes of an accepted file itself. Assumes nothing.
 use Prim.Native.Nat.{ℕ}
 use native.Mathlib.Omega.{arith}
-use mathlib.Core.Path.{_≡_, refl, sym, ap, _∙_}
+use mathlib.Core.Path.{_≡_, sym, ap, _∙_}
 use mathlib.Core.Bool.{true}
 use mathlib.Core.List.{List, [], _∷_}
-use lib.ListN.{length}
+use Rattle.wire.proofs.Lists.{nil-is}
 use Rattle.wire.specs.Tests.{ifEq}
 use Rattle.wire.specs.Codes.{FTYP, MOOV}
 use Rattle.wire.proofs.Clauses.{eq-is}
@@ -18,14 +18,10 @@ use Rattle.shape.proofs.Shape.{shape-one, shape-first}
 use Rattle.judge.specs.Acceptance.{Meets}
 use Rattle.settle.proofs.Each.{rule-node, rule-end}
 
-no-bytes : (xs : List ℕ) → length xs ≡ 0 → xs ≡ []
-no-bytes [] e = refl
-no-bytes (x ∷ xs) e = absurd (omega arith)
-
 module _ (xs : List ℕ) (m : Meets xs) where
   -- rule 2: they tile it
   pub file-tiled : after xs ≡ []
-  file-tiled = no-bytes (after xs) (eq-is _ _ (rule-end twoRule 5 FILE xs (m .two)))
+  file-tiled = nil-is (after xs) (eq-is _ _ (rule-end twoRule 5 FILE xs (m .two)))
 
   -- rule 3
   file-shape : shape FILE (boxes xs) ≡ true

@@ -55,7 +55,7 @@ zeros-are : (w : ℕ) → bytes w 0 ≡ replicate w 0
 unfolding bytes
 zeros-are w = zeros-on w [] ∙ append-nil (replicate w 0)
 
-start-is : (n : ℕ) → n < 256 → bytes 1 1 ++ bytes 1 n ++ bytes 2 0 ≡ 1 ∷ n ∷ 0 ∷ 0 ∷ []
+pub start-is : (n : ℕ) → n < 256 → bytes 1 1 ++ bytes 1 n ++ bytes 2 0 ≡ 1 ∷ n ∷ 0 ∷ 0 ∷ []
 unfolding bytes bytesOn
 start-is n h = let e : n % 256 ≡ n = omega arith in rw e
 

@@ -1,13 +1,9 @@
 -- Writing slots. Assumes nothing.
-use Prim.Native.Nat.{ℕ, _-_, _%_, _<_}
-use native.Mathlib.Omega.{arith}
+use Prim.Native.Nat.{ℕ, _-_}
 use mathlib.Core.Path.{_≡_}
-use mathlib.Core.Bool.{Bool, true, false}
-use mathlib.Core.List.{List, [], _∷_, _++_}
-use lib.Dec.{eqb}
+use mathlib.Core.List.{List}
 use lib.ListN.{length, take, getD}
-use Rattle.wire.specs.Tests.{pick, ifEq}
-use Rattle.wire.specs.Numbers.{bytes, bytesOn, word}
+use Rattle.wire.specs.Numbers.{word}
 use Rattle.wire.specs.Writing.{Put}
 use Rattle.wire.proofs.Writing.{pen-none, pen-then, pen-is}
 use Rattle.heads.specs.Kinds.{kindOf}
@@ -16,10 +12,6 @@ use Rattle.table.specs.Form.{firstOf, read}
 use Rattle.table.proofs.Reading.{Past, read-none, read-more}
 
 -- edition, count, and two zeros
-pub start-is : (n : ℕ) → n < 256 → bytes 1 1 ++ bytes 1 n ++ bytes 2 0 ≡ 1 ∷ n ∷ 0 ∷ 0 ∷ []
-unfolding bytes bytesOn
-start-is n h = let e : n % 256 ≡ n = omega arith in rw e
-
 -- ---- writing slots
 
 pub slots-none : (n : ℕ) (xs ys out : List ℕ) (at : ℕ) → n ≡ 0 → Put (slots (read n xs ys)) out at at out

@@ -1,9 +1,9 @@
 -- Parts of lists that were put together.
 use Prim.Native.Nat.{ℕ, _+_, _-_, _≤_, _<_, min}
 use native.Mathlib.Omega.{arith}
-use mathlib.Core.Path.{_≡_, refl, sym, ap, _∙_}
+use mathlib.Core.Path.{_≡_, refl, sym}
 use mathlib.Core.Bool.{Bool, true, false}
-use mathlib.Core.List.{List, [], _++_, append-nil}
+use mathlib.Core.List.{List, [], _∷_, _++_, append-nil}
 use lib.Dec.{leb}
 use lib.ListN.{length, take, drop, length-drop, drop-of-length-le}
 use lib.Seq.{take-all, take-length, drop-length, take-append-add, drop-append-add}
@@ -44,3 +44,8 @@ module _ {A : Type 0} where
       go : (t : Bool) → leb n (length xs) ≡ t → drop (min n (length xs)) xs ≡ drop n xs
       go true e = let h : n ≤ length xs = leb-true _ _ e in let k : min n (length xs) ≡ n = omega arith in rw k
       go false e = let h : length xs < n = leb-false _ _ e in let k : min n (length xs) ≡ length xs = omega arith in rw (k, drop-length) (sym (drop-of-length-le xs {i = n} (omega arith)))
+
+  -- nothing is all that has no length
+  pub nil-is : (xs : List A) → length xs ≡ 0 → xs ≡ []
+  nil-is [] e = refl
+  nil-is (x ∷ xs) e = absurd (omega arith)
