@@ -1,22 +1,23 @@
 -- The box that a search found. Assumes nothing.
-use Prim.Native.Nat.{_<_, ℕ, _≤_, _-_}
+use Prim.Native.Nat.{_<_, ℕ, _≤_}
 use native.Mathlib.Omega.{arith}
-use mathlib.Core.Path.{_≡_, refl, sym, ap, _∙_, subst}
+use mathlib.Core.Path.{_≡_, sym, ap, _∙_, subst}
 use mathlib.Core.List.{List, _∷_, _++_, append-assoc}
-use lib.ListN.{length, drop, length-append, length-take, length-drop}
-use lib.Seq.{length-take-le, take-at, drop-at}
+use lib.ListN.{length, length-append}
+use lib.Seq.{length-take-le}
 use Rattle.wire.specs.Numbers.{Bytes}
 use Rattle.boxes.specs.declared.walk.BoxAt.{BoxAt}
 use Rattle.boxes.specs.declared.seek.Seen.{Seen}
 use Rattle.boxes.specs.declared.seek.Seen.the-variants.{At, Missing}
-use Rattle.boxes.specs.Box.{size, header, write}
+use Rattle.boxes.specs.Box.{Box, size, header, write}
 use Rattle.boxes.specs.Boxes.{boxes, after}
 use Rattle.boxes.specs.Walk.{payload, boxAt}
 use Rattle.boxes.specs.Seek.{count, nth, Cut, SeenAs}
 use Rattle.boxes.proofs.Whole.{length-header}
 use Rattle.boxes.proofs.Reading.{write-boxes, write-cons, write-append}
 use Rattle.boxes.proofs.Numbered.{count-append, nth-is}
-use Rattle.boxes.proofs.Lying.{Lies}
+use Rattle.boxes.proofs.Lying.{Lies, lies-front}
+use Rattle.boxes.proofs.Seeking.{payload-length}
 
 -- what a search answered
 module _ (xs : List ℕ) (c n : ℕ) (r : Seen) (s : SeenAs xs c n r) where
@@ -40,15 +41,17 @@ module _ {xs : List ℕ} {c n : ℕ} {b : BoxAt} (v : Bytes xs) (s : Cut xs c n 
 
   -- as long as it says
   pub cut-size : b .size ≡ size (boxAt xs b)
-  cut-size = let e : length (payload xs b) ≡ b .size - b .head = rw (length-take, length-drop) (omega (arith, s .inside, s .least)) in omega (arith, e, s .least)
+  cut-size = omega (arith, payload-length xs b (s .least) (s .inside), s .least)
 
   pub length-box : length (header (boxAt xs b) ++ payload xs b) ≡ b .size
-  length-box = rw (length-append, length-header, length-take, length-drop) (omega (arith, s .inside, s .least, s .eight))
+  length-box = rw (length-append, length-header, payload-length xs b (s .least) (s .inside)) (omega (arith, s .least, s .eight))
 
   -- the whole box lies where it starts
   pub lies-box : Lies (header (boxAt xs b) ++ payload xs b) xs (b .at)
   lies-box =
-      let e : write (s .p) ++ (write (boxAt xs b ∷ s .q) ++ after xs) ≡ xs = sym (append-assoc (write (s .p)) (write (boxAt xs b ∷ s .q)) (after xs)) ∙ rw (← write-append (s .p) (boxAt xs b ∷ s .q), ← s .list) (write-boxes xs v) in
-      let d : drop (b .at) xs ≡ header (boxAt xs b) ++ (payload xs b ++ (write (s .q) ++ after xs)) =
-      ap (drop (b .at)) (sym e) ∙ drop-at (write (s .p)) _ (b .at) length-before ∙ write-cons (boxAt xs b) (s .q) (after xs) in
-      record { is = rw (d, ← append-assoc) (take-at (header (boxAt xs b) ++ payload xs b) _ _ refl); inside = rw length-box (s .inside) }
+      let x : Box = boxAt xs b in
+      let r : List ℕ = write (s .q) ++ after xs in
+      let e : write (s .p) ++ (header x ++ x .body ++ r) ≡ xs =
+      ap (λ (k : List ℕ). write (s .p) ++ k) (append-assoc (header x) (x .body) r ∙ sym (write-cons x (s .q) (after xs)))
+      ∙ sym (append-assoc (write (s .p)) (write (x ∷ s .q)) (after xs)) ∙ rw (← write-append (s .p) (x ∷ s .q), ← s .list) (write-boxes xs v) in
+      rw e at (lies-front (write (s .p)) (header x ++ x .body) r (b .at) length-before)

@@ -23,10 +23,13 @@ module _ {P : Box → Type 0} where
   all-left [] q a = none
   all-left (x ∷ p) q (some h a) = some h (all-left p q a)
 
-  -- one box before the others
-  pub all-front : (p : List Box) (x : Box) (q : List Box) → All P (p ++ x ∷ q) → All P (x ∷ (p ++ q))
-  all-front [] x q a = a
-  all-front (y ∷ p) x q (some h a) = let b = all-front p x q a in some (all-head b) (some h (all-tail b))
+  pub all-here : (p : List Box) (x : Box) (q : List Box) → All P (p ++ x ∷ q) → P x
+  all-here [] x q (some h a) = h
+  all-here (y ∷ p) x q (some h a) = all-here p x q a
+
+  pub all-append : {l m : List Box} → All P l → All P m → All P (l ++ m)
+  all-append none b = b
+  all-append (some h a) b = some h (all-append a b)
 
 -- ---- the boxes of a code
 

@@ -1,5 +1,6 @@
 pub mod Whole
 pub mod Reading
+pub mod Written
 pub mod Meaning
 pub mod Numbered
 pub mod Every

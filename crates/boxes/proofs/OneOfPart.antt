@@ -12,10 +12,11 @@ use Rattle.boxes.specs.Seek.{meant, count, nth}
 use Rattle.boxes.specs.Way.{nthBy, overNth}
 use Rattle.boxes.specs.Kin.{All2}
 use Rattle.boxes.proofs.Whole.{Good}
-use Rattle.boxes.proofs.Reading.{All, parts, lengths, boxes-write, after-write, bytes-after}
+use Rattle.boxes.proofs.Reading.{All, parts, lengths, bytes-after}
 use Rattle.boxes.proofs.Rewriting.{bytes-write}
 use Rattle.boxes.proofs.OneOfList.{list-here, list-other}
 use Rattle.boxes.proofs.OneAmong.{nth-all, nth-all2, nth-by-length}
+use Rattle.boxes.proofs.Written.{boxes-write, after-write}
 
 module _ (c n : ℕ) (f : List ℕ → List ℕ) (xs : List ℕ) where
   -- what grows by at most m in a body grows by at most m in all

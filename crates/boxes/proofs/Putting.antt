@@ -16,6 +16,7 @@ use Rattle.boxes.specs.declared.way.Turn.{Turn}
 use Rattle.boxes.specs.Boxes.{HEAD}
 use Rattle.boxes.specs.Walk.{payload}
 use Rattle.boxes.specs.Way.{overNth, editWay, tailBy, boxBy, around, Under}
+use Rattle.boxes.proofs.Seeking.{payload-length}
 use Rattle.boxes.proofs.Turning.{length-boxBy, way-more}
 
 -- the first n elements of a part that has them are n
@@ -51,7 +52,7 @@ module _ (xs : List ℕ) (b : BoxAt) (e : b .head ≡ HEAD) (l : b .head ≤ b .
 
   module _ (ys : List ℕ) (q : ys ≡ payload xs b) where
     long : length ys ≡ b .size - b .head
-    long = ap length q ∙ rw (length-take, length-drop) (omega arith)
+    long = ap length q ∙ payload-length xs b l h
 
     pub around-room : j + 8 + length ys ≤ at + length xs
     around-room = omega (arith, long, start)

@@ -1,5 +1,5 @@
 -- The boxes of a part, with no fuel in sight: a part is its boxes, written, and then what is past them. Assumes nothing.
-use Prim.Native.Nat.{ℕ, zero, suc, _+_, _-_, _<_, _≤_}
+use Prim.Native.Nat.{ℕ, zero, suc, _+_, _-_, _≤_}
 use native.Mathlib.Omega.{arith}
 use mathlib.Core.Path.{_≡_, refl, sym, ap, _∙_}
 use mathlib.Core.Bool.{Bool, true, false}
@@ -9,9 +9,9 @@ use lib.Seq.{drop-drop}
 use Rattle.wire.specs.Tests.{pick}
 use Rattle.wire.specs.Numbers.{Bytes}
 use Rattle.wire.proofs.Numbers.{bytes-drop, bytes-take, word-fits}
-use Rattle.boxes.specs.Box.{Box, size, header, write}
+use Rattle.boxes.specs.Box.{Box, header, write}
 use Rattle.boxes.specs.Boxes.{HEAD, sizeOf, whole, front, boxesBy, boxes, total, after}
-use Rattle.boxes.proofs.Whole.{whole-true, short-not, length-header, size-front, rebox, Good, size-box, front-box, rest-box, whole-box}
+use Rattle.boxes.proofs.Whole.{whole-true, short-not, length-header, size-front, rebox, Good}
 
 -- ---- the bytes of boxes
 
@@ -133,27 +133,3 @@ write-boxes xs h = parts xs h .again
 pub bytes-after : (xs : List ℕ) → Bytes xs → Bytes (after xs)
 unfolding after
 bytes-after xs h = bytes-drop (total (boxes xs)) xs h
-
--- ---- of boxes that were written
-
-module _ (x : Box) (r : List ℕ) (g : Good x) (s : size x < 4294967296) where
-  pub boxes-box : boxes (header x ++ (x .body ++ r)) ≡ x ∷ boxes r
-  boxes-box = boxes-next _ (whole-box x r g s) ∙ rw (front-box x r g s, size-box x r g s, rest-box x r g s)
-
-  pub after-box : after (header x ++ (x .body ++ r)) ≡ after r
-  after-box = after-next _ (whole-box x r g s) ∙ rw (size-box x r g s, rest-box x r g s)
-
-module _ (r : List ℕ) (e : whole r ≡ false) where
-  pub boxes-write : {l : List Box} → All Good l → length (write l) < 4294967296 → boxes (write l ++ r) ≡ l
-  unfolding write
-  boxes-write none s = boxes-stop r e
-  boxes-write (some {x} {l} g a) s =
-      let n = length-cons x l in
-      rw (write-cons x l r) (boxes-box x (write l ++ r) g (omega (arith, g .head)) ∙ ap (λ (m : List Box). x ∷ m) (boxes-write a (omega arith)))
-
-  pub after-write : {l : List Box} → All Good l → length (write l) < 4294967296 → after (write l ++ r) ≡ r
-  unfolding write
-  after-write none s = after-stop r e
-  after-write (some {x} {l} g a) s =
-      let n = length-cons x l in
-      rw (write-cons x l r) (after-box x (write l ++ r) g (omega (arith, g .head)) ∙ after-write a (omega arith))

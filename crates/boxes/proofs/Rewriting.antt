@@ -10,8 +10,9 @@ use Rattle.boxes.specs.Box.{Box, size, header, write}
 use Rattle.boxes.specs.Boxes.{boxes, after}
 use Rattle.boxes.specs.Rewrite.{Bodies, over, overBoxes}
 use Rattle.boxes.proofs.Whole.{Good}
-use Rattle.boxes.proofs.Reading.{All, Filled, parts, lengths, length-cons, boxes-write, after-write, write-boxes, bytes-after}
+use Rattle.boxes.proofs.Reading.{All, Filled, parts, lengths, length-cons, write-boxes, bytes-after}
 use Rattle.boxes.proofs.Reading.All.{none, some}
+use Rattle.boxes.proofs.Written.{boxes-write, after-write}
 
 pub open-over : (f : Bodies) (xs : List ℕ) → overBoxes f xs ≡ write (map (over f) (boxes xs)) ++ after xs
 unfolding overBoxes

@@ -37,9 +37,12 @@ module _ {xs : List ℕ} {at : ℕ} (e : after xs ≡ after (drop at xs)) (o : O
 
 -- ---- the box that a step found
 
+pub payload-length : (xs : List ℕ) (b : BoxAt) → b .head ≤ b .size → b .at + b .size ≤ length xs → length (payload xs b) ≡ b .size - b .head
+payload-length xs b h k = rw (length-take, length-drop) (omega arith)
+
 module _ {xs : List ℕ} {at : ℕ} {b : BoxAt} {w : Walk} (s : Ran xs at b w) where
   pub length-payload : length (payload xs b) ≡ b .size - b .head
-  length-payload = rw (length-take, length-drop) (omega (arith, s .start, s .inside, s .least))
+  length-payload = payload-length xs b (s .least) (omega (arith, s .start, s .inside))
 
   -- as long as it says
   pub ran-size : size (boxAt xs b) ≡ b .size

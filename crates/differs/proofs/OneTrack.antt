@@ -21,7 +21,7 @@ use Rattle.movie.specs.declared.entry.Spot.the-variants.{In}
 use Rattle.movie.specs.Movie.{track, table}
 use Rattle.settle.specs.Settle.{settled}
 use Rattle.replace.specs.Replace.{turn, recordAt}
-use Rattle.replace.proofs.Changing.{toStsd, toEntry, down-stsd}
+use Rattle.replace.proofs.Changing.{stsd-end, by-stsd, toStsd, toEntry, down-stsd}
 use Rattle.differs.specs.Differs.{TRACK, OnlyOffsets, withRecord}
 use Rattle.differs.proofs.Replacing.{follows}
 use Rattle.differs.proofs.Tracking.{track-kin, offsets-refl, same-stsd}
@@ -35,20 +35,14 @@ module _ (t n keep : ℕ) (new xs : List ℕ) (w : Bytes new) (v : Bytes xs) (s 
 
   -- ---- the track of the entry
 
-  end-is : (ys : List ℕ) → endOf (toStsd t) ys ≡ table STSD (track ys t)
-  unfolding endOf table track
-  end-is ys = refl
-
-  by-stsd : editWay (toStsd t) (withRecord n keep new) xs ≡ zs
-  unfolding editWay
-  by-stsd = refl
-
   -- its `stsd` has the record
   pub record-there : 1 ≤ length (table STSD (track xs t)) → table STSD (track (settled xs (recordAt (In t n) keep new xs)) t) ≡ withRecord n keep new (table STSD (track xs t))
+  unfolding editWay
   record-there l =
+      let q = by-stsd t n keep new xs in
       sym (same-stsd zs _ settles t)
-      ∙ sym (end-is zs) ∙ ap (endOf (toStsd t)) (sym by-stsd)
-      ∙ end-by (withRecord n keep new) (down-stsd t) xs v (rw by-stsd s) (rw (end-is xs) l) ∙ ap (withRecord n keep new) (end-is xs)
+      ∙ sym (stsd-end t zs) ∙ ap (endOf (toStsd t)) q
+      ∙ end-by (withRecord n keep new) (down-stsd t) xs v (rw q at s) (rw (stsd-end t xs) l) ∙ ap (withRecord n keep new) (stsd-end t xs)
 
   -- ---- any other track
 

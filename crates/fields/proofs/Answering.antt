@@ -12,15 +12,11 @@ use Rattle.records.specs.declared.record.Written.{Written}
 use Rattle.records.specs.Records.{fieldsOf, readOf, writtenOf, outOf}
 use Rattle.verdict.specs.declared.Answer.{Answer}
 use Rattle.verdict.specs.declared.Answer.the-variants.{Done, Refused}
-use Rattle.verdict.specs.Answers.{inRoom, outBy}
-use Rattle.verdict.proofs.Answers.{room-short, room-fits, out-kept, out-wrote}
+use Rattle.verdict.specs.Answers.{inRoom}
+use Rattle.verdict.proofs.Answers.{Left, answered, room-short, room-fits, out-kept, out-wrote}
 use Rattle.fields.specs.Numbers.{recordOf, whenRead, readAnswer, readOut, answerOf, writeAnswer, writeOut}
 
 -- ---- numbers into a list
-
--- an answer, and the list after it
-abbrev pub Left : Answer → Answer → List ℕ → List ℕ → List ℕ → Type 0
-Left r a ns out after = (r ≡ a) × (after ≡ outBy r ns out)
 
 module _ (ns out : List ℕ) where
   pub put-short : length out < length ns → Left (Refused 25 0) (inRoom ns out) ns out out
@@ -38,9 +34,7 @@ module _ (xs out : List ℕ) {r : Record} (e : r ≡ readOf FRAMES xs) where
   pub read-as : (s : Record) → r ≡ s → {a : Answer} {after : List ℕ} → Left a (whenRead s (inRoom (fieldsOf s) out)) (fieldsOf s) out after
       → (a ≡ readAnswer xs out) × (after ≡ readOut xs out)
   unfolding readAnswer
-  read-as s g {a} {after} (p, q) =
-      let h : readOf FRAMES xs ≡ s = sym e ∙ g in
-      (rw h p, rw h (q ∙ ap (λ (b : Answer). outBy b (fieldsOf s) out) p))
+  read-as s g (p, q) = let h : readOf FRAMES xs ≡ s = sym e ∙ g in rw h (answered (fieldsOf s) out p q)
 
   pub read-broken : r ≡ Broken → (Refused 21 0 ≡ readAnswer xs out) × (out ≡ readOut xs out)
   read-broken g = read-as Broken g (refl, out-kept [] out (Refused 21 0) refl)

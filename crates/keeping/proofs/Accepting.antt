@@ -28,9 +28,9 @@ use Rattle.judge.specs.Acceptance.{Holds, Meets, plain}
 use Rattle.keeping.proofs.Content.{Content}
 use Rattle.keeping.proofs.Forms.{six-forms}
 use Rattle.keeping.proofs.Arranges.{Arranges}
-use Rattle.keeping.proofs.Arranging.{arranged-boxes, arranged-rule}
+use Rattle.keeping.proofs.Arranging.{arranged-rule}
 use Rattle.keeping.proofs.Settling.{new, new-bytes, new-tiled, new-small, Edit, edit-kin, edit-sound}
-use Rattle.keeping.proofs.Following.{edit-moved, same-payloads, new-good}
+use Rattle.keeping.proofs.Following.{in-order, edit-moved, same-payloads, new-good}
 
 -- the file has its boxes, in whichever order
 shape-arranged : {A : List Box → List Box} → Arranges A → (l : List Box) → shape FILE (A l) ≡ shape FILE l
@@ -48,13 +48,10 @@ module _ {A : List Box → List Box} (a : Arranges A) (xs ys : List ℕ) (w : By
   to-file : (r : Rule) → (r .node FILE mid ≡ true → r .node FILE result ≡ true) → Holds r mid → Holds r result
   to-file r = arranged-rule a mid (new-bytes a xs ys w m c) (new-tiled a xs ys w m c) (new-small a xs ys w m c) r 5 FILE
 
-  in-order : boxes result ≡ A (boxes mid)
-  in-order = arranged-boxes a mid (new-bytes a xs ys w m c) (new-tiled a xs ys w m c) (new-small a xs ys w m c)
-
   -- refusal 23 lets it pass again
   pub edit-plain : plain xs ≡ true → plain result ≡ true
   edit-plain q =
-      to-file plainRule (λ p. rw (in-order, same-exactly (A (boxes mid)) (boxes mid) (λ d. a .counts d (boxes mid)) 0) p)
+      to-file plainRule (λ p. rw (in-order a xs ys w m c, same-exactly (A (boxes mid)) (boxes mid) (λ d. a .counts d (boxes mid)) 0) p)
       (kin-plain (Edit a xs ys w m c) DEPTH FILE xs mid (edit-kin a xs ys w m c) q)
 
   -- every rule holds of it
@@ -68,13 +65,13 @@ module _ {A : List Box → List Box} (a : Arranges A) (xs ys : List ℕ) (w : By
         least = n;
         most = k;
         two = to-file twoRule (λ p. p) (kin-2 G DEPTH FILE xs mid h (m .two));
-        three = to-file threeRule (λ p. rw (in-order, shape-arranged a (boxes mid)) p) (kin-3 G DEPTH FILE xs mid h (m .three));
+        three = to-file threeRule (λ p. rw (in-order a xs ys w m c, shape-arranged a (boxes mid)) p) (kin-3 G DEPTH FILE xs mid h (m .three));
         four = to-file fourRule (λ p. refl) (kin-4 G (s .forms) (s .tkhd) DEPTH FILE xs mid h (m .four));
         five = to-file fiveRule (λ p. refl) (kin-5 G (s .stsd) (s .tables .stsd) (s .dref) DEPTH FILE xs mid h (m .five));
         six = to-file sixRule (λ p. p) (kin-6 G (λ i d b b′ z r. six-forms G (s .tables) i d b b′ r) DEPTH FILE xs mid h (m .six));
         seven = to-file sevenRule (λ p. refl) (kin-7 G (s .tables) DEPTH FILE xs mid h (m .seven));
         eight =
-            rw in-order (to-file (eightRule (A (boxes mid))) (λ p. refl)
+            rw (in-order a xs ys w m c) (to-file (eightRule (A (boxes mid))) (λ p. refl)
             (kin-8 G (s .tables) (boxes xs) (A (boxes mid)) (same-payloads a xs ys w m c) (new-good a xs ys w m c) (edit-moved a xs ys w m c) DEPTH FILE xs mid h (m .eight)));
         nine = to-file nineRule (λ p. p) (kin-9 G (s .urls) DEPTH FILE xs mid h (m .nine));
         ten = to-file tenRule (λ p. refl) (kin-10 G (s .described) DEPTH FILE xs mid h (m .ten));

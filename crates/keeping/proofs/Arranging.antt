@@ -2,17 +2,18 @@
 use Prim.Native.Nat.{ℕ, suc, _<_}
 use native.Mathlib.Omega.{arith}
 use mathlib.Core.Path.{_≡_, sym, ap, _∙_}
-use mathlib.Core.Bool.{true, false}
+use mathlib.Core.Bool.{true}
 use mathlib.Core.List.{List, [], map, append-nil}
 use lib.ListN.{length}
 use Rattle.wire.specs.Numbers.{Bytes}
 use Rattle.wire.proofs.Tests.{both}
 use Rattle.boxes.specs.Box.{Box, write}
-use Rattle.boxes.specs.Boxes.{whole, boxes, after}
+use Rattle.boxes.specs.Boxes.{boxes, after}
 use Rattle.boxes.specs.Rewrite.{Bodies, Leaves, over, editBox, editIn}
 use Rattle.boxes.specs.Kin.{All2}
-use Rattle.boxes.proofs.Whole.{Good, short-not}
-use Rattle.boxes.proofs.Reading.{All, parts, lengths, boxes-write, after-write}
+use Rattle.boxes.proofs.Whole.{Good}
+use Rattle.boxes.proofs.Written.{boxes-all, after-all}
+use Rattle.boxes.proofs.Reading.{All, parts, lengths}
 use Rattle.boxes.proofs.Rewriting.{open-over, boxes-over, length-over, bytes-write}
 use Rattle.boxes.proofs.Editing.{box-length}
 use Rattle.media.specs.Relocate.{Alike}
@@ -36,16 +37,13 @@ module _ {A : List Box → List Box} (a : Arranges A) (ys : List ℕ) (w : Bytes
   small : length (write (A (boxes ys))) < 4294967296
   small = omega (arith, arranged-length)
 
-  none : whole [] ≡ false
-  none = short-not [] (omega arith)
-
   -- its boxes
   pub arranged-boxes : boxes (write (A (boxes ys))) ≡ A (boxes ys)
-  arranged-boxes = ap boxes (sym (append-nil (write (A (boxes ys))))) ∙ boxes-write [] none good small
+  arranged-boxes = boxes-all good small
 
   -- boxes tile it
   pub arranged-after : after (write (A (boxes ys))) ≡ []
-  arranged-after = ap after (sym (append-nil (write (A (boxes ys))))) ∙ after-write [] none good small
+  arranged-after = after-all good small
 
   -- it holds bytes
   pub arranged-bytes : Bytes (write (A (boxes ys)))

@@ -5,7 +5,7 @@ use mathlib.Core.Path.{_≡_, sym, _∙_}
 use mathlib.Core.List.{List}
 use Rattle.wire.specs.Numbers.{Bytes}
 use Rattle.wire.specs.Codes.{STBL, STCO}
-use Rattle.boxes.specs.Box.{Box}
+use Rattle.boxes.specs.Box.{Box, write}
 use Rattle.boxes.specs.Boxes.{boxes}
 use Rattle.boxes.proofs.Whole.{Good}
 use Rattle.boxes.proofs.Reading.{All, parts}
@@ -18,12 +18,16 @@ use Rattle.judge.specs.Acceptance.{Meets}
 use Rattle.keeping.proofs.Content.{Content}
 use Rattle.keeping.proofs.Offsets.{offsets-moved}
 use Rattle.keeping.proofs.Arranges.{Arranges}
-use Rattle.keeping.proofs.Arranging.{arranged-length}
+use Rattle.keeping.proofs.Arranging.{arranged-boxes, arranged-length}
 use Rattle.keeping.proofs.Settling.{new, new-bytes, new-tiled, new-small, new-alike, Edit, edit-kin, edit-sound}
 
 module _ {A : List Box → List Box} (a : Arranges A) (xs ys : List ℕ) (w : Bytes xs) (m : Meets xs) (c : Content xs ys) where
   abbrev mid : List ℕ
   mid = new a xs ys w m c
+
+  -- the edited file has its boxes in order
+  pub in-order : boxes (write (A (boxes (new a xs ys w m c)))) ≡ A (boxes (new a xs ys w m c))
+  in-order = arranged-boxes a mid (new-bytes a xs ys w m c) (new-tiled a xs ys w m c) (new-small a xs ys w m c)
 
   -- the file and the edited file have the same payloads
   pub same-payloads : mdats (boxes xs) ≡ mdats (A (boxes (new a xs ys w m c)))

@@ -6,8 +6,6 @@ pub mod Forms
 pub mod Offsets
 pub mod Arranges
 pub mod Arranging
-pub mod Sifting
-pub mod Mapping
 pub mod Second
 pub mod Tracking
 pub mod Tables

@@ -12,7 +12,7 @@ use Rattle.boxes.specs.Boxes.{boxes, FRONT}
 use Rattle.boxes.specs.Seek.{ANY, count}
 use Rattle.boxes.proofs.Whole.{Good}
 use Rattle.boxes.proofs.Reading.{parts, lengths, length-cons, write-append}
-use Rattle.boxes.proofs.Every.{all-head, all-front}
+use Rattle.boxes.proofs.Every.{all-here}
 use Rattle.heads.specs.Kinds.{kindOf}
 use Rattle.movie.specs.declared.entry.Spot.the-variants.{In}
 use Rattle.movie.specs.Movie.{movie, track, table}
@@ -53,7 +53,7 @@ unfolding listIn table track
 entry-in xs i w h t n e =
     let s = entry-split xs (i - 1) t n e in
     let f : Bytes (drop FRONT (table STSD (track xs t))) = bytes-list xs t w in
-    let g = all-head (all-front (s .before) (s .box) (s .past) (rw (s .list) at (parts (drop FRONT (table STSD (track xs t))) f .good))) in
+    let g = all-here (s .before) (s .box) (s .past) (rw (s .list) at (parts (drop FRONT (table STSD (track xs t))) f .good)) in
     record {
       before = s .before;
       box = s .box;

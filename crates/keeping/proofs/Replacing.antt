@@ -14,7 +14,7 @@ use Rattle.boxes.specs.Kin.{Kin}
 use Rattle.boxes.specs.Way.{overNth, overTurn, editWay, tailBy}
 use Rattle.boxes.proofs.Turning.{way-length}
 use Rattle.boxes.proofs.Meaning.{meant-any}
-use Rattle.boxes.proofs.Down.{Once, endOf}
+use Rattle.boxes.proofs.Down.{Once}
 use Rattle.boxes.proofs.OneOfList.{nth-by}
 use Rattle.boxes.proofs.OneOfPart.{boxes-nth, after-nth}
 use Rattle.entries.specs.Entries.{FRAMES}
@@ -24,7 +24,7 @@ use Rattle.movie.specs.declared.entry.Spot.the-variants.{In}
 use Rattle.movie.specs.Movie.{movie, track, table}
 use Rattle.movie.specs.Named.{spotIn}
 use Rattle.replace.specs.Replace.{kindAt, recordAt}
-use Rattle.replace.proofs.Changing.{toStsd, toEntry, record-bytes, record-kin}
+use Rattle.replace.proofs.Changing.{stsd-end, toEntry, record-bytes, record-kin}
 use Rattle.replace.proofs.Taking.{record-short, record-first}
 use Rattle.keeping.proofs.Changed.{Changed}
 use Rattle.keeping.proofs.Content.{Content}
@@ -81,13 +81,9 @@ module _ (xs : List ℕ) (i : ℕ) (new : List ℕ) (w : Bytes xs) (few : length
 
   -- ---- the file
 
-  end-is : endOf (toStsd t) xs ≡ table STSD (track xs t)
-  unfolding endOf table track
-  end-is = refl
-
   -- one entry of the file has another decoder record
   pub record-content : Bytes new → length (recordAt (In t n) (headSize (kindAt xs i) - HEAD) new xs) ≤ LONGEST → Content xs (recordAt (In t n) (headSize (kindAt xs i) - HEAD) new xs)
   record-content v h =
       once-content (table STSD (track xs t)) changedStsd new stsd-changed xs _
-      (subst (λ (b : List ℕ). Kin (Once STBL STSD b (editWay (toEntry n) by b)) DEPTH FILE xs (recordAt (In t n) keep new xs)) end-is (record-kin t n keep new xs v w (omega arith)))
+      (subst (λ (b : List ℕ). Kin (Once STBL STSD b (editWay (toEntry n) by b)) DEPTH FILE xs (recordAt (In t n) keep new xs)) (stsd-end t xs) (record-kin t n keep new xs v w (omega arith)))
       (record-bytes t n keep new xs v w) h

@@ -24,11 +24,11 @@ use Rattle.judge.specs.Acceptance.{Meets}
 use Rattle.keeping.specs.Samples.{samples}
 use Rattle.keeping.proofs.Content.{Content}
 use Rattle.keeping.proofs.Arranges.{Arranges}
-use Rattle.keeping.proofs.Arranging.{arranged-boxes, arranged-after, arranged-bytes}
+use Rattle.keeping.proofs.Arranging.{arranged-after, arranged-bytes}
 use Rattle.keeping.proofs.Tracking.{in-track}
 use Rattle.keeping.proofs.Tables.{track-eight}
 use Rattle.keeping.proofs.Settling.{xs-tiled, new, new-bytes, new-tiled, new-small, Edit, edit-kin, edit-sound}
-use Rattle.keeping.proofs.Following.{edit-moved, same-payloads}
+use Rattle.keeping.proofs.Following.{in-order, edit-moved, same-payloads}
 
 module _ {A : List Box → List Box} (a : Arranges A) (xs ys : List ℕ) (w : Bytes xs) (m : Meets xs) (c : Content xs ys) where
   abbrev mid : List ℕ
@@ -37,12 +37,9 @@ module _ {A : List Box → List Box} (a : Arranges A) (xs ys : List ℕ) (w : By
   abbrev result : List ℕ
   result = write (A (boxes (new a xs ys w m c)))
 
-  in-order : boxes result ≡ A (boxes mid)
-  in-order = arranged-boxes a mid (new-bytes a xs ys w m c) (new-tiled a xs ys w m c) (new-small a xs ys w m c)
-
   -- the same `moov`, and so the same tracks
   same-moov : find MOOV (boxes result) ≡ find MOOV (boxes mid)
-  same-moov = rw (in-order, a .movie (boxes mid))
+  same-moov = rw (in-order a xs ys w m c, a .movie (boxes mid))
 
   same-track : (t : ℕ) → track result t ≡ track mid t
   unfolding track
@@ -74,9 +71,9 @@ module _ {A : List Box → List Box} (a : Arranges A) (xs ys : List ℕ) (w : By
       let t = edit-sound a xs ys w m c .tables in
       rw (← same-table G t 0 b b′ h STSC (λ z. omega arith) refl (t .stsc), ← same-table G t 0 b b′ h STSZ (λ z. omega arith) refl (t .stsz))
       (file-samples-kept xs result w (arranged-bytes a mid (new-bytes a xs ys w m c) (new-tiled a xs ys w m c) (new-small a xs ys w m c)) (xs-tiled a xs ys w m c)
-      (arranged-after a mid (new-bytes a xs ys w m c) (new-tiled a xs ys w m c) (new-small a xs ys w m c)) (rw in-order (same-payloads a xs ys w m c))
+      (arranged-after a mid (new-bytes a xs ys w m c) (new-tiled a xs ys w m c) (new-small a xs ys w m c)) (rw (in-order a xs ys w m c) (same-payloads a xs ys w m c))
       (find STSC (boxes b)) (find STSZ (boxes b)) (find STCO (boxes b)) (find STCO (boxes b′))
-      (rw in-order (kin-find G 0 STBL b b′ h STCO (λ z. omega arith) (Relocated (boxes xs) (A (boxes mid))) (relocated-none (boxes xs) (A (boxes mid))) refl (edit-moved a xs ys w m c) 0)) q)
+      (rw (in-order a xs ys w m c) (kin-find G 0 STBL b b′ h STCO (λ z. omega arith) (Relocated (boxes xs) (A (boxes mid))) (relocated-none (boxes xs) (A (boxes mid))) refl (edit-moved a xs ys w m c) 0)) q)
 
   -- each sample of each track
   pub edit-samples : (t : ℕ) → samples result t ≡ samples xs t

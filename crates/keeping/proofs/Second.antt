@@ -4,21 +4,20 @@ use native.Mathlib.Omega.{arith}
 use mathlib.Core.Path.{_≡_, refl}
 use mathlib.Core.Bool.{Bool, true, false}
 use mathlib.Core.List.{List, [], _∷_}
-use lib.ListN.{length}
 use Rattle.wire.specs.Tests.{pick, ifEq}
 use Rattle.wire.specs.Codes.{MOOV, MDAT}
-use Rattle.boxes.specs.Box.{Box, write}
+use Rattle.boxes.specs.Box.{Box}
 use Rattle.boxes.specs.Seek.{count, nth, find}
-use Rattle.boxes.proofs.Reading.{length-cons}
 use Rattle.boxes.proofs.Meaning.{meant-no}
 use Rattle.media.specs.Payloads.{mdats}
 use Rattle.media.proofs.Payloads.{mdat-or, mdats-hit, mdats-miss}
 use Rattle.verdict.specs.Rule.{allList}
 use Rattle.shape.specs.Shape.{first}
+use Rattle.moving.proofs.Order.{second-length}
 use Rattle.moving.specs.Moving.{moovSecond}
 use Rattle.keeping.proofs.Arranges.{Arranges}
-use Rattle.keeping.proofs.Sifting.{seconded, each-second}
-use Rattle.keeping.proofs.Mapping.{second-maps}
+use Rattle.moving.proofs.Sifting.{seconded, each-second}
+use Rattle.moving.proofs.Mapping.{second-maps}
 
 -- ---- what the rules read
 
@@ -39,11 +38,6 @@ second-movie : (l : List Box) → find MOOV (moovSecond l) ≡ find MOOV l
 unfolding nth ifEq
 second-movie = seconded (find MOOV) (λ y l m e. rw e) (λ x y l h n. rw (← meant-no MOOV (y .code) (λ z. omega arith) n))
 
-second-size : (l : List Box) → length (write (moovSecond l)) ≡ length (write l)
-second-size =
-    seconded (λ l. length (write l)) (λ y l m e. omega (arith, length-cons y l, length-cons y m))
-    (λ x y l h n. omega (arith, length-cons x (y ∷ l), length-cons y l, length-cons y (x ∷ l), length-cons x l))
-
 second-payloads : (l : List Box) → mdats (moovSecond l) ≡ mdats l
 second-payloads =
     seconded mdats
@@ -61,4 +55,4 @@ second-first (x ∷ l) = refl
 
 -- the order of a move
 pub second : Arranges moovSecond
-second = record { each = each-second; size = second-size; payloads = second-payloads; counts = second-counts; first = second-first; movie = second-movie; all = second-all; maps = second-maps }
+second = record { each = each-second; size = second-length; payloads = second-payloads; counts = second-counts; first = second-first; movie = second-movie; all = second-all; maps = second-maps }

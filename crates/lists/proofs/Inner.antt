@@ -5,7 +5,7 @@ use mathlib.Core.Path.{_≡_, refl, sym}
 use mathlib.Core.Bool.{Bool, true, false}
 use mathlib.Core.List.{List, [], _∷_, _++_}
 use lib.Dec.{eqb}
-use lib.ListN.{length, length-take, length-drop}
+use lib.ListN.{length}
 use borrow.Author.Tests.{eqb-true, eqb-false}
 use Rattle.wire.specs.Tests.{pick, ifEq}
 use Rattle.wire.specs.Numbers.{Bytes}
@@ -15,6 +15,7 @@ use Rattle.boxes.specs.Box.{Box, size}
 use Rattle.boxes.specs.Boxes.{boxes, total}
 use Rattle.boxes.specs.Walk.{payload, boxAt}
 use Rattle.boxes.specs.Seek.{ANY, meant, count, nth, find, Cut}
+use Rattle.boxes.proofs.Seeking.{payload-length}
 use Rattle.boxes.proofs.Placing.{total-before}
 use Rattle.boxes.proofs.Reading.All.{none}
 use Rattle.boxes.proofs.Meaning.{nth-hit, nth-miss, meant-is, meant-yes, meant-no}
@@ -25,7 +26,7 @@ use Rattle.verdict.specs.Inner.{within}
 
 -- the payload of a box that was found lies inside
 pub payload-room : (xs : List ℕ) (b : BoxAt) → b .head ≤ b .size → b .at + b .size ≤ length xs → {d : List ℕ} → d ≡ payload xs b → b .at + b .head + length d ≤ length xs
-payload-room xs b h k e = rw (e, length-take, length-drop) (omega arith)
+payload-room xs b h k e = rw e (omega (arith, payload-length xs b h k))
 
 -- ---- what is said of it
 

@@ -18,7 +18,7 @@ use Rattle.boxes.proofs.Reading.{lengths}
 use Rattle.verdict.specs.declared.Answer.{Answer}
 use Rattle.verdict.specs.declared.Answer.the-variants.{Done, Refused}
 use Rattle.verdict.specs.Answers.{inRoom, outBy}
-use Rattle.verdict.proofs.Answers.{room-short, room-fits, out-kept, out-wrote}
+use Rattle.verdict.proofs.Answers.{answered, room-short, room-fits, out-kept, out-wrote}
 use Rattle.judge.specs.declared.Judgement.{Judgement}
 use Rattle.judge.specs.declared.Judgement.the-variants as judgement
 use Rattle.judge.specs.Judgement.{judged}
@@ -60,16 +60,16 @@ module _ (xs : List ℕ) (m : Meets xs) where
 -- ---- the answers
 
 module _ (xs out : List ℕ) (m : Meets xs) {t : ℕ} (e : t ≡ oneIf (plain xs)) where
-  abbrev answered : Answer
-  answered = pick (plain xs) (inRoom (moveOf xs) out) (Refused 23 0)
+  abbrev answer : Answer
+  answer = pick (plain xs) (inRoom (moveOf xs) out) (Refused 23 0)
 
-  pub move-barred : t ≡ 0 → (Refused 23 0 ≡ answered) × (out ≡ outBy (Refused 23 0) (moveOf xs) out)
+  pub move-barred : t ≡ 0 → (Refused 23 0 ≡ answer) × (out ≡ outBy (Refused 23 0) (moveOf xs) out)
   move-barred z = (rw (was-nay (plain xs) t z e), out-kept (moveOf xs) out (Refused 23 0) refl)
 
-  pub move-short : (t ≡ 0 → ⊥) → length out < length xs → (Refused 25 0 ≡ answered) × (out ≡ outBy (Refused 25 0) (moveOf xs) out)
+  pub move-short : (t ≡ 0 → ⊥) → length out < length xs → (Refused 25 0 ≡ answer) × (out ≡ outBy (Refused 25 0) (moveOf xs) out)
   move-short z h = (rw (was-yea (plain xs) t z e) (room-short (moveOf xs) out (rw (move-length xs m) h)), out-kept (moveOf xs) out (Refused 25 0) refl)
 
-  pub move-wrote : {n : ℕ} {after : List ℕ} → (t ≡ 0 → ⊥) → length xs ≤ length out → Wrote (moveOf xs) out n after → (Done n ≡ answered) × (after ≡ outBy (Done n) (moveOf xs) out)
+  pub move-wrote : {n : ℕ} {after : List ℕ} → (t ≡ 0 → ⊥) → length xs ≤ length out → Wrote (moveOf xs) out n after → (Done n ≡ answer) × (after ≡ outBy (Done n) (moveOf xs) out)
   move-wrote {n} z h w = (rw (was-yea (plain xs) t z e) (room-fits (moveOf xs) out (rw (move-length xs m) h) (w .size)), out-wrote (moveOf xs) out (Done n) refl w)
 
 -- ---- the whole
@@ -77,7 +77,7 @@ module _ (xs out : List ℕ) (m : Meets xs) {t : ℕ} (e : t ≡ oneIf (plain xs
 module _ (xs out : List ℕ) {j : Judgement} (e : j ≡ judged xs) where
   pub move-met : {r : Answer} {after : List ℕ} → j ≡ judgement.Accepted → (r ≡ pick (plain xs) (inRoom (moveOf xs) out) (Refused 23 0)) × (after ≡ outBy r (moveOf xs) out) → (r ≡ moveAnswer xs out) × (after ≡ moveOut xs out)
   unfolding moveAnswer
-  move-met {r} {after} f (a, w) = let q = when-accepted xs e (pick (plain xs) (inRoom (moveOf xs) out) (Refused 23 0)) f a in (q, w ∙ ap (λ (z : Answer). outBy z (moveOf xs) out) q)
+  move-met f (a, w) = answered (moveOf xs) out (when-accepted xs e (pick (plain xs) (inRoom (moveOf xs) out) (Refused 23 0)) f a) w
 
   pub move-refused : {n p : ℕ} → j ≡ judgement.Refused n p → (Refused n p ≡ moveAnswer xs out) × (out ≡ moveOut xs out)
   unfolding moveAnswer

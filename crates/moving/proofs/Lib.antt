@@ -1,3 +1,5 @@
+pub mod Sifting
+pub mod Mapping
 pub mod Order
 pub mod Pieces
 pub mod Parted

@@ -13,11 +13,12 @@ use Rattle.boxes.specs.Containers.{FILE, DEPTH}
 use Rattle.boxes.specs.Rewrite.{editIn}
 use Rattle.boxes.specs.Walk.{boxAt}
 use Rattle.boxes.specs.Words.{rewordLeaf, moved}
-use Rattle.boxes.proofs.Whole.{Good, short-not}
-use Rattle.boxes.proofs.Reading.{All, parts, lengths, write-append, write-boxes, boxes-write}
+use Rattle.boxes.proofs.Whole.{Good}
+use Rattle.boxes.proofs.Written.{boxes-all}
+use Rattle.boxes.proofs.Reading.{All, parts, lengths, write-append, write-boxes}
 use Rattle.boxes.proofs.Reading.All.{none, some}
 use Rattle.boxes.proofs.Placing.{length-write}
-use Rattle.boxes.proofs.Every.{all-head, all-tail, all-left, all-front}
+use Rattle.boxes.proofs.Every.{all-head, all-tail, all-left}
 use Rattle.media.specs.Payloads.{mdats, inAt}
 use Rattle.media.specs.Relocate.{relocate}
 use Rattle.media.proofs.Payloads.{mdats-miss}
@@ -29,17 +30,14 @@ use Rattle.settle.proofs.Settled.{settled-list}
 use Rattle.settle.proofs.Accepted.{file-tiled}
 use Rattle.moving.specs.Moving.{moovSecond, moveOf}
 use Rattle.moving.specs.Arrange.{arranged, up, shifted}
+use Rattle.moving.proofs.Sifting.{each-second}
 use Rattle.moving.proofs.Order.{second-length}
 use Rattle.moving.proofs.Pieces.{pieces-are}
 use Rattle.moving.proofs.Parted.{Parted}
 
 module _ (xs : List ℕ) (v : Bytes xs) (m : Meets xs) {b : BoxAt} (p : Parted xs b) where
-  -- what holds of each box of the file holds of each in the new order
-  in-order : {P : Box → Type 0} → All P (boxes xs) → All P (moovSecond (boxes xs))
-  in-order a = rw (p .second) (let c = rw (p .list) at a in some (all-head c) (all-front (p .mid) (boxAt xs b) (p .end) (all-tail c)))
-
   good : All Good (p .ftyp ∷ (boxAt xs b ∷ (p .mid ++ p .end)))
-  good = rw (p .second) at (in-order (parts xs v .good))
+  good = rw (p .second) at (each-second (parts xs v .good))
 
   -- ---- the bytes
 
@@ -69,7 +67,7 @@ module _ (xs : List ℕ) (v : Bytes xs) (m : Meets xs) {b : BoxAt} (p : Parted x
   -- ---- the chunk offsets
 
   new-boxes : boxes (write (moovSecond (boxes xs))) ≡ moovSecond (boxes xs)
-  new-boxes = sym (ap boxes (append-nil (write (moovSecond (boxes xs))))) ∙ boxes-write [] (short-not [] (omega arith)) (in-order (parts xs v .good)) (omega (arith, second-length (boxes xs), lengths xs, m .most))
+  new-boxes = boxes-all (each-second (parts xs v .good)) (omega (arith, second-length (boxes xs), lengths xs, m .most))
 
   fronts : Fronts (p .ftyp ∷ []) (p .mid) (boxAt xs b) (up b)
   unfolding total
@@ -85,4 +83,4 @@ module _ (xs : List ℕ) (v : Bytes xs) (m : Meets xs) {b : BoxAt} (p : Parted x
   unfolding shifted moveOf
   shifted-is =
       ap (editIn (rewordLeaf offsets (moved (up b))) DEPTH FILE) arranged-is
-      ∙ settled-list xs (write (moovSecond (boxes xs))) (moved (up b)) m relocates (λ t q. rw new-boxes (each-all t (in-order (all-each t true (boxes xs) q))))
+      ∙ settled-list xs (write (moovSecond (boxes xs))) (moved (up b)) m relocates (λ t q. rw new-boxes (each-all t (each-second (all-each t true (boxes xs) q))))

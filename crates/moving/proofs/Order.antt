@@ -1,19 +1,16 @@
 -- Laws of the order that a move makes. Assumes nothing.
-use Prim.Native.Nat.{ℕ, _+_}
 use native.Mathlib.Omega.{arith}
-use mathlib.Core.Path.{_≡_, refl, sym, ap, _∙_}
-use mathlib.Core.Bool.{Bool, true, false}
+use mathlib.Core.Path.{_≡_, refl, sym, ap}
 use mathlib.Core.List.{List, [], _∷_, _++_}
-use lib.Dec.{eqb}
-use lib.ListN.{length, length-append}
-use Rattle.wire.specs.Tests.{pick, ifEq}
+use lib.ListN.{length}
 use Rattle.wire.specs.Codes.{MOOV}
 use Rattle.wire.proofs.Tests.{eq-yea, eq-nay}
 use Rattle.boxes.specs.Box.{Box, write}
 use Rattle.boxes.specs.Seek.{count}
-use Rattle.boxes.proofs.Reading.{length-cons, write-append}
+use Rattle.boxes.proofs.Reading.{length-cons}
 use Rattle.boxes.proofs.Meaning.{meant-yes}
 use Rattle.moving.specs.Moving.{just, others, moovSecond}
+use Rattle.moving.proofs.Sifting.{seconded}
 
 -- ---- a list without a `moov`
 
@@ -38,25 +35,10 @@ others-none (x ∷ l) n = sym (eq-nay _ _ _ _ _ (other x l n) (ap (λ (m : List 
 
 -- ---- all boxes are there, however many are `moov`
 
-none-long : length (write []) ≡ 0
-unfolding write
-none-long = refl
-
-parts-length : (c : ℕ) (l : List Box) → length (write (just c l)) + length (write (others c l)) ≡ length (write l)
-unfolding just others ifEq
-parts-length c [] = omega (arith, none-long)
-parts-length c (x ∷ l) = go (eqb (x .code) c) (parts-length c l)
-  where
-    go : (t : Bool) → length (write (just c l)) + length (write (others c l)) ≡ length (write l)
-        → length (write (pick t (x ∷ just c l) (just c l))) + length (write (pick t (others c l) (x ∷ others c l))) ≡ length (write (x ∷ l))
-    go true e = omega (arith, length-cons x (just c l), length-cons x l)
-    go false e = omega (arith, length-cons x (others c l), length-cons x l)
-
 pub second-length : (l : List Box) → length (write (moovSecond l)) ≡ length (write l)
-unfolding moovSecond
-second-length [] = refl
-second-length (x ∷ l) =
-    omega (arith, length-cons x (just MOOV l ++ others MOOV l), length-cons x l, ap length (write-append (just MOOV l) (others MOOV l)) ∙ length-append (write (just MOOV l)) (write (others MOOV l)), parts-length MOOV l)
+second-length =
+    seconded (λ l. length (write l)) (λ y l m e. omega (arith, length-cons y l, length-cons y m))
+    (λ x y l h n. omega (arith, length-cons x (y ∷ l), length-cons y l, length-cons y (x ∷ l), length-cons x l))
 
 -- ---- a list with one
 

@@ -1,7 +1,7 @@
 -- What a read of a track answers, and what it leaves in the list. Assumes nothing.
 use Prim.Native.Nat.{ℕ, _-_, _≤_, _<_}
 use native.Mathlib.Omega.{arith}
-use mathlib.Core.Path.{_≡_, refl, ap, _∙_}
+use mathlib.Core.Path.{_≡_, refl}
 use mathlib.Core.List.{List}
 use lib.ListN.{length}
 use Rattle.wire.specs.Writing.{Wrote}
@@ -10,7 +10,7 @@ use Rattle.movie.specs.Movie.{tracks, track}
 use Rattle.verdict.specs.declared.Answer.{Answer}
 use Rattle.verdict.specs.declared.Answer.the-variants.{Done, Refused}
 use Rattle.verdict.specs.Answers.{inRoom, outBy}
-use Rattle.verdict.proofs.Answers.{room-short, room-fits, out-kept, out-wrote}
+use Rattle.verdict.proofs.Answers.{Left, answered, room-short, room-fits, out-kept, out-wrote}
 use Rattle.judge.specs.declared.Judgement.{Judgement}
 use Rattle.judge.specs.declared.Judgement.the-variants as judgement
 use Rattle.judge.specs.Judgement.{judged}
@@ -19,10 +19,6 @@ use Rattle.judge.proofs.Calls.{when-accepted, when-refused}
 use Rattle.reads.specs.Tracks.{Readable}
 use Rattle.reads.specs.Reads.{whenTrack, numbersAnswer}
 use Rattle.reads.proofs.Accepted.{readable}
-
--- an answer, and the list after it
-abbrev pub Left : Answer → Answer → List ℕ → List ℕ → List ℕ → Type 0
-Left r a numbers out after = (r ≡ a) × (after ≡ outBy r numbers out)
 
 module _ (xs : List ℕ) (t : ℕ) (numbers out : List ℕ) where
   refused : (n p : ℕ) (a : Answer) → Refused n p ≡ a → Left (Refused n p) a numbers out out
@@ -51,7 +47,7 @@ module _ (xs : List ℕ) (t : ℕ) (numbers out : List ℕ) where
     pub numbers-accepted : j ≡ judgement.Accepted → {r : Answer} {after : List ℕ} → Left r (whenTrack xs t (inRoom numbers out)) numbers out after
         → (r ≡ numbersAnswer xs t numbers out) × (after ≡ outBy (numbersAnswer xs t numbers out) numbers out)
     unfolding numbersAnswer
-    numbers-accepted f (g, h) = let q = when-accepted xs e (whenTrack xs t (inRoom numbers out)) f g in (q, h ∙ ap (λ (a : Answer). outBy a numbers out) q)
+    numbers-accepted f (g, h) = answered numbers out (when-accepted xs e (whenTrack xs t (inRoom numbers out)) f g) h
 
     pub numbers-refused : {n p : ℕ} → j ≡ judgement.Refused n p → (Refused n p ≡ numbersAnswer xs t numbers out) × (out ≡ outBy (numbersAnswer xs t numbers out) numbers out)
     unfolding numbersAnswer

@@ -66,8 +66,3 @@ module _ (xs : List ℕ) (i : ℕ) (new out : List ℕ) {kind k : ℕ} (e : kind
     pub taken-fit : r ≡ 1 → {a : Answer} → a ≡ settledAnswer xs (replaceOf xs i new) out → a ≡ takenAnswer xs i new out
     unfolding takenAnswer
     taken-fit h q = rw (← e, was-yea _ k z f) (eq-yea _ _ _ _ _ (sym g ∙ h) q)
-
--- ---- all of it
-
-pub answered : (new out : List ℕ) {r a : Answer} {after : List ℕ} → r ≡ a → after ≡ outBy r new out → (r ≡ a) × (after ≡ outBy a new out)
-answered new out e q = (e, q ∙ ap (λ (x : Answer). outBy x new out) e)

@@ -16,6 +16,7 @@ use Rattle.boxes.specs.Kin.{Kin}
 use Rattle.boxes.proofs.Down.{Down, last, into, Once, endOf, way-bytes, kin-way}
 use Rattle.boxes.specs.Boxes.{FRONT}
 use Rattle.movie.specs.declared.entry.Spot.the-variants.{In}
+use Rattle.movie.specs.Movie.{track, table}
 use Rattle.replace.specs.Replace.{turn, wayTo, recordAt}
 
 -- ---- the way
@@ -37,6 +38,15 @@ down-stsd t =
     (into 1 MINF STBL 0 (λ z. omega arith) (λ z. omega arith)
     (last 0 STBL STSD 0 (λ z. omega arith) refl)))))
 
+-- where it ends, and where it is parted
+pub stsd-end : (t : ℕ) (xs : List ℕ) → endOf (toStsd t) xs ≡ table STSD (track xs t)
+unfolding endOf table track
+stsd-end t xs = refl
+
+pub by-stsd : (t n keep : ℕ) (new xs : List ℕ) → recordAt (In t n) keep new xs ≡ editWay (toStsd t) (editWay (toEntry n) (tailBy keep new)) xs
+unfolding editWay
+by-stsd t n keep new xs = refl
+
 pub tail-bytes : (keep : ℕ) (new : List ℕ) → Bytes new → (b : List ℕ) → Bytes b → Bytes (tailBy keep new b)
 tail-bytes keep new w b v = bytes-append (take keep b) new (bytes-take keep b v) w
 
@@ -49,14 +59,10 @@ module _ (t n keep : ℕ) (new xs : List ℕ) (w : Bytes new) (v : Bytes xs) whe
   pub entry-bytes : (b : List ℕ) → Bytes b → Bytes (entryBy b)
   entry-bytes = way-bytes (tailBy keep new) (tail-bytes keep new w) (toEntry n)
 
-  by-stsd : recordAt (In t n) keep new xs ≡ editWay (toStsd t) entryBy xs
-  unfolding editWay
-  by-stsd = refl
-
   pub record-bytes : Bytes (recordAt (In t n) keep new xs)
   record-bytes = way-bytes (tailBy keep new) (tail-bytes keep new w) (wayTo t n) xs v
 
   module _ (s : length (recordAt (In t n) keep new xs) < 4294967296) where
     -- every opaque box but one `stsd` is as it was
     pub record-kin : Kin (Once STBL STSD (endOf (toStsd t) xs) (entryBy (endOf (toStsd t) xs))) DEPTH FILE xs (recordAt (In t n) keep new xs)
-    record-kin = rw by-stsd (kin-way entryBy entry-bytes (down-stsd t) xs v (rw by-stsd at s))
+    record-kin = let q = by-stsd t n keep new xs in rw q (kin-way entryBy entry-bytes (down-stsd t) xs v (rw q at s))

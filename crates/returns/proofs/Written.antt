@@ -7,6 +7,7 @@ use lib.ListN.{length, take, drop, length-drop, take-append-drop}
 use lib.Seq.{take-add}
 use Rattle.wire.specs.Codes.{STSD}
 use Rattle.wire.specs.Numbers.{Bytes, bytes, word}
+use Rattle.wire.proofs.Lists.{nil-is}
 use Rattle.wire.proofs.Numbers.{bytes-drop, bytes-word}
 use Rattle.wire.proofs.Lists.{nil-is}
 use Rattle.boxes.specs.Box.{Box, size, header, write}

@@ -33,6 +33,14 @@ module _ (xs out : List ℕ) where
   unfolding outBy
   out-wrote a e w = rw (← e) (w .is ∙ ap (λ (m : ℕ). xs ++ drop m out) (w .size))
 
+-- ---- an answer, and what it leaves of what was lent
+
+abbrev pub Left : Answer → Answer → List ℕ → List ℕ → List ℕ → Type 0
+Left r a xs out after = (r ≡ a) × (after ≡ outBy r xs out)
+
+pub answered : (xs out : List ℕ) {r a : Answer} {after : List ℕ} → r ≡ a → after ≡ outBy r xs out → (r ≡ a) × (after ≡ outBy a xs out)
+answered xs out e q = (e, q ∙ ap (λ (b : Answer). outBy b xs out) e)
+
 -- ---- a call that is done
 
 pub refused-not : (k p n : ℕ) → Refused k p ≡ Done n → ⊥

@@ -1,7 +1,6 @@
 use borrow.Author.Needs.{needs}
 use Rattle.judge.proofs.Calls.{when-accepted, when-refused, met}
-use Rattle.replace.proofs.Answering.{answered}
-use Rattle.verdict.proofs.Answers.{out-kept}
+use Rattle.verdict.proofs.Answers.{out-kept, answered}
 use mathlib.Core.Path.{refl}
 use Rattle.replace.specs.Replace.{replaceAnswer}
 use Rattle.replace.proofs.replace.Statement.{statement}

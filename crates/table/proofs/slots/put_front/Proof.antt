@@ -4,6 +4,7 @@ use Rattle.wire.proofs.Writing.{pen-then, pen-is}
 use native.Mathlib.Omega.{arith}
 use Rattle.table.proofs.slots.put_front.Statement.{statement}
 use Rattle.table.proofs.slots.put_front.Tie as tie
+use Rattle.sheet.proofs.Writing.{start-is}
 
 pub put-front-spec : {M : Type 1} → statement M
 put-front-spec = tie.close (tie.spec

@@ -11,7 +11,8 @@ use Rattle.wire.proofs.Tests.{eq-any}
 use Rattle.boxes.specs.Box.{Box}
 use Rattle.boxes.proofs.Reading.{All}
 use Rattle.boxes.proofs.Reading.All.{none, some}
+use Rattle.boxes.proofs.Every.{all-append}
 use Rattle.moving.specs.Moving.{just, others, moovSecond}
 
 all-just : (l : List Box) → All (λ x. x .code ≡ MOOV) (just MOOV l)
 unfolding just ifEq
@@ -48,10 +49,6 @@ module _ {X : Type 0} (F : List Box → X) (under : (y : Box) (l m : List Box) �
 -- ---- a property of every box
 
 module _ {P : Box → Type 0} where
-  all-append : {l m : List Box} → All P l → All P m → All P (l ++ m)
-  all-append none b = b
-  all-append (some h a) b = some h (all-append a b)
-
   each-just : (c : ℕ) {l : List Box} → All P l → All P (just c l)
   unfolding just
   each-just c none = none
