@@ -2,6 +2,7 @@ pub mod Whole
 pub mod Reading
 pub mod Walking
 pub mod Seeking
+pub mod Each
 pub mod Wording
 pub mod Rewriting
 pub mod Editing

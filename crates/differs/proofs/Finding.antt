@@ -6,12 +6,12 @@ use mathlib.Core.List.{List, [], _∷_}
 use lib.ListN.{length}
 use Rattle.wire.specs.Tests.{ifEq}
 use Rattle.wire.specs.Numbers.{Bytes}
+use Rattle.wire.proofs.Tests.{code-or}
 use Rattle.boxes.specs.Box.{Box, remade}
 use Rattle.boxes.specs.Boxes.{boxes}
 use Rattle.boxes.specs.Seek.{meant, count, nth}
 use Rattle.boxes.specs.Way.{nthBy, overNth}
 use Rattle.boxes.proofs.Seeking.{meant-most}
-use Rattle.settle.proofs.One.{code-or}
 use Rattle.replace.proofs.Nth.{boxes-nth}
 
 -- ---- of a list of boxes, by whether its first is meant

@@ -6,6 +6,7 @@ use mathlib.Core.List.{List}
 use lib.ListN.{length}
 use Rattle.wire.specs.Codes.{STBL}
 use Rattle.wire.specs.Numbers.{Bytes}
+use Rattle.wire.proofs.Tests.{code-or}
 use Rattle.boxes.specs.Box.{write}
 use Rattle.boxes.specs.Boxes.{boxes}
 use Rattle.boxes.specs.Containers.{FILE, DEPTH}
@@ -17,7 +18,6 @@ use Rattle.media.specs.Relocate.{relocate}
 use Rattle.judge.specs.Acceptance.{Meets}
 use Rattle.settle.specs.Settle.{offsets, settled}
 use Rattle.settle.proofs.Accepted.{file-tiled}
-use Rattle.settle.proofs.One.{code-or}
 use Rattle.settle.proofs.Settled.{settled-length}
 use Rattle.moving.specs.Moving.{moovSecond, moveOf}
 use Rattle.keeping.proofs.Arranging.{arranged-boxes, arranged-bytes, arranged-length}

@@ -8,6 +8,7 @@ use lib.IntN.{ℤ}
 use lib.ListN.{length}
 use Rattle.wire.specs.Codes.{MOOV, MVHD, TRAK, TKHD, MDIA, MDHD}
 use Rattle.wire.specs.Numbers.{Bytes}
+use Rattle.wire.proofs.Tests.{code-or}
 use Rattle.boxes.specs.Containers.{FILE, DEPTH}
 use Rattle.boxes.specs.Words.{moved, rewordLeaf}
 use Rattle.boxes.specs.Kin.{Kin}
@@ -15,7 +16,6 @@ use Rattle.boxes.proofs.Kin.{Then, Made, kin-edit, kin-then}
 use Rattle.boxes.proofs.Wording.{leaf-hit, leaf-code, leaf-kind}
 use Rattle.clocks.specs.Clocks.{zoneOf}
 use Rattle.judge.specs.Acceptance.{Meets}
-use Rattle.settle.proofs.One.{code-or}
 use Rattle.shift.specs.Shift.{times, timesBy, allTimesBy, shiftOf}
 use Rattle.shift.specs.Amount.{byZone, zoneText}
 use Rattle.shift.proofs.Passing.{times-length, times-bytes}

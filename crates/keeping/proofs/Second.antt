@@ -2,10 +2,9 @@
 use Prim.Native.Nat.{ℕ}
 use native.Mathlib.Omega.{arith}
 use mathlib.Core.Path.{_≡_, refl}
-use mathlib.Core.Bool.{Bool, true, false}
 use mathlib.Core.List.{List, [], _∷_}
 use lib.ListN.{length}
-use Rattle.wire.specs.Tests.{pick, ifEq}
+use Rattle.wire.specs.Tests.{ifEq}
 use Rattle.wire.specs.Codes.{MOOV, MDAT}
 use Rattle.boxes.specs.Box.{Box, write}
 use Rattle.boxes.specs.Seek.{count, nth, find}
@@ -13,7 +12,6 @@ use Rattle.boxes.proofs.Reading.{length-cons}
 use Rattle.boxes.proofs.Seeking.{meant-no}
 use Rattle.media.specs.Payloads.{mdats}
 use Rattle.media.proofs.Payloads.{mdat-or, mdats-hit, mdats-miss}
-use Rattle.verdict.specs.Rule.{allList}
 use Rattle.shape.specs.Shape.{first}
 use Rattle.moving.specs.Moving.{moovSecond}
 use Rattle.keeping.proofs.Arranges.{Arranges}
@@ -21,15 +19,6 @@ use Rattle.keeping.proofs.Sifting.{seconded, each-second}
 use Rattle.keeping.proofs.Mapping.{second-maps}
 
 -- ---- what the rules read
-
-pick-swap : (s t r : Bool) → pick s (pick t r false) false ≡ pick t (pick s r false) false
-pick-swap true t r = refl
-pick-swap false true r = refl
-pick-swap false false r = refl
-
-second-all : (f : Box → Bool) (t : Bool) (l : List Box) → allList f t (moovSecond l) ≡ allList f t l
-unfolding allList
-second-all f t = seconded (allList f t) (λ y l m e. rw e) (λ x y l h n. pick-swap (f x) (f y) (allList f t l))
 
 second-counts : (c : ℕ) (l : List Box) → count c (moovSecond l) ≡ count c l
 unfolding count
@@ -61,4 +50,4 @@ second-first (x ∷ l) = refl
 
 -- the order of a move
 pub second : Arranges moovSecond
-second = record { each = each-second; size = second-size; payloads = second-payloads; counts = second-counts; first = second-first; movie = second-movie; all = second-all; maps = second-maps }
+second = record { each = each-second; size = second-size; payloads = second-payloads; counts = second-counts; first = second-first; movie = second-movie; maps = second-maps }

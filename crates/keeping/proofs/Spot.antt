@@ -6,7 +6,7 @@ use mathlib.Core.List.{List, [], _∷_}
 use lib.ListN.{drop}
 use Rattle.wire.specs.Codes.{MOOV, TRAK, STSD}
 use Rattle.wire.specs.Tests.{ifEq}
-use Rattle.wire.proofs.Tests.{lt-yea, lt-nay}
+use Rattle.wire.proofs.Tests.{lt-yea, lt-nay, code-or}
 use Rattle.boxes.specs.Box.{Box, size}
 use Rattle.boxes.specs.Boxes.{boxes}
 use Rattle.boxes.specs.Seek.{meant, nth, startIn}
@@ -17,7 +17,6 @@ use Rattle.movie.specs.Movie.{movie, track, table}
 use Rattle.movie.specs.Entries.{FRONT, entriesStart, entriesOf, entriesAfter, entries}
 use Rattle.movie.specs.Named.{listIn, held, spotIn, bytesAt}
 use Rattle.movie.proofs.Counting.{length-of}
-use Rattle.settle.proofs.One.{code-or}
 use Rattle.keeping.proofs.Split.{Split, split-from, bytes-past, held-hit, after-hit, held-miss, after-miss}
 
 -- after t tracks: of track m from there on, box n of its `stsd` is entry i

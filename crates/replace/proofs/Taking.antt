@@ -11,7 +11,7 @@ use Rattle.wire.specs.Clauses.{oneIf}
 use Rattle.wire.specs.Numbers.{word}
 use Rattle.wire.proofs.Clauses.{is-eq, not-eq, is-lt, not-lt, fails, holds, done, yea, nay}
 use Rattle.wire.proofs.Numbers.{word-out}
-use Rattle.wire.proofs.Tests.{eq-yea, eq-nay, lt-yea, lt-nay}
+use Rattle.wire.proofs.Tests.{eq-yea, eq-nay, lt-yea, lt-nay, code-or}
 use Rattle.heads.specs.Kinds.{kindOf}
 use Rattle.heads.proofs.Meeting.{eq-ways, eq-met}
 use Rattle.entries.specs.Decoders.{damrRule, d263Rule, recordRule}
@@ -19,7 +19,6 @@ use Rattle.movie.specs.declared.entry.EntryAt.{EntryAt}
 use Rattle.movie.specs.Entries.{entries}
 use Rattle.movie.specs.Named.{EntryIs}
 use Rattle.movie.proofs.Spots.{bytes-at, bytes-none}
-use Rattle.settle.proofs.One.{code-or}
 use Rattle.replace.specs.Replace.{kindAt, recordCode, takes}
 
 -- ---- the kind

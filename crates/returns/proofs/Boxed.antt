@@ -1,16 +1,15 @@
 -- The boxes of `moov`, one by one: a track whose payload is as it should be, or another box. Assumes nothing.
-use Prim.Native.Nat.{ℕ, suc, _+_, _<_}
+use Prim.Native.Nat.{ℕ, suc, _+_}
 use native.Mathlib.Omega.{arith}
 use mathlib.Core.Path.{_≡_, refl, sym}
-use mathlib.Core.Bool.{Bool, true, false}
 use mathlib.Core.List.{List, [], _∷_, _++_}
-use lib.Dec.{eqb}
-use borrow.Author.Tests.{eqb-true, eqb-false}
 use Rattle.wire.specs.Tests.{ifEq}
 use Rattle.wire.specs.Codes.{TRAK}
-use Rattle.wire.proofs.Tests.{eq-yea, eq-nay}
+use Rattle.wire.proofs.Tests.{eq-yea, eq-nay, code-or}
 use Rattle.boxes.specs.Box.{Box, size}
 use Rattle.boxes.specs.Seek.{meant, count, nth, placeBy, startIn}
+use Rattle.boxes.proofs.Reading.{All}
+use Rattle.boxes.proofs.Reading.All.{none as nil, some}
 use Rattle.boxes.proofs.Seeking.{meant-yes, meant-no}
 use Rattle.movie.specs.Entries.{entriesOf, entriesAfter}
 
@@ -73,14 +72,6 @@ pub data Each (P : List ℕ → Type 0) : List Box → Type 0 where
   track : {x : Box} {l : List Box} → x .code ≡ TRAK → P (x .body) → Each P l → Each P (x ∷ l)
   other : {x : Box} {l : List Box} → (x .code ≡ TRAK → ⊥) → Each P l → Each P (x ∷ l)
 
-pub each : (P : List ℕ → Type 0) (l : List Box) → ((n : ℕ) → n < count TRAK l → P (nth TRAK n l)) → Each P l
-each P [] h = none
-each P (x ∷ l) h = go (eqb (x .code) TRAK) refl (λ g. each P l g)
-  where
-    go : (t : Bool) → eqb (x .code) TRAK ≡ t → (((n : ℕ) → n < count TRAK l → P (nth TRAK n l)) → Each P l) → Each P (x ∷ l)
-    go true q ih =
-        let e = eqb-true (x .code) TRAK q in
-        track e (rw (nth-here x l e) at (h 0 (omega (arith, count-hit x l e)))) (ih (λ n k. rw (nth-next x l e n) at (h (suc n) (omega (arith, count-hit x l e)))))
-    go false q ih =
-        let e = eqb-false (x .code) TRAK q in
-        other e (ih (λ n k. rw (nth-miss x l e n) at (h n (omega (arith, count-miss x l e)))))
+pub each : (P : List ℕ → Type 0) {l : List Box} → All (λ x. x .code ≡ TRAK → P (x .body)) l → Each P l
+each P nil = none
+each P (some {x} h a) = code-or (x .code) TRAK (λ e. track e (h e) (each P a)) (λ e. other e (each P a))

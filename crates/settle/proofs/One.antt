@@ -1,24 +1,14 @@
--- What is said of every box of a code, and of the one that there is. Assumes nothing.
+-- The one box of a code. Assumes nothing.
 use Prim.Native.Nat.{ℕ, _+_, _≤_, _<_}
 use native.Mathlib.Omega.{arith}
 use mathlib.Core.Path.{_≡_, refl, sym}
-use mathlib.Core.Bool.{Bool, true, false}
 use mathlib.Core.List.{List, [], _∷_}
-use lib.Dec.{eqb}
-use borrow.Author.Tests.{eqb-true, eqb-false}
-use Rattle.wire.proofs.Tests.{eq-yea, eq-nay}
+use Rattle.wire.proofs.Tests.{eq-yea, eq-nay, code-or}
 use Rattle.boxes.specs.Box.{Box}
 use Rattle.boxes.specs.Seek.{ANY, count, nth, find}
 use Rattle.boxes.proofs.Seeking.{meant-yes, meant-no}
 use Rattle.boxes.proofs.Reading.{All}
 use Rattle.boxes.proofs.Reading.All.{none, some}
-
-pub code-or : {A : Type 0} (m n : ℕ) → (m ≡ n → A) → ((m ≡ n → ⊥) → A) → A
-code-or {A} m n f g = go (eqb m n) refl
-  where
-    go : (t : Bool) → eqb m n ≡ t → A
-    go true e = f (eqb-true m n e)
-    go false e = g (eqb-false m n e)
 
 module _ (c : ℕ) (z : c ≡ ANY → ⊥) where
   module _ (x : Box) (l : List Box) (e : x .code ≡ c) where
@@ -39,17 +29,8 @@ module _ (c : ℕ) (z : c ≡ ANY → ⊥) where
     unfolding count
     count-miss = rw (← meant-no c (x .code) z e) (omega arith)
 
+  -- what holds of the first holds of every, where there is one at most
   module _ (P : List ℕ → Type 0) where
-    -- what holds of every box of a code holds of the first
-    pub each-found : {l : List Box} → All (λ x. x .code ≡ c → P (x .body)) l → 0 < count c l → P (find c l)
-    unfolding count
-    each-found none h = absurd (omega arith)
-    each-found (some {x} {l} p a) h =
-        code-or (x .code) c
-        (λ e. rw (find-hit x l e) (p e))
-        (λ e. rw (find-miss x l e) (each-found a (rw (count-miss x l e) at h)))
-
-    -- and what holds of the first holds of every, where there is one at most
     pub found-each : (l : List Box) → (0 < count c l → P (find c l)) → count c l ≤ 1 → All (λ x. x .code ≡ c → P (x .body)) l
     found-each [] p h = none
     found-each (x ∷ l) p h =
