@@ -10,6 +10,25 @@ use Rattle.boxes.proofs.Reading.All.{none, some}
 use Rattle.boxes.proofs.Meaning.{meant-yes, meant-is, meant-or, nth-hit, nth-next, nth-miss}
 use Rattle.boxes.proofs.Numbered.{by-number}
 
+-- ---- from one claim to another
+
+pub all-map : {P Q : Box → Type 0} → ((x : Box) → P x → Q x) → {l : List Box} → All P l → All Q l
+all-map h none = none
+all-map h (some {x} p a) = some (h x p) (all-map h a)
+
+pub all-with : {P Q R : Box → Type 0} → ((x : Box) → P x → Q x → R x) → {l : List Box} → All P l → All Q l → All R l
+all-with h none none = none
+all-with h (some {x} p a) (some q b) = some (h x p q) (all-with h a b)
+
+pub all-four : {P Q R S T : Box → Type 0} → ((x : Box) → P x → Q x → R x → S x → T x) → {l : List Box} → All P l → All Q l → All R l → All S l → All T l
+all-four h none none none none = none
+all-four h (some {x} p a) (some q b) (some r c) (some s d) = some (h x p q r s) (all-four h a b c d)
+
+-- from one list to a related one
+pub all-along : {R : Box → Box → Type 0} {P Q : Box → Type 0} → ((x y : Box) → R x y → P x → Q y) → {l m : List Box} → All2 R l m → All P l → All Q m
+all-along h nil none = none
+all-along h (cons {x} {y} r a) (some p b) = some (h x y r p) (all-along h a b)
+
 -- ---- parts of a list
 
 module _ {P : Box → Type 0} where

@@ -1,7 +1,7 @@
 -- Rewriting the bodies of boxes. Sizes follow, and what stands past the last whole box stays.
 use Prim.Native.Nat.{ℕ, zero, suc, _+_, _≤_}
 use mathlib.Core.Path.{_≡_}
-use mathlib.Core.List.{List, [], _∷_, _++_, map}
+use mathlib.Core.List.{List, _++_, map}
 use lib.ListN.{length, take, drop}
 use Rattle.wire.specs.Tests.{ifEq}
 use Rattle.boxes.specs.declared.walk.BoxAt.{BoxAt}

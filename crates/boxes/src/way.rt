@@ -6,11 +6,10 @@ use crate::walk::BoxAt;
 use wire::number;
 use wire::pen;
 ghost use mathlib.Core.Path.{_≡_};
-ghost use mathlib.Core.List.{_++_};
 ghost use Prim.Native.Nat.{_+_, _-_, _^_, _≤_, _<_};
 ghost use lib.ListN.{length, drop};
 ghost use Rattle.wire.specs.Writing.{Put};
-ghost use Rattle.boxes.specs.Walk.{payload, boxAt};
+ghost use Rattle.boxes.specs.Walk.{payload};
 ghost use Rattle.boxes.specs.Way.{Under, boxBy, around, tailBy, overNth, editWay};
 
 // One turn: past the first `skip` bytes, into the n-th box of a code.

@@ -1,19 +1,17 @@
 -- Sums of natural numbers say what 01 says over the whole numbers. Assumes nothing.
-use Prim.Native.Nat.{ℕ, zero, suc, _+_, _-_, _*_, _≤_, _<_}
-use mathlib.Core.Path.{_≡_, refl, ap, sym, _∙_}
+use Prim.Native.Nat.{ℕ, zero, suc, _+_, _-_, _*_, _<_}
+use mathlib.Core.Path.{_≡_, refl, sym, _∙_}
 use mathlib.Core.Bool.{Bool, true, false, cond}
 use mathlib.Core.List.{[], _∷_}
 use native.Mathlib.Omega.{arith}
 use native.Mathlib.Nat.{add-zero, sub-zero}
 use lib.Dec.{ltb}
-use lib.IntN.{ℤ, pos, negsuc, subℕ, _-ℤ_, _*ℤ_, negℤ-negℤ}
-use borrow.Author.Tests.{ltb-true, ltb-false, le-ltb, lt-ltb}
+use lib.IntN.{ℤ, pos, negsuc, subℕ, _-ℤ_, negℤ-negℤ}
+use borrow.Author.Tests.{ltb-true, ltb-false, le-ltb}
 use Rattle.wire.specs.Clauses.{isLe, isLt, every}
 use Rattle.wire.specs.Tests.{pick, ifEq}
 use Rattle.wire.proofs.Tests.{lt-yea, lt-nay, eq-yea, eq-nay, lt-or}
 use Rattle.wire.proofs.Clauses.{is-le, not-le, is-lt, not-lt}
-use Rattle.clocks.specs.declared.Zone.{Zone}
-use Rattle.clocks.specs.declared.Order.{Order}
 use Rattle.clocks.specs.declared.Order.the-variants.{Earlier, Same, Later}
 use Rattle.clocks.specs.Clocks.{less, isTime, stored, shiftTime, mayShift, inOrder, order, zoneOf}
 use Rattle.clocks.specs.Zones.{leaves, compared}

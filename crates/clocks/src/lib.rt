@@ -1,6 +1,6 @@
 // Clocks: times of 1904, and a zone's minutes, which may be negative.
 ghost use mathlib.Core.Path.{_≡_};
-ghost use Prim.Native.Nat.{_+_, _^_, _≤_, _<_};
+ghost use Prim.Native.Nat.{_+_, _^_, _<_};
 ghost use Rattle.wire.specs.Clauses.{oneIf};
 ghost use Rattle.clocks.specs.Clocks.{zonedOf};
 ghost use Rattle.clocks.specs.Zones.{Near, leaves as leavesOf, compared};

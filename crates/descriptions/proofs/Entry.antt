@@ -2,8 +2,7 @@
 use Prim.Native.Nat.{ℕ, _+_, _-_, _≤_, _<_}
 use native.Mathlib.Omega.{arith}
 use mathlib.Core.Path.{_≡_, refl, sym, ap, _∙_}
-use mathlib.Core.Bool.{Bool, true, false}
-use mathlib.Core.List.{List, [], _∷_, _++_, append-assoc}
+use mathlib.Core.List.{List, [], _++_, append-assoc}
 use lib.ListN.{length, take, drop, length-append, drop-of-length-le}
 use lib.Seq.{take-at}
 use borrow.Rule.Slice.PartMut.{midOf}
@@ -30,7 +29,7 @@ use Rattle.verdict.specs.Verdict.{sooner, unless}
 use Rattle.verdict.specs.Judge.{judgeList}
 use Rattle.verdict.proofs.Places.{sooner-none, unless-yea, unless-nay}
 use Rattle.verdict.proofs.Traverse.{Found, found-none, found-more, found-over}
-use Rattle.descriptions.specs.Ten.{dref, stsd, aroundIn, stsdStart, meets, bytesOf, entryFine, entriesFrom, tenAt}
+use Rattle.descriptions.specs.Ten.{stsd, aroundIn, stsdStart, meets, bytesOf, entryFine, entriesFrom, tenAt}
 
 -- ---- one entry
 

@@ -11,7 +11,7 @@ use Rattle.boxes.specs.Seek.{nth, find}
 use Rattle.boxes.specs.Kin.{Leaf, Kin}
 use Rattle.boxes.proofs.Kin.{kin-refl, kin-find, kin-child}
 use Rattle.movie.specs.Movie.{track, table}
-use Rattle.keeping.proofs.Tracking.{in-track}
+use Rattle.keeping.proofs.Tracking.{kin-track}
 use Rattle.differs.specs.Differs.{TRACK, OnlyOffsets}
 use Rattle.differs.proofs.Bodies.{but-refl}
 
@@ -32,6 +32,5 @@ offsets-refl k c b = record { offsets = λ o. but-refl 8 _ b; rest = λ n. refl 
 pub same-stsd : (xs ys : List ℕ) → Kin OnlyOffsets DEPTH FILE xs ys → (t : ℕ) → table STSD (track xs t) ≡ table STSD (track ys t)
 unfolding table kindIn parent ifEq
 same-stsd xs ys a t =
-    in-track (Kin OnlyOffsets) (λ b b′. find STSD (boxes b) ≡ find STSD (boxes b′)) refl
-    (λ b b′ r. kin-find OnlyOffsets 0 STBL b b′ r STSD (λ z. omega arith) (λ u v. u ≡ v) refl refl (λ u v q. q .rest (λ o. omega (arith, o .1))) 0)
-    (λ d k c P z o empty h b b′ r n. kin-child OnlyOffsets d k b b′ r c z P empty o h n) xs ys a t
+    kin-track OnlyOffsets (λ b b′. find STSD (boxes b) ≡ find STSD (boxes b′)) refl
+    (λ b b′ r. kin-find OnlyOffsets 0 STBL b b′ r STSD (λ z. omega arith) (λ u v. u ≡ v) refl refl (λ u v q. q .rest (λ o. omega (arith, o .1))) 0) xs ys a t

@@ -1,7 +1,6 @@
 -- Refusal 23, as code asks. Assumes nothing.
 use Prim.Native.Nat.{ℕ}
 use mathlib.Core.Path.{_≡_, sym, ap, _∙_}
-use mathlib.Core.Bool.{true, false}
 use mathlib.Core.List.{List}
 use Rattle.wire.specs.Clauses.{oneIf}
 use Rattle.wire.proofs.Clauses.{yea, nay}

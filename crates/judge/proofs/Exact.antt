@@ -1,7 +1,7 @@
 -- A file is accepted exactly when it meets the rules. Assumes nothing.
-use Prim.Native.Nat.{ℕ, zero, suc, _+_, _≤_, _<_}
+use Prim.Native.Nat.{ℕ, suc, _+_, _≤_}
 use native.Mathlib.Omega.{arith}
-use mathlib.Core.Path.{_≡_, refl, sym, ap, _∙_}
+use mathlib.Core.Path.{_≡_, refl, sym}
 use mathlib.Core.Bool.{Bool, true, false}
 use mathlib.Core.List.{List}
 use lib.Dec.{ltb}
@@ -13,8 +13,7 @@ use Rattle.boxes.specs.Boxes.{boxes}
 use Rattle.boxes.specs.Containers.{FILE, DEPTH, LONGEST}
 use Rattle.verdict.specs.declared.Verdict.{Verdict}
 use Rattle.verdict.specs.declared.Verdict.the-variants.{Fine, Bad}
-use Rattle.verdict.specs.Judge.{Judge, judgeIn}
-use Rattle.verdict.specs.Rule.{Rule, allIn, Says}
+use Rattle.verdict.specs.Rule.{Rule, Says}
 use Rattle.verdict.proofs.Acceptance.{fine-all, all-fine}
 use Rattle.shape.specs.Rules.{twoRule, threeRule}
 use Rattle.headers.specs.Four.{fourRule}

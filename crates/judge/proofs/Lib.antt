@@ -4,3 +4,4 @@ pub mod Says
 pub mod Exact
 pub mod Calls
 pub mod Editable
+pub mod Tables

@@ -1,17 +1,14 @@
 -- An order of the file's boxes that no rule sees.
 use Prim.Native.Nat.{ℕ}
 use mathlib.Core.Path.{_≡_, refl}
-use mathlib.Core.Bool.{Bool}
 use mathlib.Core.List.{List, map}
 use lib.ListN.{length}
 use Rattle.wire.specs.Codes.{MOOV}
 use Rattle.boxes.specs.Box.{Box, write}
-use Rattle.boxes.specs.Boxes.{boxes}
 use Rattle.boxes.specs.Seek.{count, find}
 use Rattle.boxes.specs.Rewrite.{Bodies, over}
 use Rattle.boxes.proofs.Reading.{All}
 use Rattle.media.specs.Payloads.{mdats}
-use Rattle.verdict.specs.Rule.{allList}
 use Rattle.shape.specs.Shape.{first}
 
 -- the same boxes, each with its bytes; what the rules read of the list stays, and bodies are not looked at
@@ -22,7 +19,6 @@ pub record Arranges (A : List Box → List Box) : Type 1 where
   pub counts : (c : ℕ) (l : List Box) → count c (A l) ≡ count c l
   pub first : (l : List Box) → first (A l) ≡ first l
   pub movie : (l : List Box) → find MOOV (A l) ≡ find MOOV l
-  pub all : (f : Box → Bool) (t : Bool) (l : List Box) → allList f t (A l) ≡ allList f t l
   pub maps : (f : Bodies) (l : List Box) → A (map (over f) l) ≡ map (over f) (A l)
 
 -- the order stays
@@ -35,6 +31,5 @@ stay =
       counts = λ c l. refl;
       first = λ l. refl;
       movie = λ l. refl;
-      all = λ f t l. refl;
       maps = λ f l. refl;
     }

@@ -6,7 +6,6 @@ use mathlib.Core.Bool.{true}
 use mathlib.Core.List.{List, [], map, append-nil}
 use lib.ListN.{length}
 use Rattle.wire.specs.Numbers.{Bytes}
-use Rattle.wire.proofs.Tests.{both}
 use Rattle.boxes.specs.Box.{Box, write}
 use Rattle.boxes.specs.Boxes.{boxes, after}
 use Rattle.boxes.specs.Rewrite.{Bodies, Leaves, over, editBox, editIn}
@@ -19,6 +18,7 @@ use Rattle.boxes.proofs.Editing.{box-length}
 use Rattle.media.specs.Relocate.{Alike}
 use Rattle.media.proofs.Staying.{alike-over}
 use Rattle.verdict.specs.Rule.{Rule, allIn}
+use Rattle.verdict.proofs.Opened.{opened, closed}
 use Rattle.keeping.proofs.Arranges.{Arranges}
 
 -- ---- a file that boxes tile, in the order A
@@ -51,10 +51,9 @@ module _ {A : List Box → List Box} (a : Arranges A) (ys : List ℕ) (w : Bytes
 
   -- a rule that is kept of the file itself is kept of all
   pub arranged-rule : (r : Rule) (d k : ℕ) → (r .node k ys ≡ true → r .node k (write (A (boxes ys))) ≡ true) → allIn r (suc d) k ys ≡ true → allIn r (suc d) k (write (A (boxes ys))) ≡ true
-  unfolding allIn
   arranged-rule r d k h q =
-      let u = both (r .node k ys) _ q in
-      rw (h (u .0), arranged-boxes, arranged-after, a .all) (rw e at (u .1))
+      let o = opened r d k ys q in
+      closed r d k arrange (record { node = h (o .node); leaves = rw arranged-boxes (a .each (o .leaves)); inside = rw arranged-boxes (a .each (o .inside)); end = rw arranged-after (rw e at (o .end)) })
 
   -- ---- opaque boxes by g, before or after
 

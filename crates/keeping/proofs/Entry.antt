@@ -11,7 +11,6 @@ use Rattle.wire.specs.Numbers.{bytes, word}
 use Rattle.wire.proofs.Lists.{take-past}
 use Rattle.wire.proofs.Numbers.{length-bytes, word-bytes, word-right}
 use Rattle.wire.proofs.Clauses.{is-eq, eq-is}
-use Rattle.wire.proofs.Tests.{eq-ways, eq-met}
 use Rattle.boxes.specs.Box.{Box, size, header, remade}
 use Rattle.boxes.specs.Boxes.{HEAD}
 use Rattle.boxes.specs.Way.{tailBy}

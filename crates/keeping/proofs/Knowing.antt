@@ -2,12 +2,11 @@
 use Prim.Native.Nat.{ℕ, zero, suc, _≤_}
 use native.Mathlib.Omega.{arith}
 use mathlib.Core.Path.{_≡_, refl}
-use mathlib.Core.Bool.{Bool, true}
+use mathlib.Core.Bool.{true}
 use mathlib.Core.List.{List, [], _∷_}
 use lib.ListN.{length}
 use Rattle.wire.specs.Clauses.{isLe}
 use Rattle.wire.proofs.Clauses.{is-le}
-use Rattle.wire.proofs.Tests.{eq-any}
 use Rattle.boxes.specs.Box.{Box, write}
 use Rattle.boxes.specs.Boxes.{boxes}
 use Rattle.boxes.specs.Containers.{kindIn}
@@ -16,8 +15,9 @@ use Rattle.boxes.specs.Kin.All2.{nil, cons}
 use Rattle.boxes.proofs.Reading.{lengths, length-cons}
 use Rattle.boxes.proofs.Reading.{All}
 use Rattle.boxes.proofs.Reading.All.{none, some}
-use Rattle.settle.proofs.Each.{rule-leaves, rule-inside}
-use Rattle.verdict.specs.Rule.{Rule, allList, allBox, allIn}
+use Rattle.boxes.proofs.Every.{all-map}
+use Rattle.verdict.specs.Rule.{Rule, allIn}
+use Rattle.verdict.proofs.Opened.{opened, closed}
 
 -- ---- with the rule known of every opaque box of the first file
 
@@ -33,13 +33,13 @@ module _ (r : Rule) (G : Leaf) where
   -- an edit of a file of which a rule holds
   pub kin-with : (d k : ℕ) (xs ys : List ℕ) → Kin G d k xs ys → allIn r d k xs ≡ true → Kin (With r G) d k xs ys
   kin-with zero k xs ys e q = e
-  kin-with (suc d) k xs ys (a, e) q = (
+  kin-with (suc d) k xs ys (a, e) q = let o = opened r d k xs q in (
     list-with (λ x y s f g. record {
       head = s .head;
       code = s .code;
       leaf = λ z. (s .leaf z, f z);
       node = λ z. kin-with d (kindIn k (x .code)) (x .body) (y .body) (s .node z) (g z);
-    }) a (rule-leaves r d k xs q) (rule-inside r d k xs q),
+    }) a (o .leaves) (o .inside),
     e,
   )
 
@@ -50,17 +50,14 @@ abbrev pub short : ℕ → Rule
 short n = record { leaf = λ k c b. isLe (length b) n; node = λ k xs. true; end = λ xs. true }
 
 module _ (n : ℕ) where
-  short-list : (f : Box → Bool) → ((x : Box) → length (x .body) ≤ n → f x ≡ true) → (l : List Box) → length (write l) ≤ n → allList f true l ≡ true
-  unfolding allList
-  short-list f h [] k = refl
-  short-list f h (x ∷ l) k = let e = length-cons x l in rw (h x (omega arith)) (short-list f h l (omega arith))
-
-  short-box : (d k : ℕ) → ((j : ℕ) (ys : List ℕ) → length ys ≤ n → allIn (short n) d j ys ≡ true) → (x : Box) → length (x .body) ≤ n → allBox (short n) (allIn (short n) d) k x ≡ true
-  unfolding allBox
-  short-box d k ih x h = eq-any (λ t. t ≡ true) _ _ _ _ (is-le _ _ h) (ih (kindIn k (x .code)) (x .body) h)
+  each-short : (l : List Box) → length (write l) ≤ n → All (λ x. length (x .body) ≤ n) l
+  each-short [] k = none
+  each-short (x ∷ l) k = let e = length-cons x l in some {x = x} (omega arith) (each-short l (omega arith))
 
   -- it holds of a file of n bytes at most
   pub short-all : (d k : ℕ) (xs : List ℕ) → length xs ≤ n → allIn (short n) d k xs ≡ true
   unfolding allIn
   short-all zero k xs h = refl
-  short-all (suc d) k xs h = short-list _ (short-box d k (λ j ys. short-all d j ys)) (boxes xs) (omega (arith, lengths xs))
+  short-all (suc d) k xs h =
+      let a = each-short (boxes xs) (omega (arith, lengths xs)) in
+      closed (short n) d k xs (record { node = refl; leaves = all-map (λ x p z. is-le _ _ p) a; inside = all-map (λ x p z. short-all d (kindIn k (x .code)) (x .body) p) a; end = refl })

@@ -25,7 +25,7 @@ use Rattle.keeping.specs.Samples.{samples}
 use Rattle.keeping.proofs.Content.{Content}
 use Rattle.keeping.proofs.Arranges.{Arranges}
 use Rattle.keeping.proofs.Arranging.{arranged-after, arranged-bytes}
-use Rattle.keeping.proofs.Tracking.{in-track}
+use Rattle.keeping.proofs.Tracking.{kin-track}
 use Rattle.keeping.proofs.Tables.{track-eight}
 use Rattle.keeping.proofs.Settling.{xs-tiled, new, new-bytes, new-tiled, new-small, Edit, edit-kin, edit-sound}
 use Rattle.keeping.proofs.Following.{in-order, edit-moved, same-payloads}
@@ -79,4 +79,4 @@ module _ {A : List Box → List Box} (a : Arranges A) (xs ys : List ℕ) (w : By
   pub edit-samples : (t : ℕ) → samples result t ≡ samples xs t
   unfolding samples table
   edit-samples t =
-      rw (same-track t) (sym (in-track (Kin (Edit a xs ys w m c)) Same same-none same-stbl (λ d k e P z o empty h b b′ r n. kin-child (Edit a xs ys w m c) d k b b′ r e z P empty o h n) xs mid (edit-kin a xs ys w m c) t (track-eight xs m t)))
+      rw (same-track t) (sym (kin-track (Edit a xs ys w m c) Same same-none same-stbl xs mid (edit-kin a xs ys w m c) t (track-eight xs m t)))

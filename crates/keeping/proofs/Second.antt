@@ -2,16 +2,14 @@
 use Prim.Native.Nat.{ℕ}
 use native.Mathlib.Omega.{arith}
 use mathlib.Core.Path.{_≡_, refl}
-use mathlib.Core.Bool.{Bool, true, false}
 use mathlib.Core.List.{List, [], _∷_}
-use Rattle.wire.specs.Tests.{pick, ifEq}
+use Rattle.wire.specs.Tests.{ifEq}
 use Rattle.wire.specs.Codes.{MOOV, MDAT}
 use Rattle.boxes.specs.Box.{Box}
 use Rattle.boxes.specs.Seek.{count, nth, find}
 use Rattle.boxes.proofs.Meaning.{meant-no}
 use Rattle.media.specs.Payloads.{mdats}
 use Rattle.media.proofs.Payloads.{mdat-or, mdats-hit, mdats-miss}
-use Rattle.verdict.specs.Rule.{allList}
 use Rattle.shape.specs.Shape.{first}
 use Rattle.moving.proofs.Order.{second-length}
 use Rattle.moving.specs.Moving.{moovSecond}
@@ -20,15 +18,6 @@ use Rattle.moving.proofs.Sifting.{seconded, each-second}
 use Rattle.moving.proofs.Mapping.{second-maps}
 
 -- ---- what the rules read
-
-pick-swap : (s t r : Bool) → pick s (pick t r false) false ≡ pick t (pick s r false) false
-pick-swap true t r = refl
-pick-swap false true r = refl
-pick-swap false false r = refl
-
-second-all : (f : Box → Bool) (t : Bool) (l : List Box) → allList f t (moovSecond l) ≡ allList f t l
-unfolding allList
-second-all f t = seconded (allList f t) (λ y l m e. rw e) (λ x y l h n. pick-swap (f x) (f y) (allList f t l))
 
 second-counts : (c : ℕ) (l : List Box) → count c (moovSecond l) ≡ count c l
 unfolding count
@@ -55,4 +44,4 @@ second-first (x ∷ l) = refl
 
 -- the order of a move
 pub second : Arranges moovSecond
-second = record { each = each-second; size = second-length; payloads = second-payloads; counts = second-counts; first = second-first; movie = second-movie; all = second-all; maps = second-maps }
+second = record { each = each-second; size = second-length; payloads = second-payloads; counts = second-counts; first = second-first; movie = second-movie; maps = second-maps }

@@ -9,7 +9,6 @@ use Rattle.wire.proofs.Tests.{lt-yea, lt-nay, lt-or}
 use Rattle.boxes.specs.Containers.{LONGEST}
 use Rattle.entries.specs.Entries.{FRAMES}
 use Rattle.entries.specs.Decoders.{recordRule}
-use Rattle.verdict.specs.declared.Answer.{Answer}
 use Rattle.verdict.specs.declared.Answer.the-variants.{Done, Refused}
 use Rattle.verdict.specs.Answers.{inRoom}
 use Rattle.judge.specs.Judgement.{judged}

@@ -2,13 +2,11 @@
 use Prim.Native.Nat.{ℕ, zero, suc}
 use native.Mathlib.Omega.{arith}
 use mathlib.Core.Path.{_≡_, refl, sym, ap, subst, _∙_}
-use mathlib.Core.Bool.{Bool, true, false}
+use mathlib.Core.Bool.{true}
 use mathlib.Core.List.{List, [], _∷_}
-use lib.Dec.{eqb}
-use borrow.Author.Tests.{eqb-true}
-use Rattle.wire.specs.Tests.{pick, ifEq}
+use Rattle.wire.specs.Tests.{ifEq}
 use Rattle.wire.specs.Codes.{MOOV, TRAK, MDIA, MINF, STBL, STSD, DINF, DREF}
-use Rattle.wire.proofs.Tests.{eq-kept}
+use Rattle.wire.proofs.Tests.{eq-kept, eq-same}
 use Rattle.boxes.specs.Box.{Box}
 use Rattle.boxes.specs.Boxes.{boxes}
 use Rattle.boxes.specs.Containers.{parent, kindIn}
@@ -26,12 +24,8 @@ use Rattle.lists.specs.Rules.{fiveRule, nineRule}
 -- ---- the same sample entries
 
 same-box : (c : ℕ) (b b′ : List ℕ) → (c ≡ TRAK → stored (follow toStsd b) ≡ stored (follow toStsd b′)) → entriesOf c b ≡ entriesOf c b′
-unfolding entriesOf ifEq
-same-box c b b′ h = go (eqb c TRAK) refl
-  where
-    go : (e : Bool) → eqb c TRAK ≡ e → pick e (stored (follow toStsd b)) 0 ≡ pick e (stored (follow toStsd b′)) 0
-    go true e = h (eqb-true _ _ e)
-    go false e = refl
+unfolding entriesOf
+same-box c b b′ h = eq-same c TRAK _ _ 0 h
 
 module _ (G : Leaf) (counts : (b b′ : List ℕ) → G STBL STSD b b′ → stored b ≡ stored b′) where
   -- a way ends at kin payloads that store the same count

@@ -14,9 +14,8 @@ ghost use Rattle.boxes.specs.Boxes.{boxes};
 ghost use Rattle.boxes.specs.Seek.{meant};
 ghost use Rattle.wire.specs.Codes.{TRAK};
 ghost use Rattle.boxes.specs.Containers.{LONGEST};
-ghost use Rattle.movie.specs.Movie.{track as trackOf};
 ghost use Rattle.movie.specs.Entries.{entries as entriesIn, entriesStart};
-ghost use Rattle.movie.specs.Named.{listIn, held as heldBy, heldIn, listStart, SpotAs, PlacedAs, NamedAs, spotIn};
+ghost use Rattle.movie.specs.Named.{listIn, held as heldBy, listStart, SpotAs, PlacedAs, NamedAs, spotIn};
 
 // An entry: its track, from 1; its number there, from 0; its place in the file; its length.
 pub struct EntryAt {

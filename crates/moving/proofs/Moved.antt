@@ -25,7 +25,6 @@ use Rattle.media.proofs.Payloads.{mdats-miss}
 use Rattle.media.proofs.Amounts.{Fronts, moved-front}
 use Rattle.judge.specs.Acceptance.{Meets}
 use Rattle.settle.specs.Settle.{offsets}
-use Rattle.settle.proofs.Each.{all-each, each-all}
 use Rattle.settle.proofs.Settled.{settled-list}
 use Rattle.settle.proofs.Accepted.{file-tiled}
 use Rattle.moving.specs.Moving.{moovSecond, moveOf}
@@ -83,4 +82,4 @@ module _ (xs : List ℕ) (v : Bytes xs) (m : Meets xs) {b : BoxAt} (p : Parted x
   unfolding shifted moveOf
   shifted-is =
       ap (editIn (rewordLeaf offsets (moved (up b))) DEPTH FILE) arranged-is
-      ∙ settled-list xs (write (moovSecond (boxes xs))) (moved (up b)) m relocates (λ t q. rw new-boxes (each-all t (each-second (all-each t true (boxes xs) q))))
+      ∙ settled-list xs (write (moovSecond (boxes xs))) (moved (up b)) m relocates (λ P a. rw new-boxes (in-order a))

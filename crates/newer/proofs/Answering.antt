@@ -1,10 +1,9 @@
 -- What the answer says at each step. Assumes nothing.
 use Prim.Native.Nat.{ℕ, _+_}
-use mathlib.Core.Path.{_≡_, refl, sym, ap, _∙_}
-use mathlib.Core.Bool.{Bool, true, false}
+use mathlib.Core.Path.{_≡_, _∙_}
+use mathlib.Core.Bool.{true, false}
 use mathlib.Core.List.{List, [], _∷_}
 use lib.IntN.{ℤ}
-use Rattle.wire.specs.Tests.{pick}
 use Rattle.wire.specs.Clauses.{every}
 use Rattle.wire.proofs.Clauses.{fails, holds, done}
 use Rattle.clocks.specs.declared.Zone.{Zone}

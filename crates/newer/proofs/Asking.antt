@@ -1,20 +1,19 @@
 -- An entry of a file by its number. Assumes nothing.
-use Prim.Native.Nat.{ℕ, zero, suc, _+_, _-_, _≤_}
+use Prim.Native.Nat.{ℕ, zero, suc, _-_, _≤_}
 use native.Mathlib.Omega.{arith}
-use mathlib.Core.Path.{_≡_, refl, sym, ap, _∙_}
+use mathlib.Core.Path.{_≡_, refl, sym, _∙_}
 use mathlib.Core.List.{List, [], _∷_}
 use lib.ListN.{length, take, drop, length-take, length-drop, drop-of-length-le}
 use Rattle.wire.specs.Codes.{MOOV, MVHD}
 use Rattle.wire.specs.Numbers.{word}
 use Rattle.wire.proofs.Tests.{eq-yea, eq-nay}
 use Rattle.boxes.specs.Boxes.{boxes}
-use Rattle.boxes.specs.Seek.{find, byNumber}
+use Rattle.boxes.specs.Seek.{find}
 use Rattle.movie.specs.declared.entry.EntryAt.{EntryAt}
 use Rattle.movie.specs.declared.entry.Named.{Named}
 use Rattle.movie.specs.declared.entry.Named.the-variants.{At, Missing}
 use Rattle.movie.specs.Entries.{Entry, entries}
 use Rattle.movie.specs.Named.{NamedAs, EntryIs}
-use Rattle.newer.specs.declared.Outcome.{Outcome}
 use Rattle.newer.specs.declared.Outcome.the-variants.{Found, Refused}
 use Rattle.newer.specs.Newer.{modified, among, entryIn}
 

@@ -11,7 +11,7 @@ use Rattle.boxes.specs.Containers.{LONGEST}
 use Rattle.verdict.specs.declared.Verdict.{Verdict}
 use Rattle.verdict.specs.declared.Verdict.the-variants.{Fine, Bad}
 use Rattle.judge.specs.declared.Judgement.{Judgement}
-use Rattle.judge.specs.declared.Judgement.the-variants.{Accepted, Refused}
+use Rattle.judge.specs.declared.Judgement.the-variants.{Refused}
 use Rattle.judge.specs.Rules.{verdictOf}
 use Rattle.judge.specs.Judgement.{number, next, judgedFrom, judged}
 

@@ -3,7 +3,6 @@ use Prim.Native.Nat.{ℕ, _+_, _*_, _%_}
 use mathlib.Core.Path.{_≡_, refl, sym, ap, _∙_}
 use mathlib.Core.List.{List, []}
 use lib.ListN.{take, drop}
-use Rattle.wire.specs.Tests.{ifEq}
 use Rattle.wire.proofs.Tests.{eq-yea, eq-nay}
 use Rattle.newer.specs.declared.Part.{Part}
 use Rattle.newer.specs.declared.Outcome.{Outcome}

@@ -1,7 +1,6 @@
 -- "Newer of two: given two accepted files, each with its clock's minutes ahead of universal time, compare mvhd modification
 -- time less 60 times the minutes"
 use Prim.Native.Nat.{ℕ, _+_, _-_, _*_, _%_}
-use mathlib.Core.Bool.{Bool}
 use mathlib.Core.List.{List, [], _∷_}
 use lib.IntN.{ℤ}
 use lib.ListN.{length, take, drop}

@@ -1,7 +1,7 @@
 -- Demand 3, proved. Assumes nothing.
 use Prim.Native.Nat.{ℕ}
 use mathlib.Core.Path.{_≡_, refl, sym, ap, subst, _∙_}
-use mathlib.Core.List.{List, [], _∷_, _++_}
+use mathlib.Core.List.{List, _++_}
 use lib.ListN.{length, take, drop}
 use lib.Seq.{take-append-seam}
 use Rattle.wire.specs.Numbers.{Bytes}
@@ -10,15 +10,14 @@ use Rattle.verdict.specs.declared.Answer.the-variants.{Done, Refused}
 use Rattle.verdict.specs.Answers.{outBy}
 use Rattle.judge.specs.declared.Judgement.the-variants.{Accepted}
 use Rattle.judge.specs.Judgement.{judged}
-use Rattle.judge.specs.Acceptance.{Meets, plain}
+use Rattle.judge.specs.Acceptance.{Meets}
 use Rattle.judge.proofs.Exact.{accepted-meets, meets-accepted}
-use Rattle.movie.specs.Movie.{tracks}
 use Rattle.keeping.specs.Samples.{samples}
 use Rattle.keeping.specs.Kept.{Kept}
 use Rattle.keeping.proofs.Keeping.{kept-refl, kept-then}
 use Rattle.keeping.proofs.Done.{done-move, done-shift, done-replace}
 use Rattle.keeping.proofs.Size.{move-size, shift-size, replace-size}
-use Rattle.promises.specs.Runs.{Edit, shift, replace, move, meaning, answer, left, goOn, next, Lent, run, Given, AllGiven, none, more}
+use Rattle.promises.specs.Runs.{Edit, shift, replace, move, meaning, answer, goOn, next, Lent, run, Given, AllGiven, none, more}
 
 -- an edit that is done keeps the file
 done-keeps : (e : Edit) → Given e → (xs out : List ℕ) {n : ℕ} → Bytes xs → answer e xs out ≡ Done n → Kept xs (meaning e xs)

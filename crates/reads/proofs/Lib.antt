@@ -1,4 +1,3 @@
-pub mod Descent
 pub mod Accepted
 pub mod Reading
 pub mod Answering

@@ -5,7 +5,7 @@ use mathlib.Core.Path.{_≡_, refl, ap, _∙_}
 use mathlib.Core.Bool.{true}
 use mathlib.Core.List.{List, _∷_, _++_}
 use mathlib.Core.Logic.{⊎-elim}
-use lib.ListN.{length, length-append, length-take, length-drop}
+use lib.ListN.{length, length-append}
 use Rattle.wire.specs.Tests.{ifLt}
 use Rattle.wire.specs.Codes.{MOOV, TRAK, MDIA, MINF, STBL, STSD}
 use Rattle.wire.specs.Numbers.{Bytes}

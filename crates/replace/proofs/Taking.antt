@@ -11,9 +11,9 @@ use Rattle.wire.specs.Clauses.{oneIf}
 use Rattle.wire.specs.Numbers.{word}
 use Rattle.wire.proofs.Clauses.{is-eq, not-eq, is-lt, not-lt, fails, holds, done, yea, nay}
 use Rattle.wire.proofs.Numbers.{word-out}
-use Rattle.wire.proofs.Tests.{eq-yea, eq-nay, lt-yea, lt-nay, eq-ways, eq-met, eq-or}
+use Rattle.wire.proofs.Tests.{eq-yea, eq-nay, lt-yea, lt-nay, eq-or}
 use Rattle.heads.specs.Kinds.{kindOf}
-use Rattle.entries.specs.Decoders.{recordRule, damrRule, d263Rule}
+use Rattle.entries.specs.Decoders.{recordRule}
 use Rattle.entries.proofs.Kept.{record-kinds}
 use Rattle.movie.specs.declared.entry.EntryAt.{EntryAt}
 use Rattle.movie.specs.Entries.{entries}

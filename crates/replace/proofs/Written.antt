@@ -17,8 +17,7 @@ use Rattle.boxes.specs.Seek.{find, Cut}
 use Rattle.boxes.specs.Rewrite.{editIn}
 use Rattle.boxes.specs.Words.{moved, rewordLeaf}
 use Rattle.entries.specs.Entries.{FRAMES}
-use Rattle.heads.specs.Kinds.{handlerOf}
-use Rattle.heads.specs.Heads.{AUDIO, VISUAL, COMMON, headSize}
+use Rattle.heads.specs.Heads.{headSize}
 use Rattle.entries.specs.Decoders.{recordRule}
 use Rattle.movie.specs.declared.entry.Spot.{Spot}
 use Rattle.movie.specs.declared.entry.Spot.the-variants.{In, Past}

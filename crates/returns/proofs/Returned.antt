@@ -1,31 +1,30 @@
 -- An accepted file's own sheet has the form, and the tables written from it are the file's. Assumes nothing.
 use Prim.Native.Nat.{ℕ, _+_, _-_, _≤_, _<_}
 use native.Mathlib.Omega.{arith}
-use mathlib.Core.Path.{_≡_, refl}
+use mathlib.Core.Path.{_≡_}
 use mathlib.Core.Bool.{true}
 use mathlib.Core.List.{List, []}
 use mathlib.Core.Logic.{_⊎_, ⊎-elim}
 use lib.ListN.{length, take, drop}
-use Rattle.wire.specs.Tests.{ifEq}
 use Rattle.wire.specs.Codes.{MOOV, TRAK, STSD}
 use Rattle.wire.specs.Numbers.{Bytes}
 use Rattle.boxes.specs.Boxes.{boxes}
-use Rattle.boxes.specs.Containers.{FILE, parent, kindIn}
 use Rattle.boxes.specs.Seek.{find, startIn}
 use Rattle.boxes.proofs.Reading.{parts}
+use Rattle.boxes.proofs.Every.{all-with}
 use Rattle.boxes.proofs.Placing.{total-is}
 use Rattle.boxes.proofs.Lying.{bytes-lies, lies-found}
-use Rattle.shape.specs.Shape.{needed}
-use Rattle.shape.specs.Rules.{threeRule}
-use Rattle.shape.proofs.Shape.{shape-tracks}
+use Rattle.shape.proofs.Descent.{each-track, in-track, tracks-few}
+use Rattle.lists.specs.Rules.{fiveRule}
+use Rattle.descriptions.specs.Ten.{tenRule}
 use Rattle.judge.specs.Acceptance.{Meets}
+use Rattle.judge.proofs.Tables.{file-met}
 use Rattle.movie.specs.Movie.{movie, tracks, track, table}
 use Rattle.movie.specs.Entries.{entriesOf, entries}
 use Rattle.movie.proofs.Naming.{lies-track}
 use Rattle.sheet.specs.Sheet.{SLOTS}
 use Rattle.sheet.specs.Reader.{sheetOf}
 use Rattle.sheet.proofs.Accepted.{accepted-fits}
-use Rattle.reads.proofs.Descent.{node-holds, needed-node}
 use Rattle.table.specs.Form.{unsheet, formed}
 use Rattle.table.specs.Table.{own, tableOf}
 use Rattle.table.proofs.RoundTrip.{AllSmall, unsheet-sheet, formed-sheet}
@@ -39,15 +38,11 @@ use Rattle.returns.proofs.Own.{not-after, not-there, own-after}
 use Rattle.returns.proofs.Written.{table-written}
 
 module _ (xs : List ℕ) (m : Meets xs) where
-  each-track : Each Described (movie xs)
-  unfolding track
-  each-track = each Described (movie xs) (λ n k. described xs m n k)
+  all-described : Each Described (movie xs)
+  all-described = each Described (all-with (λ x f t e. described (f e) (t e)) (each-track (file-met xs m fiveRule (m .five))) (each-track (file-met xs m tenRule (m .ten))))
 
-  some-tracks : (1 ≤ tracks xs) × (tracks xs ≤ 4)
-  unfolding needed kindIn parent ifEq
-  some-tracks =
-      let h = needed-node 5 FILE xs (m .three) 1 MOOV (omega arith) refl threeRule (λ z. omega arith) refl (m .three) in
-      shape-tracks (movie xs) (node-holds threeRule 4 MOOV (find MOOV (boxes xs)) h)
+  track-described : (t : ℕ) → t < tracks xs → Described (track xs t)
+  track-described t k = described (in-track (file-met xs m fiveRule (m .five)) t k) (in-track (file-met xs m tenRule (m .ten)) t k)
 
   module _ (v : Bytes xs) where
     pub entries-small : AllSmall (entries xs)
@@ -55,14 +50,14 @@ module _ (xs : List ℕ) (m : Meets xs) where
     entries-small =
         let l = lies-found MOOV 0 xs v in
         let w = bytes-lies l v in
-        small-after 0 (startIn MOOV 0 (boxes xs)) (parts (find MOOV (boxes xs)) w .filled) each-track (omega (arith, l .inside, total-is (find MOOV (boxes xs)) w, m .most))
+        small-after 0 (startIn MOOV 0 (boxes xs)) (parts (find MOOV (boxes xs)) w .filled) all-described (omega (arith, l .inside, total-is (find MOOV (boxes xs)) w, m .most))
 
     -- the sheet that is read from an accepted file has the form
     pub own-formed : formed SLOTS (sheetOf xs) ≡ true
     unfolding sheetOf entries
     own-formed =
         let p = startIn MOOV 0 (boxes xs) in
-        formed-sheet SLOTS (entries xs) (after-some 0 p each-track (some-tracks .0)) (accepted-fits xs m .few) entries-small (after-steps 0 p each-track (omega (arith, some-tracks .1))) (after-meet 0 p each-track)
+        formed-sheet SLOTS (entries xs) (after-some 0 p all-described (tracks-few xs (m .three) .0)) (accepted-fits xs m .few) entries-small (after-steps 0 p all-described (omega (arith, tracks-few xs (m .three) .1))) (after-meet 0 p all-described)
 
     pub own-unsheet : unsheet SLOTS (sheetOf xs) ≡ entries xs
     unfolding sheetOf
@@ -73,21 +68,21 @@ module _ (xs : List ℕ) (m : Meets xs) where
     unfolding entries
     own-none t h =
         let p = startIn MOOV 0 (boxes xs) in
-        ⊎-elim (λ e. not-after 0 t p each-track (omega arith)) (λ k. not-there 0 t p each-track (omega arith)) h
+        ⊎-elim (λ e. not-after 0 t p all-described (omega arith)) (λ k. not-there 0 t p all-described (omega arith)) h
 
     module _ (t : ℕ) (h : 1 ≤ t) (k : t ≤ tracks xs) where
       own-entries : own t (entries xs) ≡ entriesOf t (track xs (t - 1)) (startIn MOOV 0 (boxes xs) + startIn TRAK (t - 1) (movie xs))
       unfolding entries track
-      own-entries = own-after 0 (t - 1) t (startIn MOOV 0 (boxes xs)) each-track (omega arith) (omega arith)
+      own-entries = own-after 0 (t - 1) t (startIn MOOV 0 (boxes xs)) all-described (omega arith) (omega arith)
 
       pub own-some : 1 ≤ length (own t (entries xs))
-      own-some = rw own-entries (some-of t (track xs (t - 1)) _ (described xs m (t - 1) (omega arith)))
+      own-some = rw own-entries (some-of t (track xs (t - 1)) _ (track-described (t - 1) (omega arith)))
 
       -- the table that is written from it is that track's `stsd`, byte for byte
       pub table-returns : tableOf SLOTS (sheetOf xs) t ≡ stsdBytes xs t
       unfolding tableOf entriesOf stsdBytes
       table-returns =
-          let d = described xs m (t - 1) (omega arith) in
+          let d = track-described (t - 1) (omega arith) in
           let w = bytes-stsd (track xs (t - 1)) (bytes-lies (lies-track xs (t - 1) v) v) in
           rw (own-unsheet, own-entries) (table-written (table STSD (track xs (t - 1))) w (d .listed) t _)
 

@@ -11,16 +11,17 @@ use Rattle.boxes.specs.Way.{boxBy}
 use Rattle.boxes.proofs.Lying.{lies-whole, Lies, bytes-lies, lies-in}
 use Rattle.shape.specs.Shape.{needed}
 use Rattle.shape.specs.Rules.{threeRule}
+use Rattle.shape.proofs.Descent.{needed-some, in-track, in-stbl}
 use Rattle.judge.specs.Acceptance.{Meets}
 use Rattle.movie.specs.Movie.{tracks, track, minf, stbl, table}
 use Rattle.movie.proofs.Naming.{lies-track, lies-stbl}
-use Rattle.reads.proofs.Descent.{needed-some, in-stbl}
+use Rattle.judge.proofs.Tables.{file-met}
 use Rattle.returns.specs.Stsd.{stsdBytes, stsdIn, stsdPlace}
 
 module _ (xs : List ℕ) (m : Meets xs) (v : Bytes xs) (t : ℕ) (h : 1 ≤ t) (k : t ≤ tracks xs) where
   stsd-one : 0 < count STSD (stbl (track xs (t - 1)))
   unfolding needed ifEq
-  stsd-one = needed-some 0 STBL (find STBL (minf (track xs (t - 1)))) (in-stbl xs (m .three) (t - 1) (omega arith) threeRule (m .three)) 0 STSD (omega arith) refl
+  stsd-one = needed-some (in-stbl (in-track (file-met xs m threeRule (m .three)) (t - 1) (omega arith))) STSD refl
 
   pub stsd-lies : Lies (stsdBytes xs t) xs (stsdPlace xs t)
   unfolding stsdBytes stsdIn stsdPlace table boxBy

@@ -1,6 +1,5 @@
 -- What the rules say of the boxes of an accepted file itself. Assumes nothing.
 use Prim.Native.Nat.{ℕ}
-use native.Mathlib.Omega.{arith}
 use mathlib.Core.Path.{_≡_, sym, ap, _∙_}
 use mathlib.Core.Bool.{true}
 use mathlib.Core.List.{List, [], _∷_}
@@ -12,24 +11,24 @@ use Rattle.boxes.specs.Box.{Box}
 use Rattle.boxes.specs.Boxes.{boxes, after}
 use Rattle.boxes.specs.Containers.{FILE}
 use Rattle.boxes.specs.Seek.{count}
+use Rattle.verdict.proofs.Opened.{opened}
 use Rattle.shape.specs.Shape.{needed, first, shape}
 use Rattle.shape.specs.Rules.{twoRule, threeRule}
-use Rattle.shape.proofs.Shape.{shape-one, shape-first}
+use Rattle.shape.proofs.Needs.{shape-one, shape-first}
 use Rattle.judge.specs.Acceptance.{Meets}
-use Rattle.settle.proofs.Each.{rule-node, rule-end}
 
 module _ (xs : List ℕ) (m : Meets xs) where
   -- rule 2: they tile it
   pub file-tiled : after xs ≡ []
-  file-tiled = nil-is (after xs) (eq-is _ _ (rule-end twoRule 5 FILE xs (m .two)))
+  file-tiled = nil-is (after xs) (eq-is _ _ (opened twoRule 5 FILE xs (m .two) .end))
 
   -- rule 3
   file-shape : shape FILE (boxes xs) ≡ true
-  file-shape = rule-node threeRule 5 FILE xs (m .three)
+  file-shape = opened threeRule 5 FILE xs (m .three) .node
 
   pub one-moov : count MOOV (boxes xs) ≡ 1
   unfolding needed ifEq
-  one-moov = shape-one (boxes xs) FILE 1 file-shape (omega arith)
+  one-moov = shape-one (boxes xs) FILE MOOV file-shape refl
 
   pub ftyp-first : (x : Box) (l : List Box) → boxes xs ≡ x ∷ l → x .code ≡ FTYP
   unfolding first

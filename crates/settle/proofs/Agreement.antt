@@ -1,7 +1,7 @@
 -- Functions that agree wherever a payload of the file is agree on every chunk offset of it, and of what has the same tables. Assumes nothing.
 use Prim.Native.Nat.{ℕ, zero, suc}
 use mathlib.Core.Path.{_≡_, refl, sym, ap, subst, _∙_}
-use mathlib.Core.Bool.{Bool, true}
+use mathlib.Core.Bool.{true}
 use mathlib.Core.List.{List}
 use Rattle.wire.specs.Codes.{STBL, STCO}
 use Rattle.wire.proofs.Tests.{eq-yea, eq-nay, eq-or}
@@ -10,23 +10,26 @@ use Rattle.boxes.specs.Boxes.{boxes}
 use Rattle.boxes.specs.Containers.{kindIn, FILE, DEPTH}
 use Rattle.boxes.specs.Kin.{Leaf, Kin}
 use Rattle.boxes.proofs.Reading.{All}
+use Rattle.boxes.proofs.Every.{all-map, all-four}
 use Rattle.media.specs.Payloads.{inAt}
-use Rattle.verdict.specs.Rule.{allList, allBox, allIn}
+use Rattle.verdict.specs.Rule.{allIn}
+use Rattle.verdict.proofs.Opened.{opened, closed}
 use Rattle.verdict.proofs.Keeping.{keep}
 use Rattle.judge.specs.Acceptance.{Holds, Meets}
+use Rattle.judge.proofs.Tables.{file-chunked}
 use Rattle.shape.specs.Rules.{threeRule}
 use Rattle.tracks.specs.Six.{sixRule}
 use Rattle.tracks.specs.Seven.{sevenRule}
 use Rattle.tracks.specs.Eight.{eightRule}
-use Rattle.settle.proofs.Each.{all-with, all-four, each-all, rule-leaves, rule-inside}
+use Rattle.tracks.proofs.Chunked.{Chunked}
 use Rattle.settle.proofs.Offsets.{agreeOn, agreeIn, agree}
-use Rattle.settle.proofs.Placed.{Chunked, all-agree}
+use Rattle.settle.proofs.Placed.{all-agree}
 
 -- what a part says of its containers
 inside : (l : List Box) (d k : ℕ) (xs : List ℕ) → Chunked l (suc d) k xs → All (λ x. (kindIn k (x .code) ≡ 0 → ⊥) → Chunked l d (kindIn k (x .code)) (x .body)) (boxes xs)
 inside l d k xs s =
     all-four (λ x p q r t z. record { three = p z; six = q z; seven = r z; eight = t z })
-    (rule-inside threeRule d k xs (s .three)) (rule-inside sixRule d k xs (s .six)) (rule-inside sevenRule d k xs (s .seven)) (rule-inside (eightRule l) d k xs (s .eight))
+    (opened threeRule d k xs (s .three) .inside) (opened sixRule d k xs (s .six) .inside) (opened sevenRule d k xs (s .seven) .inside) (opened (eightRule l) d k xs (s .eight) .inside)
 
 module _ (f g : ℕ → ℕ) where
   leaf-agrees : (k c : ℕ) (b : List ℕ) → (k ≡ STBL → c ≡ STCO → agreeOn f g b ≡ true) → agreeIn f g k c b ≡ true
@@ -42,22 +45,26 @@ module _ (f g : ℕ → ℕ) where
 
   -- the tables of a part
   module _ (l : List Box) (h : (o n : ℕ) → inAt l o n ≡ true → f o ≡ g o) where
-    leaves : (d k : ℕ) (xs : List ℕ) → Chunked l (suc d) k xs → All (λ x. agreeIn f g k (x .code) (x .body) ≡ true) (boxes xs)
+    leaves : (d k : ℕ) (xs : List ℕ) → Chunked l (suc d) k xs → All (λ x. kindIn k (x .code) ≡ 0 → agreeIn f g k (x .code) (x .body) ≡ true) (boxes xs)
     leaves d k xs s =
-        let t = rule-leaves threeRule d k xs (s .three) in
         eq-or k STBL
-        (λ e. all-with (λ x p q. leaf-agrees k (x .code) (x .body) (λ r. p)) (all-agree l d xs (subst (λ (i : ℕ). Chunked l (suc d) i xs) e s) f g h) t)
-        (λ e. all-with (λ x p q. leaf-agrees k (x .code) (x .body) (λ r. absurd (e r))) t t)
+        (λ e. all-map (λ x p z. leaf-agrees k (x .code) (x .body) (λ r. p)) (all-agree l d xs (subst (λ (i : ℕ). Chunked l (suc d) i xs) e s) f g h))
+        (λ e. all-map (λ x p z. leaf-agrees k (x .code) (x .body) (λ r. absurd (e r))) (inside l d k xs s))
 
     pub chunked-agree : (d k : ℕ) (xs : List ℕ) → Chunked l d k xs → allIn (agree f g) d k xs ≡ true
-    unfolding allIn allBox
+    unfolding allIn
     chunked-agree zero k xs s = refl
     chunked-agree (suc d) k xs s =
-        each-all _ (all-with (λ x p q. sym (eq-or (kindIn k (x .code)) 0 (λ z. eq-yea _ _ _ _ _ z (sym p)) (λ z. eq-nay _ _ _ _ _ z (sym (chunked-agree d (kindIn k (x .code)) (x .body) (q z)))))) (leaves d k xs s) (inside l d k xs s))
+        closed (agree f g) d k xs (record {
+          node = refl;
+          leaves = leaves d k xs s;
+          inside = all-map (λ x p z. chunked-agree d (kindIn k (x .code)) (x .body) (p z)) (inside l d k xs s);
+          end = refl;
+        })
 
   -- of a file that meets the rules
   pub meets-agree : (xs : List ℕ) → Meets xs → ((o n : ℕ) → inAt (boxes xs) o n ≡ true → f o ≡ g o) → Holds (agree f g) xs
-  meets-agree xs m h = chunked-agree (boxes xs) h DEPTH FILE xs (record { three = m .three; six = m .six; seven = m .seven; eight = m .eight })
+  meets-agree xs m h = chunked-agree (boxes xs) h DEPTH FILE xs (file-chunked xs m)
 
   -- of what is kin to it by an edit that lets `stco` be
   pub kin-agree : (G : Leaf) → ((b b′ : List ℕ) → G STBL STCO b b′ → b ≡ b′) → (d k : ℕ) (xs zs : List ℕ) → Kin G d k xs zs → allIn (agree f g) d k xs ≡ true → allIn (agree f g) d k zs ≡ true
@@ -67,6 +74,7 @@ module _ (f g : ℕ → ℕ) where
       kept k c b b′ z r q = leaf-agrees k c b′ (λ e s. ap (agreeOn f g) (sym (same b b′ (rw (e, s) at r))) ∙ agrees-leaf k c b q e s)
 
   -- of what holds the same boxes in another order
-  pub list-agree : (d k : ℕ) (xs zs : List ℕ) → ((p : Box → Bool) → allList p true (boxes xs) ≡ true → allList p true (boxes zs) ≡ true) → allIn (agree f g) (suc d) k xs ≡ true → allIn (agree f g) (suc d) k zs ≡ true
-  unfolding allIn
-  list-agree d k xs zs h q = h _ q
+  pub list-agree : (d k : ℕ) (xs zs : List ℕ) → ((P : Box → Type 0) → All P (boxes xs) → All P (boxes zs)) → allIn (agree f g) (suc d) k xs ≡ true → allIn (agree f g) (suc d) k zs ≡ true
+  list-agree d k xs zs h q =
+      let o = opened (agree f g) d k xs q in
+      closed (agree f g) d k zs (record { node = refl; leaves = h _ (o .leaves); inside = h _ (o .inside); end = refl })

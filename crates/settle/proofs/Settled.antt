@@ -17,12 +17,12 @@ use Rattle.boxes.specs.Containers.{FILE, DEPTH, LONGEST}
 use Rattle.boxes.specs.Rewrite.{editIn}
 use Rattle.boxes.specs.Words.{eachWord, reword, rewordLeaf}
 use Rattle.boxes.specs.Kin.{All2, Leaf, Kin}
+use Rattle.boxes.proofs.Reading.{All}
 use Rattle.boxes.proofs.Editing.{edit-length, edit-bytes, edit-same}
 use Rattle.boxes.proofs.Wording.{leaf-length, leaf-bytes}
 use Rattle.media.specs.Payloads.{inAt}
 use Rattle.media.specs.Relocate.{relocate, Alike}
 use Rattle.media.proofs.Staying.{relocate-alike}
-use Rattle.verdict.specs.Rule.{allList}
 use Rattle.judge.specs.Acceptance.{Holds, Meets}
 use Rattle.settle.specs.Settle.{offsets, settled}
 use Rattle.settle.proofs.Offsets.{agree, settle-agree}
@@ -51,7 +51,7 @@ module _ (xs zs : List ℕ) (f : ℕ → ℕ) where
     settled-kin G same a = settled-by (kin-agree f _ G same DEPTH FILE xs zs a (meets-agree f _ xs m h))
 
     -- the same boxes in another order
-    pub settled-list : ((p : Box → Bool) → allList p true (boxes xs) ≡ true → allList p true (boxes zs) ≡ true) → editIn (rewordLeaf offsets f) DEPTH FILE zs ≡ settled xs zs
+    pub settled-list : ((P : Box → Type 0) → All P (boxes xs) → All P (boxes zs)) → editIn (rewordLeaf offsets f) DEPTH FILE zs ≡ settled xs zs
     settled-list k = settled-by (list-agree f _ 5 FILE xs zs k (meets-agree f _ xs m h))
 
 -- ---- nothing moved

@@ -1,2 +1,4 @@
 pub mod Shape
+pub mod Needs
 pub mod Keeping
+pub mod Descent

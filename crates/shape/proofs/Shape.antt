@@ -1,17 +1,16 @@
 -- Laws of rule 3 in one container. Assumes nothing.
-use Prim.Native.Nat.{ℕ, zero, suc, _+_, _≤_, _<_}
+use Prim.Native.Nat.{ℕ, _+_, _≤_, _<_}
 use native.Mathlib.Omega.{arith}
 use native.Mathlib.Numerals.{add-one}
 use mathlib.Core.Path.{_≡_, refl, sym, _∙_}
 use mathlib.Core.Bool.{true, false}
-use mathlib.Core.List.{List, [], _∷_}
+use mathlib.Core.List.{List, []}
 use lib.ListN.{length, getD, drop}
 use lib.Seq.{drop-cons, drop-length}
-use Rattle.wire.specs.Tests.{ifEq}
-use Rattle.wire.specs.Clauses.{isEq, oneIf}
-use Rattle.wire.specs.Codes.{FTYP, MOOV, TRAK, MDIA, MINF, DINF, STBL}
-use Rattle.wire.proofs.Tests.{both, eq-nay}
-use Rattle.wire.proofs.Clauses.{is-eq, not-eq, eq-is, le-is, clause}
+use Rattle.wire.specs.Clauses.{oneIf}
+use Rattle.wire.specs.Codes.{MOOV, TRAK, MDIA, MINF, DINF, STBL}
+use Rattle.wire.proofs.Tests.{eq-nay}
+use Rattle.wire.proofs.Clauses.{is-eq, not-eq}
 use Rattle.boxes.specs.declared.walk.Walk.{Walk}
 use Rattle.boxes.specs.declared.walk.BoxAt.{BoxAt}
 use Rattle.boxes.specs.Box.{Box}
@@ -19,7 +18,7 @@ use Rattle.boxes.specs.Boxes.{boxes}
 use Rattle.boxes.specs.Containers.{FILE}
 use Rattle.boxes.specs.Walk.{Ran, Over}
 use Rattle.boxes.specs.Seek.{count}
-use Rattle.shape.specs.Shape.{needed, barred, exactly, first, besides, shape}
+use Rattle.shape.specs.Shape.{needed, barred, exactly, first}
 
 -- there are n boxes of each code before the i-th: all hold where the rest do
 pub record Asked (n : ℕ) (cs : List ℕ) (l : List Box) (i : ℕ) : Type 0 where
@@ -65,28 +64,6 @@ unfolding exactly needed
 ones-none k l a b c d e f g =
     let n : [] ≡ needed k = eq-nay _ _ _ _ _ a (eq-nay _ _ _ _ _ b (eq-nay _ _ _ _ _ c (eq-nay _ _ _ _ _ d (eq-nay _ _ _ _ _ e (eq-nay _ _ _ _ _ f (eq-nay _ _ _ _ _ g refl)))))) in
     rw (← n)
-
--- ---- what rule 3 says
-
-pub exactly-is : (n i : ℕ) (cs : List ℕ) (l : List Box) → exactly n cs l ≡ true → i < length cs → count (getD cs i 0) l ≡ n
-unfolding exactly
-exactly-is n i [] l e h = absurd (omega arith)
-exactly-is n zero (c ∷ cs) l e h = eq-is _ _ (both _ _ e .0)
-exactly-is n (suc i) (c ∷ cs) l e h = exactly-is n i cs l (both (isEq (count c l) n) _ e .1) (omega arith)
-
-module _ (l : List Box) where
-  -- one box of the i-th code that a container needs
-  pub shape-one : (k i : ℕ) → shape k l ≡ true → i < length (needed k) → count (getD (needed k) i 0) l ≡ 1
-  unfolding shape
-  shape-one k i e h = exactly-is 1 i (needed k) l (clause 0 _ e) h
-
-  pub shape-first : shape FILE l ≡ true → first l ≡ FTYP
-  unfolding shape besides ifEq
-  shape-first e = eq-is _ _ (clause 1 _ e)
-
-  pub shape-tracks : shape MOOV l ≡ true → (1 ≤ count TRAK l) × (count TRAK l ≤ 4)
-  unfolding shape besides ifEq
-  shape-tracks e = (le-is _ _ (clause 0 _ (clause 1 _ e)), le-is _ _ (clause 1 _ (clause 1 _ e)))
 
 -- ---- refusal 23
 

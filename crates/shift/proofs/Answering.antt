@@ -1,7 +1,7 @@
 -- The answer of a shift, as code tells it. Assumes nothing.
 use Prim.Native.Nat.{ℕ, _≤_, _<_}
 use native.Mathlib.Omega.{arith}
-use mathlib.Core.Path.{_≡_, refl, sym, ap, _∙_}
+use mathlib.Core.Path.{_≡_, refl, sym, _∙_}
 use mathlib.Core.Bool.{Bool, true, false}
 use mathlib.Core.List.{List, [], _∷_, _++_}
 use lib.IntN.{ℤ}
@@ -11,7 +11,7 @@ use Rattle.wire.specs.Clauses.{oneIf, every}
 use Rattle.wire.specs.Codes.{MOOV, MVHD, TRAK, TKHD, MDIA, MDHD}
 use Rattle.wire.specs.Numbers.{Bytes}
 use Rattle.wire.specs.Writing.{Wrote}
-use Rattle.wire.proofs.Clauses.{was-yea, was-nay, fails, holds, done}
+use Rattle.wire.proofs.Clauses.{was-yea, was-nay, fails}
 use Rattle.boxes.specs.Words.{moved}
 use Rattle.clocks.specs.declared.Zone.{Zone}
 use Rattle.clocks.specs.declared.Zoned.{Zoned}
@@ -20,7 +20,7 @@ use Rattle.clocks.specs.Clocks.{zoneFine, zoneOf, zonedOf, mayShift}
 use Rattle.clocks.specs.Zones.{leaves}
 use Rattle.verdict.specs.declared.Answer.{Answer}
 use Rattle.verdict.specs.declared.Answer.the-variants.{Done, Refused}
-use Rattle.verdict.specs.Answers.{inRoom, outBy}
+use Rattle.verdict.specs.Answers.{inRoom}
 use Rattle.verdict.proofs.Answers.{room-short, room-fits, out-kept, out-wrote}
 use Rattle.judge.specs.Acceptance.{plain}
 use Rattle.judge.specs.declared.Judgement.{Judgement}
@@ -29,7 +29,7 @@ use Rattle.judge.specs.declared.Judgement.the-variants.{Accepted}
 use Rattle.judge.specs.Judgement.{judged}
 use Rattle.judge.proofs.Calls.{when-accepted, when-refused, met}
 use Rattle.clocks.proofs.Signed.{zone-found, zone-missing}
-use Rattle.shift.specs.Shift.{times, timesBy, allTimesBy, allTimes, shiftable, acceptedAnswer, shiftAnswer, shiftOut}
+use Rattle.shift.specs.Shift.{times, allTimesBy, allTimes, shiftable, acceptedAnswer, shiftAnswer, shiftOut}
 use Rattle.shift.specs.Amount.{byZone, zoneText, zoneAnswer, zoneOut}
 use Rattle.shift.proofs.Passing.{times-length}
 use Rattle.shift.proofs.Meaning.{leaves-are, shift-text}

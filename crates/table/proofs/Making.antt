@@ -13,7 +13,7 @@ use Rattle.wire.specs.Writing.{Put}
 use Rattle.wire.proofs.Numbers.{length-bytes}
 use Rattle.wire.proofs.Writing.{pen-front}
 use Rattle.movie.specs.Entries.{Entry}
-use Rattle.sheet.specs.Sheet.{SLOT, slot, slots, bodies, front, bodiesAt, sheet}
+use Rattle.sheet.specs.Sheet.{SLOT, slot, slots, bodies, front, bodiesAt}
 use Rattle.table.specs.Form.{read}
 
 -- ---- the front

@@ -5,7 +5,7 @@ use mathlib.Core.Path.{_≡_, refl, ap}
 use mathlib.Core.List.{List, [], _∷_}
 use lib.ListN.{length, take, drop, length-append, length-take, length-drop}
 use Rattle.wire.specs.Numbers.{word}
-use Rattle.sheet.specs.Sheet.{SLOT, slot, slots, bodies}
+use Rattle.sheet.specs.Sheet.{SLOT, slots, bodies}
 use Rattle.table.specs.Form.{firstOf, read}
 
 pub read-none : (n : ℕ) (xs ys : List ℕ) → n ≡ 0 → read n xs ys ≡ []

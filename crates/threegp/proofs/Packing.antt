@@ -1,19 +1,16 @@
 -- The answers of the face are those of the calls behind it. Assumes nothing.
 use Prim.Native.Nat.{ℕ, _≤_, _<_}
-use native.Mathlib.Omega.{arith}
 use mathlib.Core.Path.{_≡_, refl, sym, ap, _∙_}
 use mathlib.Core.List.{List}
 use lib.ListN.{length, set}
 use lib.Seq.{sets-eq}
-use Rattle.wire.specs.Writing.{Wrote}
 use Rattle.verdict.specs.declared.Answer.{Answer}
 use Rattle.verdict.specs.declared.Answer.the-variants as answer
 use Rattle.verdict.proofs.Answers.{room-short, room-fits, out-kept, out-wrote}
-use Rattle.judge.specs.declared.Judgement.{Judgement}
 use Rattle.newer.specs.declared.Part.{Part}
 use Rattle.newer.specs.declared.Outcome.{Outcome}
 use Rattle.newer.specs.declared.Outcome.the-variants.{Found, Refused}
-use Rattle.threegp.specs.Answers.{packed, judgeAnswer, newerNumbers, newerAnswer, newerOut}
+use Rattle.threegp.specs.Answers.{packed, newerNumbers, newerAnswer, newerOut}
 
 pub packs : {r : ℕ} {a b : Answer} → r ≡ packed a → a ≡ b → r ≡ packed b
 packs e f = e ∙ ap packed f

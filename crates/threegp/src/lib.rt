@@ -4,7 +4,6 @@ use newer::Outcome;
 use newer::Part;
 use verdict::Answer;
 ghost use mathlib.Core.Path.{_≡_};
-ghost use Prim.Native.Nat.{_≤_};
 ghost use Rattle.judge.specs.Judgement.{judged};
 ghost use Rattle.reads.specs.Reads.{tracksAnswer, trackAnswer, trackOut, offsetsAnswer, offsetsOut};
 ghost use Rattle.brands.specs.Calls.{brandAnswer};

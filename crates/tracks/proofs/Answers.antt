@@ -11,8 +11,6 @@ use Rattle.wire.specs.Codes.{STSD, STTS, STSC, STSZ, STCO}
 use Rattle.wire.proofs.Clauses.{clause, was-nay, was-yea, yea}
 use Rattle.boxes.specs.Box.{Box}
 use Rattle.boxes.specs.Seek.{find}
-use Rattle.tables.specs.Tables.{tableForm}
-use Rattle.tables.specs.Sizes.{sizesForm}
 use Rattle.tables.specs.Rules.{seven as agree, Six}
 use Rattle.tables.proofs.Tables.{form-is}
 use Rattle.tracks.specs.Six.{sixHolds}

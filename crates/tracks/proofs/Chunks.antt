@@ -1,10 +1,9 @@
 -- What the answers of rule 8 say. Assumes nothing.
-use Prim.Native.Nat.{ℕ, _+_, _≤_}
+use Prim.Native.Nat.{ℕ, _+_}
 use native.Mathlib.Omega.{arith}
 use mathlib.Core.Path.{_≡_, refl, sym, ap, _∙_}
-use mathlib.Core.Bool.{Bool, true, false}
+use mathlib.Core.Bool.{true, false}
 use mathlib.Core.List.{List}
-use Rattle.wire.specs.Tests.{pick, ifEq}
 use Rattle.wire.specs.Numbers.{word}
 use Rattle.wire.specs.Clauses.{oneIf}
 use Rattle.wire.specs.Codes.{STBL, STSD, STTS, STSC, STSZ, STCO}
@@ -16,9 +15,7 @@ use Rattle.boxes.specs.Seek.{find, placeIn}
 use Rattle.tables.specs.Rules.{seven as agree}
 use Rattle.tables.proofs.Rules.{seven-is}
 use Rattle.media.specs.Rules.{eight as lie, Ready}
-use Rattle.verdict.specs.declared.Verdict.{Verdict}
 use Rattle.verdict.specs.declared.Verdict.the-variants.{Fine, Bad}
-use Rattle.verdict.specs.Verdict.{unless}
 use Rattle.verdict.proofs.Places.{unless-yea, unless-nay}
 use Rattle.tracks.specs.Six.{sixHolds}
 use Rattle.tracks.specs.Seven.{sevenHolds}

@@ -1,8 +1,8 @@
 -- Rules 6 and 7: acceptance without places, and what keeps them. Assumes nothing.
-use Prim.Native.Nat.{ℕ, zero, suc}
+use Prim.Native.Nat.{ℕ, suc}
 use native.Mathlib.Omega.{arith}
 use mathlib.Core.Path.{_≡_, refl, sym, ap, _∙_}
-use mathlib.Core.Bool.{Bool, true, false}
+use mathlib.Core.Bool.{Bool, true}
 use mathlib.Core.List.{List}
 use Rattle.wire.specs.Tests.{pick, ifEq}
 use Rattle.wire.specs.Numbers.{word}
@@ -13,7 +13,6 @@ use Rattle.boxes.specs.Containers.{kindIn, parent}
 use Rattle.boxes.specs.Kin.{Leaf, Kin}
 use Rattle.boxes.proofs.Kin.{kin-find}
 use Rattle.tables.specs.Tables.{tableForm}
-use Rattle.tables.specs.Rules.{seven as agree}
 use Rattle.tables.proofs.Rules.{seven-same}
 use Rattle.verdict.specs.Rule.{allIn, Says}
 use Rattle.verdict.proofs.Keeping.{keep, kept-at}

@@ -2,3 +2,4 @@ pub mod Answers
 pub mod Kept
 pub mod Chunks
 pub mod KeptEight
+pub mod Chunked

@@ -1,16 +1,15 @@
 -- Acceptance has no places: a judge finds nothing broken exactly where its rule holds of all. Assumes nothing.
 use Prim.Native.Nat.{ℕ, zero, suc, _+_}
 use mathlib.Core.Path.{_≡_, refl, sym, ap, _∙_}
-use mathlib.Core.Bool.{Bool, true, false}
+use mathlib.Core.Bool.{Bool, true}
 use mathlib.Core.List.{List, [], _∷_}
-use Rattle.wire.specs.Tests.{pick, ifEq}
 use Rattle.wire.proofs.Tests.{through}
 use Rattle.boxes.specs.Box.{Box, size}
 use Rattle.boxes.specs.Boxes.{boxes, after}
 use Rattle.boxes.specs.Containers.{kindIn}
 use Rattle.verdict.specs.declared.Verdict.{Verdict}
-use Rattle.verdict.specs.declared.Verdict.the-variants.{Fine, Bad}
-use Rattle.verdict.specs.Verdict.{sooner, isFine}
+use Rattle.verdict.specs.declared.Verdict.the-variants.{Fine}
+use Rattle.verdict.specs.Verdict.{isFine}
 use Rattle.verdict.specs.Judge.{Judge, judgeList, judgeBox, judgeIn}
 use Rattle.verdict.specs.Rule.{Rule, allList, allBox, allIn, Says}
 use Rattle.verdict.specs.Inner.{within, holds}

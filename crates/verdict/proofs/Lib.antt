@@ -1,5 +1,6 @@
 pub mod Places
 pub mod Acceptance
+pub mod Opened
 pub mod Keeping
 pub mod Traverse
 pub mod Answers

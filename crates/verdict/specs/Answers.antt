@@ -1,5 +1,5 @@
 -- The answer of a call, and what it leaves in the room that it was lent.
-use Prim.Native.Nat.{ℕ, _≤_}
+use Prim.Native.Nat.{ℕ}
 use mathlib.Core.List.{List, _++_}
 use lib.ListN.{length, drop}
 use Rattle.wire.specs.Tests.{ifLt}

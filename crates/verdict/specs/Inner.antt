@@ -5,7 +5,7 @@ use mathlib.Core.List.{List, [], _∷_}
 use Rattle.wire.specs.Tests.{ifEq}
 use Rattle.boxes.specs.Box.{Box, size}
 use Rattle.verdict.specs.declared.Verdict.{Verdict}
-use Rattle.verdict.specs.declared.Verdict.the-variants.{Fine, Bad}
+use Rattle.verdict.specs.declared.Verdict.the-variants.{Fine}
 
 -- f of the first box of code c: its body, its place and its payload's; nothing is broken where there is none
 unfoldable pub within : ℕ → (List ℕ → ℕ → ℕ → Verdict) → List Box → ℕ → Verdict

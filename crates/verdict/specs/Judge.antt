@@ -6,7 +6,7 @@ use Rattle.boxes.specs.Box.{Box, size}
 use Rattle.boxes.specs.Boxes.{boxes, after}
 use Rattle.boxes.specs.Containers.{kindIn}
 use Rattle.verdict.specs.declared.Verdict.{Verdict}
-use Rattle.verdict.specs.declared.Verdict.the-variants.{Fine, Bad}
+use Rattle.verdict.specs.declared.Verdict.the-variants.{Fine}
 use Rattle.verdict.specs.Verdict.{sooner}
 
 -- what a rule says of an opaque box (its container's kind, its code, its body, its place and its payload's), of a container or

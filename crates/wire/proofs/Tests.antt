@@ -81,3 +81,7 @@ eq-kept m n s s′ t t′ f g h =
 pub both : (s t : Bool) → pick s t false ≡ true → (s ≡ true) × (t ≡ true)
 both true t e = (refl, e)
 both false t e = absurd (subst T (sym e) tt)
+
+-- what is chosen where m is n may be said otherwise there
+pub eq-same : {A : Type 0} (m n : ℕ) (a a′ b : A) → (m ≡ n → a ≡ a′) → ifEq m n a b ≡ ifEq m n a′ b
+eq-same m n a a′ b h = eq-or m n (λ e. eq-yea _ _ _ _ _ e (sym (eq-yea _ _ _ _ _ e (sym (h e))))) (λ e. eq-nay _ _ _ _ _ e (sym (eq-nay _ _ _ _ _ e refl)))

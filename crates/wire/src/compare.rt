@@ -1,6 +1,5 @@
 // Comparing two parts.
 ghost use mathlib.Core.Path.{_≡_};
-ghost use lib.ListN.{length};
 ghost use Rattle.wire.specs.Same.{same as sameOf};
 
 // 1 where two parts hold the same bytes, else 0.

@@ -4,10 +4,8 @@ use Prim.Native.Nat.{_-_}
 use Rattle.boxes.proofs.Walking.{ran, ended, broke}
 use Rattle.descriptions.proofs.Entry.{entryAt, noEnd, entries-none, entries-more, entries-over}
 use Rattle.descriptions.specs.Ten.{entriesFrom}
-use Rattle.verdict.proofs.Places.{sooner-none}
 use Rattle.verdict.proofs.Traverse.{Found}
 use lib.ListN.{length}
-use mathlib.Core.Path.{_∙_, ap, sym}
 use native.Mathlib.Omega.{arith}
 use Rattle.descriptions.proofs.entries_from.Statement.{statement}
 use Rattle.descriptions.proofs.entries_from.Tie as tie

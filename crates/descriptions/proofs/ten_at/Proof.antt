@@ -1,6 +1,5 @@
 use borrow.Author.Needs.{needs}
 use Rattle.descriptions.proofs.Entry.{ten-mdia, ten-other}
-use mathlib.Core.Path.{refl}
 use native.Mathlib.Omega.{arith}
 use Rattle.descriptions.proofs.ten_at.Statement.{statement}
 use Rattle.descriptions.proofs.ten_at.Tie as tie

@@ -1,5 +1,4 @@
 use borrow.Author.Needs.{needs}
-use native.Mathlib.Omega.{arith}
 use Rattle.movie.proofs.Finding.{ticks-are}
 use Rattle.movie.proofs.movie_ticks.Statement.{statement}
 use Rattle.movie.proofs.movie_ticks.Tie as tie

@@ -1,5 +1,4 @@
 use borrow.Author.Needs.{needs}
-use mathlib.Core.Path.{_∙_}
 use Rattle.newer.proofs.cut.Statement.{statement}
 use Rattle.newer.proofs.cut.Tie as tie
 

@@ -1,6 +1,5 @@
 use borrow.Author.Needs.{needs}
 use Rattle.sheet.proofs.Writing.{sheet-put}
-use native.Mathlib.Omega.{arith}
 use Rattle.sheet.proofs.put_sheet.Statement.{statement}
 use Rattle.sheet.proofs.put_sheet.Tie as tie
 

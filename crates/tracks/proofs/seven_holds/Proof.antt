@@ -1,7 +1,6 @@
 use borrow.Author.Needs.{needs}
 use Rattle.tracks.proofs.Answers.{six-is, seven-shut, seven-open}
-use Rattle.wire.proofs.Clauses.{was-yea, was-nay, yea}
-use mathlib.Core.Path.{sym, ap, _∙_}
+use Rattle.wire.proofs.Clauses.{was-yea, was-nay}
 use Rattle.tracks.proofs.seven_holds.Statement.{statement}
 use Rattle.tracks.proofs.seven_holds.Tie as tie
 

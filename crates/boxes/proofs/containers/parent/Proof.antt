@@ -1,4 +1,3 @@
-use borrow.Author.Needs.{needs}
 use Rattle.boxes.specs.Containers.{parent}
 use Rattle.wire.proofs.Tests.{eq-yea, eq-nay}
 use mathlib.Core.Path.{refl}

@@ -1,5 +1,5 @@
 use borrow.Author.Needs.{needs}
-use Rattle.boxes.proofs.Wording.{each-length, reword-put, reword-past}
+use Rattle.boxes.proofs.Wording.{reword-put, reword-past}
 use native.Mathlib.Omega.{arith}
 use Rattle.boxes.proofs.words.reword.Statement.{statement}
 use Rattle.boxes.proofs.words.reword.Tie as tie

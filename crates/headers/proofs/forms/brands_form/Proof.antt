@@ -1,4 +1,3 @@
-use borrow.Author.Needs.{needs}
 use Rattle.headers.specs.Forms.{brandsForm}
 use Rattle.wire.proofs.Clauses.{is-eq, not-eq, is-le, not-le, fails, holds, done, yea, nay}
 use native.Mathlib.Omega.{arith}

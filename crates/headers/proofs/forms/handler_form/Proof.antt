@@ -1,4 +1,3 @@
-use borrow.Author.Needs.{needs}
 use Rattle.headers.specs.Forms.{handlerForm}
 use Rattle.wire.proofs.Clauses.{is-le, not-le, yea, nay}
 use mathlib.Core.Path.{sym}

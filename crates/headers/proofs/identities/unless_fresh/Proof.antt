@@ -1,6 +1,5 @@
 use borrow.Author.Needs.{needs}
 use Rattle.headers.proofs.Fresh.{unless-by, unless-not}
-use native.Mathlib.Omega.{arith}
 use Rattle.headers.proofs.identities.unless_fresh.Statement.{statement}
 use Rattle.headers.proofs.identities.unless_fresh.Tie as tie
 

@@ -7,7 +7,7 @@ use Rattle.judge.specs.Rules.{endBy, judgeBy}
 use Rattle.verdict.proofs.Traverse.{Found, found-more}
 use Rattle.verdict.specs.Judge.{judgeBox, judgeIn}
 use lib.ListN.{length, drop, length-take, length-drop}
-use mathlib.Core.Path.{_≡_, refl, ap, _∙_}
+use mathlib.Core.Path.{_≡_, refl, _∙_}
 use native.Mathlib.Omega.{arith}
 use borrow.Author.Needs.{needs}
 use borrow.Fn.Kinds.{In}

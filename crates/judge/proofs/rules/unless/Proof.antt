@@ -1,4 +1,3 @@
-use borrow.Author.Needs.{needs}
 use Rattle.judge.specs.Rules.{unlessAnswer}
 use Rattle.wire.proofs.Tests.{eq-yea, eq-nay}
 use mathlib.Core.Path.{refl}

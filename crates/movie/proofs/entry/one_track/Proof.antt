@@ -1,4 +1,3 @@
-use borrow.Author.Needs.{needs}
 use native.Mathlib.Omega.{arith}
 use Rattle.movie.proofs.entry.one_track.Statement.{statement}
 use Rattle.movie.proofs.entry.one_track.Tie as tie
