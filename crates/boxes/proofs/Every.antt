@@ -5,6 +5,8 @@ use mathlib.Core.Path.{_≡_}
 use mathlib.Core.List.{List, [], _∷_, _++_}
 use Rattle.boxes.specs.Box.{Box}
 use Rattle.boxes.specs.Seek.{ANY, count, nth, find}
+use Rattle.boxes.specs.Kin.{All2}
+use Rattle.boxes.specs.Kin.All2.{nil, cons}
 use Rattle.boxes.proofs.Reading.{All}
 use Rattle.boxes.proofs.Reading.All.{none, some}
 use Rattle.boxes.proofs.Meaning.{meant-yes, meant-is, meant-or, nth-hit, nth-next, nth-miss}

@@ -1,31 +1,19 @@
--- Rules 2 and 3 and refusal 23 with places say what they say without; any edit of opaque boxes keeps them. Assumes nothing.
+-- Any edit of opaque boxes keeps rules 2 and 3 and refusal 23. Assumes nothing.
 use Prim.Native.Nat.{ℕ}
 use native.Mathlib.Omega.{arith}
 use mathlib.Core.Path.{_≡_, refl, sym, _∙_}
 use mathlib.Core.Bool.{true}
 use mathlib.Core.List.{List, [], _∷_, map}
-use lib.ListN.{length}
-use Rattle.wire.specs.Clauses.{isEq}
 use Rattle.wire.specs.Codes.{TRAK}
 use Rattle.boxes.specs.Box.{Box}
 use Rattle.boxes.specs.Boxes.{boxes}
 use Rattle.boxes.specs.Seek.{count}
 use Rattle.boxes.specs.Kin.{Leaf, Kin}
 use Rattle.boxes.proofs.Kin.{kin-codes, kin-count}
-use Rattle.verdict.specs.Rule.{Says, allIn}
-use Rattle.verdict.proofs.Places.{unless-fine}
+use Rattle.verdict.specs.Rule.{allIn}
 use Rattle.verdict.proofs.Keeping.{keep}
 use Rattle.shape.specs.Shape.{needed, barred, exactly, first, besides, shape}
-use Rattle.shape.specs.Rules.{two, twoRule, three, threeRule, plain, plainRule}
-
-pub two-says : Says two twoRule
-two-says = record { leaf = λ k c b p q. refl; node = λ k xs home p. refl; end = λ xs p. unless-fine (isEq (length xs) 0) p }
-
-pub three-says : Says three threeRule
-three-says = record { leaf = λ k c b p q. refl; node = λ k xs home p. unless-fine (shape k (boxes xs)) home; end = λ xs p. refl }
-
-pub plain-says : Says plain plainRule
-plain-says = record { leaf = λ k c b p q. refl; node = λ k xs home p. unless-fine (exactly 0 (barred k) (boxes xs)) home; end = λ xs p. refl }
+use Rattle.shape.specs.Rules.{twoRule, threeRule, plainRule}
 
 -- ---- lists of boxes with the same codes
 

@@ -3,29 +3,27 @@ use mathlib.Core.Bool.{true}
 use lib.ListN.{length}
 use Rattle.wire.specs.Clauses.{isEq}
 use Rattle.boxes.specs.Boxes.{boxes}
-use Rattle.verdict.specs.declared.Verdict.the-variants.{Fine}
-use Rattle.verdict.specs.Verdict.{unless}
 use Rattle.verdict.specs.Judge.{Judge}
-use Rattle.verdict.specs.Rule.{Rule}
+use Rattle.verdict.specs.Rule.{Rule, placed}
 use Rattle.shape.specs.Shape.{shape, barred, exactly}
 
 -- rule 2: boxes tile the file and each container, so that nothing stands past the last whole box
-abbrev pub two : Judge
-two = record { leaf = λ k c b p q. Fine; node = λ k xs home p. Fine; end = λ xs p. unless (isEq (length xs) 0) p }
-
 abbrev pub twoRule : Rule
 twoRule = record { leaf = λ k c b. true; node = λ k xs. true; end = λ xs. isEq (length xs) 0 }
 
 -- rule 3: each container, and the file, has its boxes
-abbrev pub three : Judge
-three = record { leaf = λ k c b p q. Fine; node = λ k xs home p. unless (shape k (boxes xs)) home; end = λ xs p. Fine }
-
 abbrev pub threeRule : Rule
 threeRule = record { leaf = λ k c b. true; node = λ k xs. shape k (boxes xs); end = λ xs. true }
 
 -- refusal 23: no container has a box that an edit doesn't take
-abbrev pub plain : Judge
-plain = record { leaf = λ k c b p q. Fine; node = λ k xs home p. unless (exactly 0 (barred k) (boxes xs)) home; end = λ xs p. Fine }
-
 abbrev pub plainRule : Rule
 plainRule = record { leaf = λ k c b. true; node = λ k xs. exactly 0 (barred k) (boxes xs); end = λ xs. true }
+
+abbrev pub two : Judge
+two = placed twoRule
+
+abbrev pub three : Judge
+three = placed threeRule
+
+abbrev pub plain : Judge
+plain = placed plainRule

@@ -14,17 +14,10 @@ use Rattle.boxes.specs.Kin.{Leaf, Kin}
 use Rattle.boxes.proofs.Kin.{kin-find}
 use Rattle.tables.specs.Tables.{tableForm}
 use Rattle.tables.proofs.Rules.{seven-same}
-use Rattle.verdict.specs.Rule.{allIn, Says}
+use Rattle.verdict.specs.Rule.{allIn}
 use Rattle.verdict.proofs.Keeping.{keep, kept-at}
-use Rattle.verdict.proofs.Places.{unless-fine}
-use Rattle.tracks.specs.Six.{tableIn, six, sixRule, sixHolds}
-use Rattle.tracks.specs.Seven.{sevenHolds, sevenIn, seven, sevenRule}
-
-pub six-says : Says six sixRule
-six-says = record { leaf = λ k c b p q. unless-fine (tableIn k c b) p; node = λ k xs home p. refl; end = λ xs p. refl }
-
-pub seven-says : Says seven sevenRule
-seven-says = record { leaf = λ k c b p q. refl; node = λ k xs home p. unless-fine (sevenIn k xs) home; end = λ xs p. refl }
+use Rattle.tracks.specs.Six.{tableIn, sixRule, sixHolds}
+use Rattle.tracks.specs.Seven.{sevenHolds, sevenIn, sevenRule}
 
 -- rule 6, where the lengths of tables are kept
 pub kin-6 : (G : Leaf) → ((k c : ℕ) (b b′ : List ℕ) → kindIn k c ≡ 0 → G k c b b′ → tableIn k c b ≡ true → tableIn k c b′ ≡ true)

@@ -9,10 +9,8 @@ use Rattle.boxes.specs.Box.{Box}
 use Rattle.boxes.specs.Boxes.{boxes}
 use Rattle.boxes.specs.Seek.{find}
 use Rattle.tables.specs.Rules.{seven as agree}
-use Rattle.verdict.specs.declared.Verdict.the-variants.{Fine}
-use Rattle.verdict.specs.Verdict.{unless}
 use Rattle.verdict.specs.Judge.{Judge}
-use Rattle.verdict.specs.Rule.{Rule}
+use Rattle.verdict.specs.Rule.{Rule, placed}
 use Rattle.tracks.specs.Six.{sixHolds}
 
 -- the entry count is that of the track's own `stsd`; the rule is read where rule 6 holds
@@ -22,8 +20,8 @@ sevenHolds l = pick (sixHolds l) (agree (find STTS l) (find STSC l) (find STSZ l
 unfoldable pub sevenIn : ℕ → List ℕ → Bool
 sevenIn k xs = ifEq k STBL (sevenHolds (boxes xs)) true
 
-abbrev pub seven : Judge
-seven = record { leaf = λ k c b p q. Fine; node = λ k xs home p. unless (sevenIn k xs) home; end = λ xs p. Fine }
-
 abbrev pub sevenRule : Rule
 sevenRule = record { leaf = λ k c b. true; node = sevenIn; end = λ xs. true }
+
+abbrev pub seven : Judge
+seven = placed sevenRule

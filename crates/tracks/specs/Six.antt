@@ -9,10 +9,8 @@ use Rattle.boxes.specs.Box.{Box}
 use Rattle.boxes.specs.Seek.{find}
 use Rattle.tables.specs.Tables.{tableForm}
 use Rattle.tables.specs.Sizes.{sizesForm}
-use Rattle.verdict.specs.declared.Verdict.the-variants.{Fine}
-use Rattle.verdict.specs.Verdict.{unless}
 use Rattle.verdict.specs.Judge.{Judge}
-use Rattle.verdict.specs.Rule.{Rule}
+use Rattle.verdict.specs.Rule.{Rule, placed}
 
 -- "Payload of stts is 8+8n, stsc 8+12n, stco 8+4n; stsz is 12, with 4n more when its common size is 0"
 unfoldable pub tableOf : ℕ → List ℕ → Bool
@@ -21,11 +19,11 @@ tableOf c b = ifEq c STTS (tableForm 8 b) (ifEq c STSC (tableForm 12 b) (ifEq c 
 unfoldable pub tableIn : ℕ → ℕ → List ℕ → Bool
 tableIn k c b = ifEq k STBL (tableOf c b) true
 
-abbrev pub six : Judge
-six = record { leaf = λ k c b p q. unless (tableIn k c b) p; node = λ k xs home p. Fine; end = λ xs p. Fine }
-
 abbrev pub sixRule : Rule
 sixRule = record { leaf = tableIn; node = λ k xs. true; end = λ xs. true }
+
+abbrev pub six : Judge
+six = placed sixRule
 
 -- it holds of the tables that the boxes of an `stbl` have first
 unfoldable pub sixHolds : List Box → Bool

@@ -7,6 +7,7 @@ use Rattle.wire.specs.Tests.{pick}
 use Rattle.verdict.specs.declared.Verdict.{Verdict}
 use Rattle.verdict.specs.declared.Verdict.the-variants.{Fine, Bad}
 use Rattle.verdict.specs.Verdict.{sooner, unless, isFine}
+use Rattle.verdict.specs.Rule.{Rule, placed, Says}
 
 pub fine-is : (v : Verdict) → isFine v ≡ true → v ≡ Fine
 fine-is Fine e = refl
@@ -50,6 +51,9 @@ pub unless-fine : (t : Bool) (p : ℕ) → isFine (unless t p) ≡ t
 unfolding unless
 unless-fine true p = refl
 unless-fine false p = refl
+
+pub placed-says : (r : Rule) → Says (placed r) r
+placed-says r = record { leaf = λ k c b p q. unless-fine _ p; node = λ k xs home p. unless-fine _ home; end = λ xs p. unless-fine _ p }
 
 pub unless-yea : (t : Bool) (p : ℕ) → true ≡ t → Fine ≡ unless t p
 unfolding unless

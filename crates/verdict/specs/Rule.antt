@@ -7,7 +7,7 @@ use Rattle.wire.specs.Tests.{pick, ifEq}
 use Rattle.boxes.specs.Box.{Box}
 use Rattle.boxes.specs.Boxes.{boxes, after}
 use Rattle.boxes.specs.Containers.{kindIn}
-use Rattle.verdict.specs.Verdict.{isFine}
+use Rattle.verdict.specs.Verdict.{unless, isFine}
 use Rattle.verdict.specs.Judge.{Judge}
 
 pub record Rule : Type 0 where
@@ -25,6 +25,15 @@ allBox r go k x = ifEq (kindIn k (x .code)) 0 (r .leaf k (x .code) (x .body)) (g
 unfoldable pub allIn : Rule → ℕ → ℕ → List ℕ → Bool
 allIn r zero k xs = true
 allIn r (suc d) k xs = pick (r .node k xs) (allList (allBox r (λ i ys. allIn r d i ys) k) (r .end (after xs)) (boxes xs)) false
+
+-- the judge that names what breaks a rule by its own place: an opaque box, a container, the bytes past the last whole box
+abbrev pub placed : Rule → Judge
+placed r =
+    record {
+      leaf = λ k c b p q. unless (r .leaf k c b) p;
+      node = λ k xs home p. unless (r .node k xs) home;
+      end = λ xs p. unless (r .end xs) p;
+    }
 
 -- a judge that asks what a rule asks, with places
 pub record Says (j : Judge) (r : Rule) : Type 0 where
