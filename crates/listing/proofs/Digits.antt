@@ -2,13 +2,10 @@
 use Prim.Native.Nat.{ℕ, zero, suc, _+_, _/_, _%_, _^_, _≤_, _<_}
 use native.Mathlib.Omega.{arith}
 use mathlib.Core.Path.{_≡_, refl, sym, ap, _∙_}
-use mathlib.Core.Bool.{Bool, true, false}
 use mathlib.Core.List.{List, [], _∷_, _++_}
-use lib.Dec.{ltb}
 use lib.ListN.{length, length-append}
-use borrow.Author.Tests.{ltb-true, ltb-false}
 use Rattle.wire.specs.Writing.{Put}
-use Rattle.wire.proofs.Tests.{lt-yea, lt-nay}
+use Rattle.wire.proofs.Tests.{lt-yea, lt-nay, lt-or}
 use Rattle.wire.proofs.Writing.{pen-then, pen-is}
 use Rattle.listing.specs.Decimal.{decimalBy, decimal, labelled}
 
@@ -16,13 +13,10 @@ use Rattle.listing.specs.Decimal.{decimalBy, decimal, labelled}
 enough : (j k n : ℕ) → n < j → n < k → decimalBy j n ≡ decimalBy k n
 enough zero k n h l = absurd (omega arith)
 enough (suc j) zero n h l = absurd (omega arith)
-enough (suc j) (suc k) n h l = go (ltb n 10) refl (λ g. enough j k (n / 10) (omega arith) (omega arith))
-  where
-    go : (t : Bool) → ltb n 10 ≡ t → (10 ≤ n → decimalBy j (n / 10) ≡ decimalBy k (n / 10)) → decimalBy (suc j) n ≡ decimalBy (suc k) n
-    go true e ih = sym (lt-yea n 10 _ _ _ (ltb-true n 10 e) refl) ∙ lt-yea n 10 _ _ _ (ltb-true n 10 e) refl
-    go false e ih =
-        let g = ltb-false n 10 e in
-        sym (lt-nay n 10 _ _ _ g refl) ∙ lt-nay n 10 _ _ _ g (ap (λ (t : List ℕ). t ++ (48 + n % 10) ∷ []) (ih g))
+enough (suc j) (suc k) n h l =
+    lt-or n 10
+    (λ g. sym (lt-yea n 10 _ _ _ g refl) ∙ lt-yea n 10 _ _ _ g refl)
+    (λ g. sym (lt-nay n 10 _ _ _ g refl) ∙ lt-nay n 10 _ _ _ g (ap (λ (t : List ℕ). t ++ (48 + n % 10) ∷ []) (enough j k (n / 10) (omega arith) (omega arith))))
 
 decimal-one : (n : ℕ) → n < 10 → (48 + n) ∷ [] ≡ decimal n
 unfolding decimal
@@ -35,11 +29,10 @@ decimal-more n h = lt-nay n 10 _ _ _ h (ap (λ (t : List ℕ). t ++ (48 + n % 10
 -- at most k + 1 digits below 10 ^ (k + 1)
 decimal-short : (k n : ℕ) → n < 10 ^ suc k → length (decimal n) ≤ suc k
 decimal-short zero n h = rw (← decimal-one n (omega arith)) (omega arith)
-decimal-short (suc k) n h = go (ltb n 10) refl (decimal-short k (n / 10) (omega arith))
-  where
-    go : (t : Bool) → ltb n 10 ≡ t → length (decimal (n / 10)) ≤ suc k → length (decimal n) ≤ suc (suc k)
-    go true e ih = rw (← decimal-one n (ltb-true n 10 e)) (omega arith)
-    go false e ih = rw (← decimal-more n (ltb-false n 10 e), length-append) (omega arith)
+decimal-short (suc k) n h =
+    lt-or n 10
+    (λ g. rw (← decimal-one n g) (omega arith))
+    (λ g. rw (← decimal-more n g, length-append) (omega (arith, decimal-short k (n / 10) (omega arith))))
 
 pub decimal-20 : (n : ℕ) → n < 18446744073709551616 → length (decimal n) ≤ 20
 decimal-20 n h = decimal-short 19 n (omega arith)

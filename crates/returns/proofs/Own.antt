@@ -2,12 +2,9 @@
 use Prim.Native.Nat.{ℕ, zero, suc, _+_, _≤_, _<_}
 use native.Mathlib.Omega.{arith}
 use mathlib.Core.Path.{_≡_, refl, sym, ap}
-use mathlib.Core.Bool.{Bool, true, false}
 use mathlib.Core.List.{List, [], _∷_, _++_, append-nil}
-use lib.Dec.{eqb}
-use Rattle.wire.specs.Tests.{pick, ifEq}
 use Rattle.wire.specs.Codes.{TRAK}
-use Rattle.wire.proofs.Tests.{eq-yea, eq-nay}
+use Rattle.wire.proofs.Tests.{eq-yea, eq-nay, through}
 use Rattle.boxes.specs.Box.{Box, size, header}
 use Rattle.boxes.specs.Seek.{count, nth, startIn}
 use Rattle.boxes.proofs.Meaning.{count-hit, count-miss, nth-hit, nth-next, nth-miss, place-hit, place-next, place-miss}
@@ -18,13 +15,9 @@ use Rattle.returns.proofs.Boxed.{Each}
 use Rattle.returns.proofs.Boxed.Each.{none, track, other}
 
 own-append : (u : ℕ) (d e : List Entry) → own u (d ++ e) ≡ own u d ++ own u e
-unfolding own ifEq
+unfolding own
 own-append u [] e = refl
-own-append u (x ∷ d) e = go (eqb (x .track) u) (own-append u d e)
-  where
-    go : (t : Bool) → own u (d ++ e) ≡ own u d ++ own u e → pick t (x ∷ own u (d ++ e)) (own u (d ++ e)) ≡ pick t (x ∷ own u d) (own u d) ++ own u e
-    go true ih = ap (λ (k : List Entry). x ∷ k) ih
-    go false ih = ih
+own-append u (x ∷ d) e = rw (own-append u d e) (sym (through (λ k. k ++ own u e) (x .track) u (x ∷ own u d) (own u d)))
 
 -- ---- one track
 

@@ -2,16 +2,14 @@
 use Prim.Native.Nat.{ℕ, zero, suc, _+_, _-_, _*_, _≤_}
 use native.Mathlib.Omega.{arith}
 use mathlib.Core.Path.{_≡_, refl, sym, ap, _∙_}
-use mathlib.Core.Bool.{Bool, true, false}
 use mathlib.Core.List.{List, [], _∷_, _++_, append-nil}
-use lib.Dec.{leb}
 use lib.ListN.{length, take, drop, replicate, length-append, length-replicate, drop-of-length-le}
 use lib.Seq.{take-all, take-length, take-add, length-take-le, take-nil}
-use borrow.Author.Tests.{leb-true, leb-false}
 use Rattle.wire.specs.Numbers.{word}
 use Rattle.wire.specs.Writing.{Put}
 use Rattle.wire.proofs.Numbers.{length-bytes}
 use Rattle.wire.proofs.Writing.{pen-front}
+use Rattle.wire.proofs.Tests.{lt-or}
 use Rattle.movie.specs.Entries.{Entry}
 use Rattle.sheet.specs.Sheet.{SLOT, slot, slots, bodies, front, bodiesAt}
 use Rattle.table.specs.Form.{read}
@@ -47,18 +45,16 @@ front-made k n es {r} e h p =
 -- ---- the bodies are what follows, as far as they go
 
 prefix-step : (m : ℕ) (ys bs : List ℕ) → bs ≡ take (length bs) (drop m ys) → take m ys ++ bs ≡ take (length (take m ys ++ bs)) ys
-prefix-step m ys bs h = go (leb m (length ys)) refl
-  where
-    go : (t : Bool) → leb m (length ys) ≡ t → take m ys ++ bs ≡ take (length (take m ys ++ bs)) ys
-    go true e =
-        let l = length-take-le m ys (leb-true m (length ys) e) in
-        rw (length-append, l, take-add m (length bs) ys) (ap (λ (t : List ℕ). take m ys ++ t) h)
-    go false e =
-        let f = leb-false m (length ys) e in
-        let d : drop m ys ≡ [] = drop-of-length-le ys {i = m} (omega arith) in
-        let b : bs ≡ [] = h ∙ rw d (take-nil (length bs)) in
-        let a : take m ys ≡ ys = take-all m ys (omega arith) in
-        rw (b, a, append-nil) (sym (take-length ys))
+prefix-step m ys bs h =
+    lt-or (length ys) m
+    (λ f.
+    let d : drop m ys ≡ [] = drop-of-length-le ys {i = m} (omega arith) in
+    let b : bs ≡ [] = h ∙ rw d (take-nil (length bs)) in
+    let a : take m ys ≡ ys = take-all m ys (omega arith) in
+    rw (b, a, append-nil) (sym (take-length ys)))
+    (λ f.
+    let l = length-take-le m ys f in
+    rw (length-append, l, take-add m (length bs) ys) (ap (λ (t : List ℕ). take m ys ++ t) h))
 
 pub bodies-prefix : (n : ℕ) (xs ys : List ℕ) → bodies (read n xs ys) ≡ take (length (bodies (read n xs ys))) ys
 unfolding read bodies

@@ -1,15 +1,13 @@
 -- Laws of a track's own entries. Assumes nothing.
-use Prim.Native.Nat.{ℕ, _+_, _-_, _≤_}
+use Prim.Native.Nat.{ℕ, suc, _+_, _-_, _≤_}
 use native.Mathlib.Omega.{arith}
-use mathlib.Core.Path.{_≡_, refl, sym}
-use mathlib.Core.Bool.{Bool, true, false}
+use mathlib.Core.Path.{_≡_, refl, sym, _∙_}
 use mathlib.Core.List.{List, [], _∷_, _++_}
-use lib.Dec.{eqb}
 use lib.ListN.{length, take, getD}
-use Rattle.wire.specs.Tests.{pick, ifEq}
+use Rattle.wire.specs.Tests.{ifEq}
 use Rattle.wire.specs.Numbers.{word}
 use Rattle.wire.specs.Writing.{Put}
-use Rattle.wire.proofs.Tests.{eq-yea, eq-nay, eq-any}
+use Rattle.wire.proofs.Tests.{eq-yea, eq-nay, eq-any, through}
 use Rattle.wire.proofs.Writing.{pen-none, pen-then, pen-is}
 use Rattle.movie.specs.Entries.{Entry}
 use Rattle.sheet.specs.Sheet.{bodies}
@@ -18,20 +16,14 @@ use Rattle.table.specs.Table.{own}
 use Rattle.table.proofs.Reading.{Past, read-none, read-more}
 
 if-length : (a t : ℕ) (e : Entry) (es : List Entry) → length (ifEq a t (e ∷ es) es) ≡ ifEq a t 1 0 + length es
-unfolding ifEq
-if-length a t e es = go (eqb a t)
-  where
-    go : (b : Bool) → length (pick b (e ∷ es) es) ≡ pick b 1 0 + length es
-    go true = omega arith
-    go false = omega arith
+if-length a t e es =
+    let p : 1 + length es ≡ suc (length es) = omega arith in
+    let q : 0 + length es ≡ length es = omega arith in
+    through length a t (e ∷ es) es ∙ sym (rw (p, q) at (through (λ n. n + length es) a t 1 0))
 
 if-bodies : (a t : ℕ) (e : Entry) (es : List Entry) → bodies (ifEq a t (e ∷ es) es) ≡ ifEq a t (e .bytes) [] ++ bodies es
-unfolding ifEq bodies
-if-bodies a t e es = go (eqb a t)
-  where
-    go : (b : Bool) → bodies (pick b (e ∷ es) es) ≡ pick b (e .bytes) [] ++ bodies es
-    go true = refl
-    go false = refl
+unfolding bodies
+if-bodies a t e es = through bodies a t (e ∷ es) es ∙ sym (through (λ xs. xs ++ bodies es) a t (e .bytes) [])
 
 pub one-most : (a t : ℕ) → ifEq a t 1 0 ≤ 1
 one-most a t = eq-any (λ n. n ≤ 1) a t 1 0 (omega arith) (omega arith)

@@ -2,12 +2,10 @@
 use Prim.Native.Nat.{ℕ, _+_, _≤_, _<_}
 use native.Mathlib.Omega.{arith}
 use mathlib.Core.Path.{_≡_, refl, sym, _∙_}
-use mathlib.Core.Bool.{Bool, true, false}
+use mathlib.Core.Bool.{true}
 use mathlib.Core.List.{List, [], _∷_}
-use lib.Dec.{eqb}
 use lib.ListN.{length}
-use borrow.Author.Tests.{eqb-true, eqb-false}
-use Rattle.wire.proofs.Tests.{both, eq-yea, eq-nay}
+use Rattle.wire.proofs.Tests.{both, eq-yea, eq-nay, eq-or}
 use Rattle.wire.proofs.Clauses.{le-is, clause}
 use Rattle.movie.specs.Entries.{Entry}
 use Rattle.table.specs.Form.{follows, steps}
@@ -54,14 +52,8 @@ track-above t (e ∷ es) h = own-other t e es (λ z. omega arith) ∙ track-abov
 pub track-some : (p t : ℕ) (es : List Entry) → steps p es ≡ true → p < t → t ≤ highest es → 1 ≤ length (own t es)
 unfolding highest
 track-some p t [] s l h = absurd (omega arith)
-track-some p t (e ∷ es) s l h = go (eqb (e .track) t) refl (track-some (e .track) t es (f .1))
-  where
-    f : Follows p (e .track) × (steps (e .track) es ≡ true)
-    f = steps-first p e es s
-
-    go : (b : Bool) → eqb (e .track) t ≡ b → (e .track < t → t ≤ highest es → 1 ≤ length (own t es)) → 1 ≤ length (own t (e ∷ es))
-    go true d ih = rw (own-first t e es (eqb-true _ _ d)) (omega arith)
-    go false d ih =
-        let n = eqb-false (e .track) t d in
-        let u : e .track < t = omega (arith, f .0 .skips, n) in
-        rw (own-other t e es n) (ih u (omega arith))
+track-some p t (e ∷ es) s l h =
+    let f = steps-first p e es s in
+    eq-or (e .track) t
+    (λ d. rw (own-first t e es d) (omega arith))
+    (λ n. let u : e .track < t = omega (arith, f .0 .skips) in rw (own-other t e es n) (track-some (e .track) t es (f .1) u (omega arith)))
