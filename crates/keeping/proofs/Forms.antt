@@ -3,8 +3,8 @@ use Prim.Native.Nat.{ℕ}
 use mathlib.Core.Path.{_≡_, sym, ap, subst, _∙_}
 use mathlib.Core.Bool.{Bool, true}
 use mathlib.Core.List.{List}
-use Rattle.wire.proofs.Tests.{if-kept}
 use Rattle.wire.specs.Codes.{STBL, STTS, STSC, STSZ, STCO}
+use Rattle.wire.proofs.Tests.{if-kept}
 use Rattle.boxes.specs.Kin.{Leaf}
 use Rattle.tables.specs.Tables.{tableForm}
 use Rattle.tables.specs.Sizes.{sizesForm}
