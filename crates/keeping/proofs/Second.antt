@@ -11,11 +11,11 @@ use Rattle.boxes.proofs.Meaning.{meant-no}
 use Rattle.media.specs.Payloads.{mdats}
 use Rattle.media.proofs.Payloads.{mdat-or, mdats-hit, mdats-miss}
 use Rattle.shape.specs.Shape.{first}
-use Rattle.moving.proofs.Order.{second-length}
 use Rattle.moving.specs.Moving.{moovSecond}
-use Rattle.keeping.proofs.Arranges.{Arranges}
+use Rattle.moving.proofs.Order.{second-length}
 use Rattle.moving.proofs.Sifting.{seconded, each-second}
 use Rattle.moving.proofs.Mapping.{second-maps}
+use Rattle.keeping.proofs.Arranges.{Arranges}
 
 -- ---- what the rules read
 

@@ -10,13 +10,13 @@ use Rattle.boxes.specs.Boxes.{boxes}
 use Rattle.boxes.specs.Seek.{count}
 use Rattle.boxes.proofs.Reading.{write-boxes}
 use Rattle.boxes.proofs.Meaning.{meant-yes}
+use Rattle.media.proofs.Staying.{alike-refl}
 use Rattle.judge.specs.Acceptance.{Meets}
 use Rattle.settle.specs.Settle.{settled}
 use Rattle.settle.proofs.Accepted.{file-tiled, one-moov}
 use Rattle.settle.proofs.Settled.{settled-same}
 use Rattle.moving.specs.Moving.{moovSecond, moveOf}
 use Rattle.moving.proofs.Order.{second-is}
-use Rattle.media.proofs.Staying.{alike-refl}
 
 module _ (xs : List ℕ) (v : Bytes xs) (m : Meets xs) where
   -- the file is its boxes, written

@@ -1,9 +1,9 @@
 use borrow.Author.Needs.{needs}
-use Rattle.moving.proofs.Calls.{move-none, move-from, move-done}
 use Rattle.wire.specs.Codes.{MOOV}
+use Rattle.boxes.proofs.Cutting.{cut-as, none-as}
+use Rattle.moving.proofs.Calls.{move-none, move-from, move-done}
 use Rattle.moving.proofs.write_moved.Statement.{statement}
 use Rattle.moving.proofs.write_moved.Tie as tie
-use Rattle.boxes.proofs.Cutting.{cut-as, none-as}
 
 pub write-moved-spec : {M : Type 1} → statement M
 write-moved-spec = tie.close (tie.spec
