@@ -8,8 +8,8 @@ use lib.ListN.{drop}
 use Rattle.wire.specs.Tests.{ifEq}
 use Rattle.wire.specs.Numbers.{word}
 use Rattle.wire.specs.Codes.{MDIA, MDHD, HDLR, MINF, DINF, DREF, STBL, STSD}
-use Rattle.boxes.specs.Boxes.{boxes, FRONT}
 use Rattle.wire.proofs.Tests.{through}
+use Rattle.boxes.specs.Boxes.{boxes, FRONT}
 use Rattle.boxes.specs.Seek.{ANY, find}
 use Rattle.boxes.specs.Containers.{kindIn, parent}
 use Rattle.boxes.specs.Kin.{Leaf, Kin}

@@ -10,8 +10,8 @@ use Rattle.boxes.specs.Containers.{FILE, DEPTH}
 use Rattle.boxes.specs.Kin.{Kin}
 use Rattle.verdict.specs.declared.Answer.the-variants.{Done}
 use Rattle.moving.specs.Moving.{moovSecond, moveOf, moveAnswer}
-use Rattle.shift.specs.Shift.{shiftOf, shiftAnswer}
 use Rattle.replace.specs.Replace.{replaceOf, replaceAnswer}
+use Rattle.shift.specs.Shift.{shiftOf, shiftAnswer}
 use Rattle.keeping.proofs.Done.{move-passed, shift-passed, replace-passed}
 use Rattle.differs.specs.Differs.{OnlyOffsets, OnlyTimes, Replaces}
 use Rattle.differs.proofs.Moving.{move-order, move-differs}

@@ -14,22 +14,22 @@ use Rattle.boxes.specs.Box.{Box}
 use Rattle.boxes.specs.Boxes.{boxes}
 use Rattle.boxes.specs.Seek.{meant}
 use Rattle.boxes.specs.Containers.{LONGEST}
-use Rattle.entries.specs.Entries.{FRAMES}
-use Rattle.entries.specs.Decoders.{recordRule}
 use Rattle.media.specs.Payloads.{mdats}
 use Rattle.media.proofs.Mdats.{kin-mdats}
 use Rattle.movie.specs.declared.entry.Spot.{Spot}
 use Rattle.movie.specs.declared.entry.Spot.the-variants.{In, Past}
 use Rattle.movie.specs.Movie.{movie}
 use Rattle.movie.specs.Named.{held, heldIn, spotIn}
+use Rattle.entries.specs.Entries.{FRAMES}
+use Rattle.entries.specs.Decoders.{recordRule}
 use Rattle.judge.specs.Acceptance.{Meets}
 use Rattle.settle.specs.Settle.{settled}
 use Rattle.settle.proofs.Settled.{settled-length}
 use Rattle.moving.specs.Moving.{moveOf}
-use Rattle.shift.specs.Shift.{shiftOf}
 use Rattle.replace.specs.Replace.{kindAt, recordAt, replaced, replaceOf}
 use Rattle.replace.proofs.Taking.{record-first}
 use Rattle.replace.proofs.Written.{spot-none}
+use Rattle.shift.specs.Shift.{shiftOf}
 use Rattle.keeping.proofs.Named.{entry-in}
 use Rattle.keeping.proofs.Second.{second}
 use Rattle.differs.specs.Differs.{OnlyOffsets, OnlyTimes, OnlyRecord, keptOf, Replaces}

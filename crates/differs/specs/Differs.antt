@@ -11,10 +11,10 @@ use Rattle.boxes.specs.Containers.{FILE, DEPTH}
 use Rattle.boxes.specs.Seek.{ANY}
 use Rattle.boxes.specs.Kin.{Kin}
 use Rattle.boxes.specs.Way.{overTurn, tailBy}
-use Rattle.heads.specs.Heads.{headSize}
 use Rattle.movie.specs.declared.entry.Spot.the-variants.{In}
 use Rattle.movie.specs.Movie.{movie, track, table}
 use Rattle.movie.specs.Named.{spotIn}
+use Rattle.heads.specs.Heads.{headSize}
 use Rattle.replace.specs.Replace.{kindAt}
 
 -- two bodies of the same length, with the same bytes before place `from` and the same from place `to` on

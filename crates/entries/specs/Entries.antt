@@ -9,10 +9,10 @@ use Rattle.boxes.specs.Boxes.{boxes}
 use Rattle.boxes.specs.Seek.{tilingOf, count}
 use Rattle.boxes.specs.declared.seek.Tiling.{Tiling}
 use Rattle.boxes.specs.declared.seek.Tiling.the-variants.{Whole, Torn}
-use Rattle.entries.specs.declared.rule.Around.{Around}
-use Rattle.entries.specs.declared.rule.Around.the-variants.{Track, Alone}
 use Rattle.heads.specs.Kinds.{kindOf, handlerOf}
 use Rattle.heads.specs.Heads.{headSize, headRule}
+use Rattle.entries.specs.declared.rule.Around.{Around}
+use Rattle.entries.specs.declared.rule.Around.the-variants.{Track, Alone}
 use Rattle.entries.specs.Decoders.{boxRule, recordRule}
 
 -- the largest frames_per_sample

@@ -8,8 +8,8 @@ use lib.ListN.{length, getD, take, drop}
 use lib.Seq.{drop-cons, drop-length}
 use Rattle.wire.specs.Tests.{ifEq}
 use Rattle.wire.specs.Numbers.{Bytes}
-use Rattle.entries.specs.Entries.{FRAMES}
 use Rattle.wire.proofs.Tests.{eq-ways}
+use Rattle.entries.specs.Entries.{FRAMES}
 use Rattle.records.specs.declared.field.Record.{Record}
 use Rattle.records.specs.declared.field.Record.the-variants.{Speech, Picture, Broken}
 use Rattle.records.specs.Texts.{textOf}
@@ -18,8 +18,8 @@ use Rattle.records.proofs.Reading.{written-reads}
 use Rattle.records.proofs.Rewriting.{read-writes}
 use Rattle.verdict.specs.declared.Answer.the-variants.{Done}
 use Rattle.verdict.specs.Answers.{inRoom, outBy}
-use Rattle.fields.specs.Numbers.{recordOf, readAnswer, readOut, writeAnswer, writeOut}
 use Rattle.verdict.proofs.Answers.{room-taken}
+use Rattle.fields.specs.Numbers.{recordOf, readAnswer, readOut, writeAnswer, writeOut}
 use Rattle.fields.proofs.Rooms.{when-some, some-read, rule-room, rule-done, rule-some}
 
 -- ---- records and their numbers

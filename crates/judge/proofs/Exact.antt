@@ -16,8 +16,8 @@ use Rattle.verdict.specs.declared.Verdict.the-variants.{Fine, Bad}
 use Rattle.verdict.specs.Rule.{Rule, Says}
 use Rattle.verdict.proofs.Acceptance.{fine-all, all-fine}
 use Rattle.shape.specs.Rules.{twoRule, threeRule}
-use Rattle.headers.specs.Four.{fourRule}
 use Rattle.lists.specs.Rules.{fiveRule, nineRule}
+use Rattle.headers.specs.Four.{fourRule}
 use Rattle.tracks.specs.Six.{sixRule}
 use Rattle.tracks.specs.Seven.{sevenRule}
 use Rattle.tracks.specs.Eight.{eightRule}

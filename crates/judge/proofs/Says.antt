@@ -6,15 +6,15 @@ use Rattle.verdict.specs.Verdict.{unless}
 use Rattle.verdict.specs.Rule.{Says}
 use Rattle.verdict.proofs.Places.{placed-says}
 use Rattle.shape.specs.Rules.{twoRule, threeRule, plainRule}
-use Rattle.headers.specs.Four.{fourRule}
 use Rattle.lists.specs.Rules.{fiveRule, nineRule}
+use Rattle.lists.proofs.Rules.{five-says, nine-says}
+use Rattle.headers.specs.Four.{fourRule}
+use Rattle.headers.proofs.Rule4.{four-says}
 use Rattle.tracks.specs.Six.{sixRule}
 use Rattle.tracks.specs.Seven.{sevenRule}
 use Rattle.tracks.specs.Eight.{eightRule}
-use Rattle.descriptions.specs.Ten.{tenRule}
-use Rattle.headers.proofs.Rule4.{four-says}
-use Rattle.lists.proofs.Rules.{five-says, nine-says}
 use Rattle.tracks.proofs.KeptEight.{eight-says}
+use Rattle.descriptions.specs.Ten.{tenRule}
 use Rattle.descriptions.proofs.Kept.{ten-says}
 use Rattle.judge.specs.Rules.{leafBy, nodeBy, endBy, judgeBy}
 

@@ -8,8 +8,8 @@ use Rattle.boxes.specs.Boxes.{boxes}
 use Rattle.boxes.specs.Containers.{FILE, DEPTH, LONGEST}
 use Rattle.verdict.specs.Rule.{Rule, allIn}
 use Rattle.shape.specs.Rules.{twoRule, threeRule, plainRule}
-use Rattle.headers.specs.Four.{fourRule}
 use Rattle.lists.specs.Rules.{fiveRule, nineRule}
+use Rattle.headers.specs.Four.{fourRule}
 use Rattle.tracks.specs.Six.{sixRule}
 use Rattle.tracks.specs.Seven.{sevenRule}
 use Rattle.tracks.specs.Eight.{eightRule}

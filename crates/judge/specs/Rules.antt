@@ -9,8 +9,8 @@ use Rattle.verdict.specs.declared.Verdict.{Verdict}
 use Rattle.verdict.specs.declared.Verdict.the-variants.{Fine, Bad}
 use Rattle.verdict.specs.Judge.{Judge, judgeIn}
 use Rattle.shape.specs.Rules.{two, three, plain}
-use Rattle.headers.specs.Four.{four}
 use Rattle.lists.specs.Rules.{five, nine}
+use Rattle.headers.specs.Four.{four}
 use Rattle.tracks.specs.Six.{six}
 use Rattle.tracks.specs.Seven.{seven}
 use Rattle.tracks.specs.Eight.{eight}

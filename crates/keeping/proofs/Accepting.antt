@@ -13,10 +13,10 @@ use Rattle.verdict.specs.Rule.{Rule}
 use Rattle.shape.specs.Shape.{needed, besides, shape}
 use Rattle.shape.specs.Rules.{twoRule, threeRule, plainRule}
 use Rattle.shape.proofs.Keeping.{same-exactly, kin-2, kin-3, kin-plain}
-use Rattle.headers.specs.Four.{tracksFine, fourRule}
-use Rattle.headers.proofs.Rule4.{kin-4}
 use Rattle.lists.specs.Rules.{fiveRule, nineRule}
 use Rattle.lists.proofs.Keeping.{kin-5, kin-9}
+use Rattle.headers.specs.Four.{tracksFine, fourRule}
+use Rattle.headers.proofs.Rule4.{kin-4}
 use Rattle.tracks.specs.Six.{sixRule}
 use Rattle.tracks.specs.Seven.{sevenIn, sevenRule}
 use Rattle.tracks.specs.Eight.{eightIn, eightRule}

@@ -16,13 +16,13 @@ use Rattle.boxes.specs.Seek.{ANY, count}
 use Rattle.boxes.specs.Way.{tailBy}
 use Rattle.boxes.proofs.Whole.{Good}
 use Rattle.boxes.proofs.Numbered.{count-append}
-use Rattle.entries.specs.Entries.{FRAMES}
 use Rattle.heads.specs.Kinds.{kindOf}
 use Rattle.heads.specs.Heads.{headSize}
+use Rattle.entries.specs.Entries.{FRAMES}
 use Rattle.entries.specs.declared.rule.Around.{Around}
 use Rattle.entries.specs.Decoders.{recordRule}
-use Rattle.lists.specs.Forms.{stored, listForm}
 use Rattle.verdict.specs.Rule.{allList}
+use Rattle.lists.specs.Forms.{stored, listForm}
 use Rattle.descriptions.specs.Ten.{entryFine, entriesFine}
 use Rattle.keeping.proofs.Entry.{entry-changed}
 

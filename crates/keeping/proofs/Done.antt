@@ -14,15 +14,15 @@ use Rattle.entries.specs.Entries.{FRAMES}
 use Rattle.entries.specs.Decoders.{recordRule}
 use Rattle.verdict.specs.declared.Answer.{Answer}
 use Rattle.verdict.specs.declared.Answer.the-variants.{Done, Refused}
+use Rattle.verdict.proofs.Answers.{refused-not}
 use Rattle.judge.specs.declared.Judgement.the-variants as judgement
 use Rattle.judge.specs.Judgement.{judged}
 use Rattle.judge.specs.Acceptance.{Meets, plain}
-use Rattle.verdict.proofs.Answers.{refused-not}
 use Rattle.judge.proofs.Calls.{when-done}
 use Rattle.judge.proofs.Exact.{accepted-meets, meets-accepted}
 use Rattle.moving.specs.Moving.{moveOf, moveAnswer}
-use Rattle.shift.specs.Shift.{shiftOf, shiftAnswer}
 use Rattle.replace.specs.Replace.{kindAt, takes, replaceOf, roomAnswer, settledAnswer, takenAnswer, replaceAnswer}
+use Rattle.shift.specs.Shift.{shiftOf, shiftAnswer}
 use Rattle.keeping.specs.Kept.{Kept}
 use Rattle.keeping.proofs.Edits.{keeps-move, keeps-shift, keeps-replace}
 

@@ -6,20 +6,20 @@ use lib.IntN.{ℤ}
 use lib.ListN.{length}
 use Rattle.wire.specs.Numbers.{Bytes}
 use Rattle.boxes.specs.Containers.{LONGEST}
-use Rattle.entries.specs.Entries.{FRAMES}
-use Rattle.clocks.specs.Clocks.{shiftTime}
 use Rattle.boxes.specs.Boxes.{HEAD}
-use Rattle.heads.specs.Heads.{headSize}
-use Rattle.entries.specs.Decoders.{recordRule}
+use Rattle.clocks.specs.Clocks.{shiftTime}
 use Rattle.movie.specs.declared.entry.Spot.{Spot}
 use Rattle.movie.specs.declared.entry.Spot.the-variants.{In, Past}
 use Rattle.movie.specs.Movie.{movie}
 use Rattle.movie.specs.Named.{spotIn}
+use Rattle.heads.specs.Heads.{headSize}
+use Rattle.entries.specs.Entries.{FRAMES}
+use Rattle.entries.specs.Decoders.{recordRule}
 use Rattle.judge.specs.Acceptance.{Meets}
 use Rattle.settle.specs.Settle.{settled}
 use Rattle.settle.proofs.Settled.{settled-length}
-use Rattle.replace.specs.Replace.{kindAt, recordAt, replaced, replaceOf}
 use Rattle.moving.specs.Moving.{moveOf}
+use Rattle.replace.specs.Replace.{kindAt, recordAt, replaced, replaceOf}
 use Rattle.shift.specs.Shift.{shiftOf}
 use Rattle.keeping.specs.Kept.{Kept}
 use Rattle.keeping.proofs.Content.{content-same}

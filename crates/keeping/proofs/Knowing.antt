@@ -12,8 +12,7 @@ use Rattle.boxes.specs.Boxes.{boxes}
 use Rattle.boxes.specs.Containers.{kindIn}
 use Rattle.boxes.specs.Kin.{All2, Leaf, Kin}
 use Rattle.boxes.specs.Kin.All2.{nil, cons}
-use Rattle.boxes.proofs.Reading.{lengths, length-cons}
-use Rattle.boxes.proofs.Reading.{All}
+use Rattle.boxes.proofs.Reading.{lengths, length-cons, All}
 use Rattle.boxes.proofs.Reading.All.{none, some}
 use Rattle.boxes.proofs.Every.{all-map}
 use Rattle.verdict.specs.Rule.{Rule, allIn}

@@ -13,13 +13,13 @@ use Rattle.boxes.specs.Seek.{ANY, count}
 use Rattle.boxes.proofs.Whole.{Good}
 use Rattle.boxes.proofs.Reading.{parts, lengths, length-cons, write-append}
 use Rattle.boxes.proofs.Every.{all-here}
-use Rattle.heads.specs.Kinds.{kindOf}
 use Rattle.movie.specs.declared.entry.Spot.the-variants.{In}
 use Rattle.movie.specs.Movie.{movie, track, table}
 use Rattle.movie.specs.Entries.{entries}
 use Rattle.movie.specs.Named.{listIn, spotIn, bytesAt}
 use Rattle.movie.proofs.Finding.{track-is, table-is}
 use Rattle.movie.proofs.Naming.{bytes-list}
+use Rattle.heads.specs.Kinds.{kindOf}
 use Rattle.replace.specs.Replace.{kindAt}
 use Rattle.keeping.proofs.Entry.{code-is}
 use Rattle.keeping.proofs.Spot.{entry-split}

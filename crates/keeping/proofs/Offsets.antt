@@ -15,9 +15,9 @@ use Rattle.wire.proofs.Numbers.{word-fits}
 use Rattle.boxes.specs.Box.{Box}
 use Rattle.boxes.specs.Words.{reword, rewordLeaf}
 use Rattle.boxes.specs.Kin.{Leaf}
+use Rattle.boxes.specs.Containers.{LONGEST}
 use Rattle.boxes.proofs.Kin.{Then, Made}
 use Rattle.boxes.proofs.Wording.{reword-length}
-use Rattle.boxes.specs.Containers.{LONGEST}
 use Rattle.tables.specs.Tables.{hasForm, tableForm}
 use Rattle.tables.proofs.Tables.{form-is}
 use Rattle.media.specs.Relocate.{relocate, Relocated}

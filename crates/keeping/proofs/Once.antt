@@ -11,11 +11,11 @@ use Rattle.wire.specs.Numbers.{Bytes, word}
 use Rattle.wire.specs.Codes.{TRAK, TKHD, MDIA, MDHD, HDLR, DINF, DREF, STBL, STSD, STTS, STSC, STSZ, STCO, MDAT}
 use Rattle.boxes.specs.Containers.{FILE, DEPTH, LONGEST}
 use Rattle.boxes.specs.Kin.{Kin}
-use Rattle.boxes.proofs.Down.{Once}
 use Rattle.boxes.specs.Boxes.{FRONT}
-use Rattle.headers.specs.Forms.{ifBox, form}
+use Rattle.boxes.proofs.Down.{Once}
 use Rattle.entries.specs.declared.rule.Around.{Around}
 use Rattle.lists.specs.Forms.{listForm}
+use Rattle.headers.specs.Forms.{ifBox, form}
 use Rattle.descriptions.specs.Ten.{entriesFine}
 use Rattle.keeping.proofs.Sound.{Sound}
 use Rattle.keeping.proofs.Content.{Content}

@@ -17,12 +17,12 @@ use Rattle.boxes.proofs.Meaning.{meant-any}
 use Rattle.boxes.proofs.Down.{Once}
 use Rattle.boxes.proofs.OneOfList.{nth-by}
 use Rattle.boxes.proofs.OneOfPart.{boxes-nth, after-nth}
-use Rattle.entries.specs.Entries.{FRAMES}
-use Rattle.heads.specs.Heads.{headSize}
-use Rattle.entries.specs.Decoders.{recordRule}
 use Rattle.movie.specs.declared.entry.Spot.the-variants.{In}
 use Rattle.movie.specs.Movie.{movie, track, table}
 use Rattle.movie.specs.Named.{spotIn}
+use Rattle.heads.specs.Heads.{headSize}
+use Rattle.entries.specs.Entries.{FRAMES}
+use Rattle.entries.specs.Decoders.{recordRule}
 use Rattle.replace.specs.Replace.{kindAt, recordAt}
 use Rattle.replace.proofs.Changing.{stsd-end, toEntry, record-bytes, record-kin}
 use Rattle.replace.proofs.Taking.{record-short, record-first}

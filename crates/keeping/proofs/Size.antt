@@ -11,13 +11,13 @@ use Rattle.entries.specs.Entries.{FRAMES}
 use Rattle.entries.specs.Decoders.{recordRule}
 use Rattle.verdict.specs.declared.Answer.the-variants.{Done, Refused}
 use Rattle.verdict.specs.Answers.{inRoom}
+use Rattle.verdict.proofs.Answers.{refused-not, room-size}
 use Rattle.judge.specs.Judgement.{judged}
 use Rattle.judge.specs.Acceptance.{plain}
-use Rattle.moving.specs.Moving.{moveOf, moveAnswer}
-use Rattle.shift.specs.Shift.{shiftable, shiftOf, acceptedAnswer, shiftAnswer}
-use Rattle.replace.specs.Replace.{kindAt, takes, replaceOf, roomAnswer, settledAnswer, takenAnswer, replaceAnswer}
-use Rattle.verdict.proofs.Answers.{refused-not, room-size}
 use Rattle.judge.proofs.Calls.{when-done}
+use Rattle.moving.specs.Moving.{moveOf, moveAnswer}
+use Rattle.replace.specs.Replace.{kindAt, takes, replaceOf, roomAnswer, settledAnswer, takenAnswer, replaceAnswer}
+use Rattle.shift.specs.Shift.{shiftable, shiftOf, acceptedAnswer, shiftAnswer}
 use Rattle.keeping.proofs.Done.{pick-done, equal-done}
 
 -- of a move

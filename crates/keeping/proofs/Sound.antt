@@ -8,9 +8,9 @@ use Rattle.wire.specs.Codes.{TRAK, TKHD, DINF, DREF, STBL, STSD, MDAT}
 use Rattle.boxes.specs.Containers.{FILE, kindIn}
 use Rattle.boxes.specs.Kin.{Leaf}
 use Rattle.boxes.proofs.Kin.{Then}
-use Rattle.headers.specs.Forms.{form}
 use Rattle.lists.specs.Forms.{listForm}
 use Rattle.lists.specs.Urls.{allUrls}
+use Rattle.headers.specs.Forms.{form}
 use Rattle.tracks.proofs.Kept.{Tables}
 use Rattle.descriptions.proofs.Kept.{Described}
 

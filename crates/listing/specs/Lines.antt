@@ -6,8 +6,8 @@ use Rattle.wire.specs.Tests.{ifEq}
 use Rattle.wire.specs.Numbers.{bytes, word}
 use Rattle.wire.specs.Text.{text}
 use Rattle.wire.specs.Codes.{VIDE, SOUN, TEXT}
-use Rattle.heads.specs.Kinds.{kindOf}
 use Rattle.movie.specs.Entries.{Entry}
+use Rattle.heads.specs.Kinds.{kindOf}
 use Rattle.listing.specs.Decimal.{labelled}
 
 -- "Handlers but vide, soun, text .. print other"

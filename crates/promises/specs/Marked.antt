@@ -3,15 +3,15 @@ use Prim.Native.Nat.{ℕ}
 use mathlib.Core.Bool.{Bool, true, _&&_}
 use mathlib.Core.List.{List, [], _∷_, _++_, map}
 use lib.Dec.{eqb}
+use lib.IntN.{ℤ, pos}
 use Rattle.wire.specs.Numbers.{bytes}
 use Rattle.wire.specs.Codes.{SAMR, SAWB, SOUN}
 use Rattle.entries.specs.declared.rule.Around.the-variants.{Track, Alone}
 use Rattle.entries.specs.Entries.{entryRule}
-use lib.IntN.{ℤ, pos}
 use Rattle.verdict.specs.Answers as answer
+use Rattle.judge.specs.Judgement.{judged, number, place}
 use Rattle.shift.specs.Shift.{shiftAnswer}
 use Rattle.promises.specs.Example.{fileAt, speech}
-use Rattle.judge.specs.Judgement.{judged, number, place}
 
 -- M1 with another code, TimeScale, mode_set, period and frames, and whether it is accepted
 pub record Case : Type 0 where

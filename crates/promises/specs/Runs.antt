@@ -7,9 +7,9 @@ use Rattle.wire.specs.Numbers.{Bytes}
 use Rattle.verdict.specs.declared.Answer.{Answer}
 use Rattle.verdict.specs.declared.Answer.the-variants.{Done, Refused}
 use Rattle.verdict.specs.Answers.{outBy}
-use Rattle.shift.specs.Shift.{shiftOf, shiftAnswer}
-use Rattle.replace.specs.Replace.{replaceOf, replaceAnswer}
 use Rattle.moving.specs.Moving.{moveOf, moveAnswer}
+use Rattle.replace.specs.Replace.{replaceOf, replaceAnswer}
+use Rattle.shift.specs.Shift.{shiftOf, shiftAnswer}
 
 -- an edit, with what it is given
 pub data Edit : Type 0 where

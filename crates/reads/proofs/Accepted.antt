@@ -3,10 +3,10 @@ use Prim.Native.Nat.{ℕ, _<_}
 use native.Mathlib.Omega.{arith}
 use mathlib.Core.List.{List}
 use Rattle.tables.proofs.Rules.{seven-is}
+use Rattle.movie.specs.Movie.{tracks, track, table}
 use Rattle.tracks.proofs.Chunked.{stbl-six, stbl-seven}
 use Rattle.judge.specs.Acceptance.{Meets}
 use Rattle.judge.proofs.Tables.{track-chunked}
-use Rattle.movie.specs.Movie.{tracks, track, table}
 use Rattle.reads.specs.Tracks.{Readable}
 
 pub readable : (xs : List ℕ) → Meets xs → (t : ℕ) → t < tracks xs → Readable (track xs t)

@@ -5,11 +5,11 @@ use Rattle.wire.specs.Tests.{ifEq, ifLt}
 use Rattle.wire.specs.Codes.{STTS, STCO}
 use Rattle.tables.specs.Tables.{count, field}
 use Rattle.tables.specs.Times.{mediaTicks}
+use Rattle.movie.specs.Movie.{tracks, track, table, handler, scale, movieTicks}
 use Rattle.verdict.specs.declared.Answer.{Answer}
 use Rattle.verdict.specs.declared.Answer.the-variants.{Done, Refused}
 use Rattle.verdict.specs.Answers.{inRoom, outBy}
 use Rattle.judge.specs.Judgement.{judged, whenAccepted}
-use Rattle.movie.specs.Movie.{tracks, track, table, handler, scale, movieTicks}
 
 unfoldable pub tracksAnswer : List ℕ → Answer
 tracksAnswer xs = whenAccepted (judged xs) (Done (tracks xs))

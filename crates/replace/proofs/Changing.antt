@@ -13,8 +13,8 @@ use Rattle.boxes.specs.Containers.{FILE, DEPTH, parent, kindIn}
 use Rattle.boxes.specs.Seek.{ANY}
 use Rattle.boxes.specs.Way.{editWay, tailBy}
 use Rattle.boxes.specs.Kin.{Kin}
-use Rattle.boxes.proofs.Down.{Down, last, into, Once, endOf, way-bytes, kin-way}
 use Rattle.boxes.specs.Boxes.{FRONT}
+use Rattle.boxes.proofs.Down.{Down, last, into, Once, endOf, way-bytes, kin-way}
 use Rattle.movie.specs.declared.entry.Spot.the-variants.{In}
 use Rattle.movie.specs.Movie.{track, table}
 use Rattle.replace.specs.Replace.{turn, wayTo, recordAt}

@@ -12,13 +12,13 @@ use Rattle.wire.specs.Numbers.{word}
 use Rattle.wire.proofs.Clauses.{is-eq, not-eq, is-lt, not-lt, fails, holds, done, yea, nay}
 use Rattle.wire.proofs.Numbers.{word-out}
 use Rattle.wire.proofs.Tests.{eq-yea, eq-nay, lt-yea, lt-nay, eq-or}
-use Rattle.heads.specs.Kinds.{kindOf}
-use Rattle.entries.specs.Decoders.{recordRule}
-use Rattle.entries.proofs.Kept.{record-kinds}
 use Rattle.movie.specs.declared.entry.EntryAt.{EntryAt}
 use Rattle.movie.specs.Entries.{entries}
 use Rattle.movie.specs.Named.{EntryIs}
 use Rattle.movie.proofs.Spots.{bytes-at, bytes-none}
+use Rattle.heads.specs.Kinds.{kindOf}
+use Rattle.entries.specs.Decoders.{recordRule}
+use Rattle.entries.proofs.Kept.{record-kinds}
 use Rattle.replace.specs.Replace.{kindAt, recordCode, takes}
 
 -- ---- the kind

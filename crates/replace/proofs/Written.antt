@@ -16,15 +16,15 @@ use Rattle.boxes.specs.Containers.{FILE, DEPTH}
 use Rattle.boxes.specs.Seek.{find, Cut}
 use Rattle.boxes.specs.Rewrite.{editIn}
 use Rattle.boxes.specs.Words.{moved, rewordLeaf}
-use Rattle.entries.specs.Entries.{FRAMES}
-use Rattle.heads.specs.Heads.{headSize}
-use Rattle.entries.specs.Decoders.{recordRule}
 use Rattle.movie.specs.declared.entry.Spot.{Spot}
 use Rattle.movie.specs.declared.entry.Spot.the-variants.{In, Past}
 use Rattle.movie.specs.Movie.{movie}
 use Rattle.movie.specs.Entries.{entries}
 use Rattle.movie.specs.Named.{spotIn, SpotAs}
 use Rattle.movie.proofs.Asking.{spot-past, named-none}
+use Rattle.heads.specs.Heads.{headSize}
+use Rattle.entries.specs.Entries.{FRAMES}
+use Rattle.entries.specs.Decoders.{recordRule}
 use Rattle.settle.specs.Settle.{offsets, settled}
 use Rattle.settle.proofs.Settled.{settled-length}
 use Rattle.replace.specs.Replace.{kindAt, recordAt, replaced, replaceOf}

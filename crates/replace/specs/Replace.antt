@@ -13,15 +13,15 @@ use Rattle.boxes.specs.Boxes.{HEAD, FRONT}
 use Rattle.boxes.specs.Seek.{ANY}
 use Rattle.boxes.specs.Way.{editWay, tailBy}
 use Rattle.boxes.specs.Containers.{LONGEST}
-use Rattle.entries.specs.Entries.{FRAMES}
-use Rattle.heads.specs.Kinds.{kindOf}
-use Rattle.heads.specs.Heads.{headSize}
-use Rattle.entries.specs.Decoders.{recordRule}
 use Rattle.movie.specs.declared.entry.Spot.{Spot}
 use Rattle.movie.specs.declared.entry.Spot.the-variants.{In, Past}
 use Rattle.movie.specs.Movie.{movie}
 use Rattle.movie.specs.Entries.{entries}
 use Rattle.movie.specs.Named.{spotIn, bytesAt}
+use Rattle.heads.specs.Kinds.{kindOf}
+use Rattle.heads.specs.Heads.{headSize}
+use Rattle.entries.specs.Entries.{FRAMES}
+use Rattle.entries.specs.Decoders.{recordRule}
 use Rattle.verdict.specs.declared.Answer.{Answer}
 use Rattle.verdict.specs.declared.Answer.the-variants.{Refused}
 use Rattle.verdict.specs.Answers.{inRoom, outBy}

@@ -8,6 +8,7 @@ use Rattle.wire.specs.Clauses.{isEq}
 use Rattle.wire.proofs.Tests.{both}
 use Rattle.wire.proofs.Clauses.{is-eq, eq-is}
 use Rattle.boxes.specs.Box.{Box, size, header}
+use Rattle.movie.specs.Entries.{Entry, entriesFrom}
 use Rattle.heads.specs.Kinds.{kindOf}
 use Rattle.entries.specs.declared.rule.Around.{Around}
 use Rattle.entries.specs.declared.rule.Around.the-variants.{Alone}
@@ -15,7 +16,6 @@ use Rattle.entries.specs.Entries.{entryRule, FRAMES}
 use Rattle.entries.proofs.Judging.{rule-met, rule-is}
 use Rattle.verdict.specs.Rule.{allList}
 use Rattle.descriptions.specs.Ten.{meets, entryFine}
-use Rattle.movie.specs.Entries.{Entry, entriesFrom}
 use Rattle.table.specs.Form.{allMeet}
 
 pub alone : (a : Around) (most : ℕ) (xs : List ℕ) → entryRule a most xs ≡ 1 → entryRule Alone most xs ≡ 1

@@ -7,15 +7,15 @@ use mathlib.Core.Logic.{_⊎_}
 use lib.ListN.{length, take}
 use Rattle.wire.specs.Numbers.{Bytes}
 use Rattle.wire.proofs.Tests.{eq-yea, eq-nay, lt-nay}
-use Rattle.verdict.specs.declared.Answer.the-variants.{Done, Refused}
-use Rattle.verdict.specs.Answers.{inRoom, outBy}
-use Rattle.judge.specs.Judgement.{judged, whenAccepted}
-use Rattle.judge.specs.Acceptance.{Meets}
-use Rattle.verdict.proofs.Answers.{room-taken}
-use Rattle.judge.proofs.Calls.{when-done}
-use Rattle.judge.proofs.Exact.{accepted-meets}
 use Rattle.movie.specs.Movie.{tracks}
 use Rattle.movie.specs.Entries.{entries}
+use Rattle.verdict.specs.declared.Answer.the-variants.{Done, Refused}
+use Rattle.verdict.specs.Answers.{inRoom, outBy}
+use Rattle.verdict.proofs.Answers.{room-taken}
+use Rattle.judge.specs.Judgement.{judged, whenAccepted}
+use Rattle.judge.specs.Acceptance.{Meets}
+use Rattle.judge.proofs.Calls.{when-done}
+use Rattle.judge.proofs.Exact.{accepted-meets}
 use Rattle.sheet.specs.Sheet.{SLOTS}
 use Rattle.sheet.specs.Reader.{sheetOf, sheetAnswer, sheetOut}
 use Rattle.table.specs.Table.{own, tableAnswer, tableOut}

@@ -14,14 +14,14 @@ use Rattle.boxes.proofs.Reading.{parts}
 use Rattle.boxes.proofs.Every.{all-with}
 use Rattle.boxes.proofs.Placing.{total-is}
 use Rattle.boxes.proofs.Lying.{bytes-lies, lies-found}
+use Rattle.movie.specs.Movie.{movie, tracks, track, table}
+use Rattle.movie.specs.Entries.{entriesOf, entries}
+use Rattle.movie.proofs.Naming.{lies-track}
 use Rattle.shape.proofs.Descent.{each-track, in-track, tracks-few}
 use Rattle.lists.specs.Rules.{fiveRule}
 use Rattle.descriptions.specs.Ten.{tenRule}
 use Rattle.judge.specs.Acceptance.{Meets}
 use Rattle.judge.proofs.Tables.{file-met}
-use Rattle.movie.specs.Movie.{movie, tracks, track, table}
-use Rattle.movie.specs.Entries.{entriesOf, entries}
-use Rattle.movie.proofs.Naming.{lies-track}
 use Rattle.sheet.specs.Sheet.{SLOTS}
 use Rattle.sheet.specs.Reader.{sheetOf}
 use Rattle.sheet.proofs.Accepted.{accepted-fits}

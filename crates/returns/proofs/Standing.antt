@@ -9,12 +9,12 @@ use Rattle.wire.specs.Numbers.{Bytes}
 use Rattle.boxes.specs.Seek.{find, count}
 use Rattle.boxes.specs.Way.{boxBy}
 use Rattle.boxes.proofs.Lying.{lies-whole, Lies, bytes-lies, lies-in}
+use Rattle.movie.specs.Movie.{tracks, track, minf, stbl, table}
+use Rattle.movie.proofs.Naming.{lies-track, lies-stbl}
 use Rattle.shape.specs.Shape.{needed}
 use Rattle.shape.specs.Rules.{threeRule}
 use Rattle.shape.proofs.Descent.{needed-some, in-track, in-stbl}
 use Rattle.judge.specs.Acceptance.{Meets}
-use Rattle.movie.specs.Movie.{tracks, track, minf, stbl, table}
-use Rattle.movie.proofs.Naming.{lies-track, lies-stbl}
 use Rattle.judge.proofs.Tables.{file-met}
 use Rattle.returns.specs.Stsd.{stsdBytes, stsdIn, stsdPlace}
 

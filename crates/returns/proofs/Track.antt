@@ -6,13 +6,13 @@ use mathlib.Core.List.{List}
 use Rattle.wire.specs.Tests.{ifEq}
 use Rattle.wire.specs.Codes.{TRAK, STSD}
 use Rattle.boxes.specs.Boxes.{boxes}
+use Rattle.movie.specs.Movie.{mdia, table}
+use Rattle.movie.specs.Entries.{entriesFrom}
+use Rattle.movie.specs.Named.{listIn}
 use Rattle.shape.proofs.Descent.{Met, node-met, in-mdia}
 use Rattle.lists.specs.Forms.{Listed}
 use Rattle.lists.specs.Rules.{fiveRule}
 use Rattle.descriptions.specs.Ten.{aroundIn, entriesFine, tenIn, tenRule}
-use Rattle.movie.specs.Movie.{mdia, table}
-use Rattle.movie.specs.Entries.{entriesFrom}
-use Rattle.movie.specs.Named.{listIn}
 use Rattle.sheet.proofs.Accepted.{listed}
 use Rattle.table.specs.Form.{allMeet}
 use Rattle.returns.proofs.Alone.{from-meet}

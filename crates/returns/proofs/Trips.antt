@@ -6,6 +6,8 @@ use mathlib.Core.List.{List}
 use mathlib.Core.Logic.{_⊎_}
 use lib.ListN.{length, take, drop}
 use Rattle.wire.specs.Numbers.{Bytes}
+use Rattle.movie.specs.Movie.{tracks}
+use Rattle.movie.specs.Entries.{Entry, entries}
 use Rattle.records.specs.declared.field.Record.{Record}
 use Rattle.records.specs.declared.field.Record.the-variants.{Broken}
 use Rattle.records.specs.Fields.{fieldsRule}
@@ -15,8 +17,6 @@ use Rattle.records.proofs.Reading.{written-reads}
 use Rattle.records.proofs.Rewriting.{read-writes}
 use Rattle.verdict.specs.declared.Answer.the-variants.{Done, Refused}
 use Rattle.judge.specs.Acceptance.{Meets}
-use Rattle.movie.specs.Movie.{tracks}
-use Rattle.movie.specs.Entries.{Entry, entries}
 use Rattle.sheet.specs.Sheet.{SLOTS, sheet}
 use Rattle.sheet.specs.Reader.{sheetOf, sheetAnswer, sheetOut}
 use Rattle.table.specs.Form.{unsheet, formed}

@@ -9,14 +9,13 @@ use Rattle.wire.specs.Codes.{STSD}
 use Rattle.wire.specs.Numbers.{Bytes, bytes, word}
 use Rattle.wire.proofs.Lists.{nil-is}
 use Rattle.wire.proofs.Numbers.{bytes-drop, bytes-word}
-use Rattle.wire.proofs.Lists.{nil-is}
 use Rattle.boxes.specs.Box.{Box, size, header, write}
 use Rattle.boxes.specs.Boxes.{HEAD, boxes, after, FRONT}
 use Rattle.boxes.proofs.Reading.{write-boxes}
 use Rattle.boxes.proofs.Numbered.{count-any}
-use Rattle.lists.specs.Forms.{Listed}
 use Rattle.movie.specs.Entries.{entriesFrom}
 use Rattle.movie.proofs.Boxed.{length-from}
+use Rattle.lists.specs.Forms.{Listed}
 use Rattle.sheet.specs.Sheet.{bodies}
 use Rattle.table.specs.Table.{table}
 

@@ -1,13 +1,12 @@
 -- What the rules say of the boxes of an accepted file itself. Assumes nothing.
 use Prim.Native.Nat.{ℕ}
-use mathlib.Core.Path.{_≡_, sym, ap, _∙_}
+use mathlib.Core.Path.{_≡_, refl, sym, ap, _∙_}
 use mathlib.Core.Bool.{true}
 use mathlib.Core.List.{List, [], _∷_}
 use Rattle.wire.specs.Tests.{ifEq}
 use Rattle.wire.specs.Codes.{FTYP, MOOV}
 use Rattle.wire.proofs.Lists.{nil-is}
 use Rattle.wire.proofs.Clauses.{eq-is}
-use Rattle.wire.proofs.Lists.{nil-is}
 use Rattle.boxes.specs.Box.{Box}
 use Rattle.boxes.specs.Boxes.{boxes, after}
 use Rattle.boxes.specs.Containers.{FILE}

@@ -15,13 +15,13 @@ use Rattle.media.specs.Payloads.{inAt}
 use Rattle.verdict.specs.Rule.{allIn}
 use Rattle.verdict.proofs.Opened.{opened, closed}
 use Rattle.verdict.proofs.Keeping.{keep}
-use Rattle.judge.specs.Acceptance.{Holds, Meets}
-use Rattle.judge.proofs.Tables.{file-chunked}
 use Rattle.shape.specs.Rules.{threeRule}
 use Rattle.tracks.specs.Six.{sixRule}
 use Rattle.tracks.specs.Seven.{sevenRule}
 use Rattle.tracks.specs.Eight.{eightRule}
 use Rattle.tracks.proofs.Chunked.{Chunked}
+use Rattle.judge.specs.Acceptance.{Holds, Meets}
+use Rattle.judge.proofs.Tables.{file-chunked}
 use Rattle.settle.proofs.Offsets.{agreeOn, agreeIn, agree}
 use Rattle.settle.proofs.Placed.{all-agree}
 

@@ -1,6 +1,5 @@
 pub mod Agreeing
 pub mod Offsets
-pub mod Each
 pub mod Placed
 pub mod Agreement
 pub mod Settled

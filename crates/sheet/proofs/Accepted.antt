@@ -12,6 +12,10 @@ use Rattle.boxes.specs.Containers.{parent, kindIn}
 use Rattle.boxes.specs.Seek.{startIn}
 use Rattle.boxes.proofs.Reading.{All}
 use Rattle.boxes.proofs.Reading.All.{none, some}
+use Rattle.movie.specs.Movie.{movie as boxesOf, table}
+use Rattle.movie.specs.Entries as movie
+use Rattle.movie.specs.Named.{listIn, held, heldIn}
+use Rattle.movie.proofs.Counting.{length-after}
 use Rattle.shape.specs.Shape.{needed}
 use Rattle.shape.proofs.Descent.{Met, node-met, needed-leaf, in-moov, each-track, in-stbl, tracks-few}
 use Rattle.lists.specs.Forms.{Listed, formIn}
@@ -20,10 +24,6 @@ use Rattle.lists.specs.Rules.{fiveRule}
 use Rattle.lists.proofs.Forms.{form-is}
 use Rattle.judge.specs.Acceptance.{Meets}
 use Rattle.judge.proofs.Tables.{file-met}
-use Rattle.movie.specs.Movie.{movie as boxesOf, table}
-use Rattle.movie.specs.Entries as movie
-use Rattle.movie.specs.Named.{listIn, held, heldIn}
-use Rattle.movie.proofs.Counting.{length-after}
 use Rattle.sheet.specs.Fits.{Fits}
 
 -- rule 5: a track has as many entries as its `stsd` says

@@ -9,13 +9,13 @@ use Rattle.wire.specs.Numbers.{bytesOn, bytes, word}
 use Rattle.wire.specs.Writing.{Put}
 use Rattle.wire.proofs.Writing.{pen-none, pen-is}
 use Rattle.wire.proofs.Tests.{eq-any}
-use Rattle.heads.specs.Kinds.{kindOf}
 use Rattle.movie.specs.declared.entry.EntryAt.{EntryAt}
 use Rattle.movie.specs.declared.entry.Named.{Named}
 use Rattle.movie.specs.declared.entry.Named.the-variants.{At, Missing}
 use Rattle.movie.specs.Entries.{Entry, entries}
 use Rattle.movie.specs.Named.{entryAs, NamedAs}
 use Rattle.movie.proofs.Asking.{named-at, named-none}
+use Rattle.heads.specs.Kinds.{kindOf}
 use Rattle.sheet.specs.Sheet.{slot, slotOf, slots, bodies}
 
 -- ---- a slot

@@ -1,10 +1,10 @@
 -- The sheet reader: the sheet of a file's own entries, into a lent buffer.
 use Prim.Native.Nat.{ℕ}
 use mathlib.Core.List.{List}
+use Rattle.movie.specs.Entries.{entries}
 use Rattle.verdict.specs.declared.Answer.{Answer}
 use Rattle.verdict.specs.Answers.{inRoom, outBy}
 use Rattle.judge.specs.Judgement.{judged, whenAccepted}
-use Rattle.movie.specs.Entries.{entries}
 use Rattle.sheet.specs.Sheet.{SLOTS, sheet}
 
 unfoldable pub sheetOf : List ℕ → List ℕ

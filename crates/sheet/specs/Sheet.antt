@@ -3,8 +3,8 @@ use Prim.Native.Nat.{ℕ, _+_, _-_, _*_}
 use mathlib.Core.List.{List, [], _∷_, _++_}
 use lib.ListN.{length, replicate}
 use Rattle.wire.specs.Numbers.{bytes, word}
-use Rattle.heads.specs.Kinds.{kindOf}
 use Rattle.movie.specs.Entries.{Entry}
+use Rattle.heads.specs.Kinds.{kindOf}
 
 -- "Eight slots of 12 bytes"
 abbrev pub SLOTS : ℕ

@@ -18,6 +18,7 @@ use Rattle.clocks.specs.declared.Zoned.{Zoned}
 use Rattle.clocks.specs.declared.Zoned.the-variants.{Seconds, NoZone}
 use Rattle.clocks.specs.Clocks.{zoneFine, zoneOf, zonedOf, mayShift}
 use Rattle.clocks.specs.Zones.{leaves}
+use Rattle.clocks.proofs.Signed.{zone-found, zone-missing}
 use Rattle.verdict.specs.declared.Answer.{Answer}
 use Rattle.verdict.specs.declared.Answer.the-variants.{Done, Refused}
 use Rattle.verdict.specs.Answers.{inRoom}
@@ -28,7 +29,6 @@ use Rattle.judge.specs.declared.Judgement.the-variants as judgement
 use Rattle.judge.specs.declared.Judgement.the-variants.{Accepted}
 use Rattle.judge.specs.Judgement.{judged}
 use Rattle.judge.proofs.Calls.{when-accepted, when-refused, met}
-use Rattle.clocks.proofs.Signed.{zone-found, zone-missing}
 use Rattle.shift.specs.Shift.{times, allTimesBy, allTimes, shiftable, acceptedAnswer, shiftAnswer, shiftOut}
 use Rattle.shift.specs.Amount.{byZone, zoneText, zoneAnswer, zoneOut}
 use Rattle.shift.proofs.Passing.{times-length}

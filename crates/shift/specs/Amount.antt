@@ -1,6 +1,6 @@
 -- What code asks and writes, by a zone in seconds.
-use mathlib.Core.List.{List}
 use Prim.Native.Nat.{ℕ}
+use mathlib.Core.List.{List}
 use Rattle.wire.specs.Tests.{pick}
 use Rattle.boxes.specs.declared.words.By.{By}
 use Rattle.boxes.specs.Words.{moved}

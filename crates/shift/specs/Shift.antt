@@ -15,8 +15,8 @@ use Rattle.boxes.specs.Containers.{FILE, DEPTH}
 use Rattle.boxes.specs.Seek.{find}
 use Rattle.boxes.specs.Rewrite.{editIn}
 use Rattle.boxes.specs.Words.{rewordLeaf}
-use Rattle.movie.specs.Movie.{movie, tracks, track, mdia}
 use Rattle.clocks.specs.Clocks.{zoneFine, shiftTime, mayShift}
+use Rattle.movie.specs.Movie.{movie, tracks, track, mdia}
 use Rattle.verdict.specs.declared.Answer.{Answer}
 use Rattle.verdict.specs.declared.Answer.the-variants.{Refused}
 use Rattle.verdict.specs.Answers.{inRoom, outBy}

@@ -14,11 +14,11 @@ use Rattle.wire.proofs.Clauses.{was-nay, was-yea}
 use Rattle.wire.proofs.Numbers.{length-bytes}
 use Rattle.wire.proofs.Writing.{pen-then, pen-is, pen-front}
 use Rattle.boxes.specs.Containers.{LONGEST}
+use Rattle.movie.specs.Entries.{Entry}
 use Rattle.verdict.specs.declared.Answer.{Answer}
 use Rattle.verdict.specs.declared.Answer.the-variants.{Done, Refused}
 use Rattle.verdict.specs.Answers.{inRoom}
 use Rattle.verdict.proofs.Answers.{room-short, room-fits, out-kept, out-wrote}
-use Rattle.movie.specs.Entries.{Entry}
 use Rattle.sheet.specs.Sheet.{bodies}
 use Rattle.table.specs.Form.{read, unsheet, formed}
 use Rattle.table.specs.Table.{own, table, tableOf, tableAnswer, tableOut}

@@ -6,11 +6,11 @@ use lib.ListN.{length, take, drop, getD, replicate}
 use Rattle.wire.specs.Tests.{ifEq}
 use Rattle.wire.specs.Same.{same}
 use Rattle.wire.specs.Writing.{Put}
+use Rattle.wire.proofs.Comparing.{same-bad, same-good}
 use Rattle.sheet.specs.Sheet.{slots, bodies, front, bodiesAt, sheet}
 use Rattle.table.specs.Form.{read, unsheet}
 use Rattle.table.proofs.Reading.{read-length}
 use Rattle.table.proofs.Making.{front-made, front-length, bodies-prefix}
-use Rattle.wire.proofs.Comparing.{same-bad, same-good}
 
 pub record Opened (k : ℕ) (sheet : List ℕ) (n : ℕ) (xs ys : List ℕ) : Type 0 where
   pub count : n ≡ getD sheet 1 0

@@ -7,9 +7,9 @@ use Rattle.wire.specs.Tests.{pick}
 use Rattle.wire.specs.Clauses.{isEq, isLe, every}
 use Rattle.wire.specs.Numbers.{word}
 use Rattle.wire.specs.Same.{same}
+use Rattle.movie.specs.Entries.{Entry}
 use Rattle.entries.specs.declared.rule.Around.the-variants.{Alone}
 use Rattle.entries.specs.Entries.{FRAMES, entryRule}
-use Rattle.movie.specs.Entries.{Entry}
 use Rattle.sheet.specs.Sheet.{SLOT, bodiesAt, sheet}
 
 -- "at most 4" tracks

@@ -6,10 +6,10 @@ use Rattle.wire.specs.Tests.{pick, ifEq, ifLt}
 use Rattle.wire.specs.Numbers.{bytes}
 use Rattle.wire.specs.Codes.{STSD}
 use Rattle.boxes.specs.Containers.{LONGEST}
+use Rattle.movie.specs.Entries.{Entry}
 use Rattle.verdict.specs.declared.Answer.{Answer}
 use Rattle.verdict.specs.declared.Answer.the-variants.{Refused}
 use Rattle.verdict.specs.Answers.{inRoom, outBy}
-use Rattle.movie.specs.Entries.{Entry}
 use Rattle.sheet.specs.Sheet.{bodies}
 use Rattle.table.specs.Form.{unsheet, formed}
 

@@ -5,13 +5,13 @@ use mathlib.Core.Path.{_≡_, refl, _∙_}
 use mathlib.Core.Bool.{true}
 use mathlib.Core.List.{List}
 use Rattle.wire.proofs.Tests.{eq-nay}
+use Rattle.wire.proofs.Clauses.{eq-is, le-is, clause}
 use Rattle.tables.specs.Tables.{count}
 use Rattle.tables.specs.Sizes.{samples, bytesFrom}
 use Rattle.tables.specs.Runs.{runsFine}
 use Rattle.tables.specs.Chunks.{samplesIn, firstSample, offsetAt, chunkAt, extentOf, extentAt, Walkable}
 use Rattle.tables.specs.declared.chunk.Chunk.{Chunk}
 use Rattle.tables.specs.Rules.{Six, emptyTogether, seven, Seven}
-use Rattle.wire.proofs.Clauses.{eq-is, le-is, clause}
 use Rattle.tables.proofs.Runs.{rising}
 use Rattle.tables.proofs.Chunks.{first-more, first-mono}
 

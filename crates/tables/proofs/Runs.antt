@@ -6,9 +6,9 @@ use mathlib.Core.Bool.{true, false}
 use mathlib.Core.List.{List}
 use Rattle.wire.proofs.Tests.{eq-yea, eq-nay}
 use Rattle.wire.proofs.Sums.{all-none, all-more, all-at, all-fails}
+use Rattle.wire.proofs.Clauses.{eq-is, lt-is, clause}
 use Rattle.tables.specs.Tables.{count}
 use Rattle.tables.specs.Runs.{rises, runFine, runsFine, Rising}
-use Rattle.wire.proofs.Clauses.{eq-is, lt-is, clause}
 
 module _ (stsc : List ℕ) (chunks entries : ℕ) where
   pub runs-none : runsFine stsc chunks entries 0 ≡ true

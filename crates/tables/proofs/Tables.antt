@@ -6,8 +6,8 @@ use mathlib.Core.Path.{_≡_, sym}
 use mathlib.Core.Bool.{true}
 use mathlib.Core.List.{List}
 use lib.ListN.{length}
-use Rattle.tables.specs.Tables.{count, hasForm, Form, Table}
 use Rattle.wire.proofs.Clauses.{is-eq, eq-is, done, holds, clause}
+use Rattle.tables.specs.Tables.{count, hasForm, Form, Table}
 
 -- the form, as a test and as facts
 pub form-is : (n : ℕ) (xs : List ℕ) → hasForm n xs ≡ true → Form n xs

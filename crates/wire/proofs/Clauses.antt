@@ -6,8 +6,8 @@ use mathlib.Core.Bool.{Bool, true, false}
 use mathlib.Core.List.{List, [], _∷_}
 use lib.ListN.{getD}
 use borrow.Author.Tests.{ltb-true, leb-true, eqb-true, le-ltb, lt-ltb, le-leb, lt-leb, eq-eqb, ne-eqb}
-use Rattle.wire.proofs.Tests.{both}
 use Rattle.wire.specs.Clauses.{isEq, isLt, isLe, every, oneIf}
+use Rattle.wire.proofs.Tests.{both}
 
 -- ---- a test, from its numbers and back
 

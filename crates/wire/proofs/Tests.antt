@@ -1,11 +1,11 @@
 -- A test's two ways, each in the direction of a need: the result is the choice; and back from the choice. Assumes nothing.
 use Prim.Native.Nat.{ℕ, _≤_, _<_}
+use native.Mathlib.Omega.{arith}
 use mathlib.Core.Path.{_≡_, refl, sym, subst, ap, _∙_}
 use mathlib.Core.Bool.{Bool, true, false}
+use mathlib.Core.Logic.{_⊎_, inl, inr, ⊎-elim}
 use lib.Dec.{T, eqb, ltb}
 use borrow.Author.Tests.{le-ltb, lt-ltb, le-leb, lt-leb, eq-eqb, ne-eqb, eqb-true, eqb-false, ltb-true, ltb-false}
-use native.Mathlib.Omega.{arith}
-use mathlib.Core.Logic.{_⊎_, inl, inr, ⊎-elim}
 use Rattle.wire.specs.Tests.{pick, ifEq, ifLt, ifLe}
 
 pub eq-yea : {A : Type 0} (m n : ℕ) (a b r : A) → m ≡ n → r ≡ a → r ≡ ifEq m n a b
