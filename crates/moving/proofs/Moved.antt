@@ -82,4 +82,4 @@ module _ (xs : List ℕ) (v : Bytes xs) (m : Meets xs) {b : BoxAt} (p : Parted x
   unfolding shifted moveOf
   shifted-is =
       ap (editIn (rewordLeaf offsets (moved (up b))) DEPTH FILE) arranged-is
-      ∙ settled-list xs (write (moovSecond (boxes xs))) (moved (up b)) m relocates (λ P a. rw new-boxes (in-order a))
+      ∙ settled-list xs (write (moovSecond (boxes xs))) (moved (up b)) m relocates (λ P a. rw new-boxes (each-second a))
