@@ -6,7 +6,7 @@ use mathlib.Core.List.{List, [], _∷_}
 use lib.ListN.{length}
 use Rattle.wire.specs.Tests.{ifEq}
 use Rattle.wire.specs.Numbers.{Bytes}
-use Rattle.wire.proofs.Tests.{code-or}
+use Rattle.wire.proofs.Tests.{eq-or}
 use Rattle.boxes.specs.Box.{Box, remade}
 use Rattle.boxes.specs.Boxes.{boxes}
 use Rattle.boxes.specs.Seek.{meant, count, nth}
@@ -43,7 +43,7 @@ module _ (c : ℕ) (x : Box) (l : List Box) (e : meant c (x .code) ≡ 1) where
   next-by n f = rw e
 
 meant-or : {A : Type 0} (c : ℕ) (x : Box) → (meant c (x .code) ≡ 0 → A) → (meant c (x .code) ≡ 1 → A) → A
-meant-or c x f g = code-or (meant c (x .code)) 0 f (λ e. g (omega (arith, meant-most c (x .code))))
+meant-or c x f g = eq-or (meant c (x .code)) 0 f (λ e. g (omega (arith, meant-most c (x .code))))
 
 module _ (c : ℕ) (f : List ℕ → List ℕ) where
   list-here : (n : ℕ) (l : List Box) → n < count c l → nth c n (nthBy c n f l) ≡ f (nth c n l)

@@ -6,7 +6,7 @@ use mathlib.Core.List.{List}
 use lib.ListN.{length}
 use Rattle.wire.specs.Codes.{STBL}
 use Rattle.wire.specs.Numbers.{Bytes}
-use Rattle.wire.proofs.Tests.{code-or}
+use Rattle.wire.proofs.Tests.{eq-or}
 use Rattle.boxes.specs.Box.{write}
 use Rattle.boxes.specs.Boxes.{boxes}
 use Rattle.boxes.specs.Containers.{FILE, DEPTH}
@@ -30,7 +30,7 @@ use Rattle.differs.proofs.Bodies.{but-tail}
 
 module _ (f : ℕ → ℕ) (k c : ℕ) (b : List ℕ) where
   others-same : (Offsets k c → ⊥) → b ≡ rewordLeaf offsets f k c b
-  others-same n = code-or k STBL (λ e. leaf-code offsets f k c b e (λ g. n (e, g))) (leaf-kind offsets f k c b)
+  others-same n = eq-or k STBL (λ e. leaf-code offsets f k c b e (λ g. n (e, g))) (leaf-kind offsets f k c b)
 
   pub only-offsets : (b′ : List ℕ) → Made (rewordLeaf offsets f) k c b b′ → OnlyOffsets k c b b′
   only-offsets b′ r =

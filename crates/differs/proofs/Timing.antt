@@ -8,7 +8,7 @@ use lib.IntN.{ℤ}
 use lib.ListN.{length}
 use Rattle.wire.specs.Codes.{MOOV, MVHD, TRAK, TKHD, MDIA, MDHD}
 use Rattle.wire.specs.Numbers.{Bytes}
-use Rattle.wire.proofs.Tests.{code-or}
+use Rattle.wire.proofs.Tests.{eq-or}
 use Rattle.boxes.specs.Containers.{FILE, DEPTH}
 use Rattle.boxes.specs.Words.{moved, rewordLeaf}
 use Rattle.boxes.specs.Kin.{Kin}
@@ -36,9 +36,9 @@ kin-two xs ys zs p q = kin-less (Then OnlyTimes OnlyTimes) OnlyTimes times-then 
 module _ (K C : ℕ) (timed : Timed K C) (f : ℕ → ℕ) where
   only-times : (k c : ℕ) (b b′ : List ℕ) → Made (rewordLeaf (times K C) f) k c b b′ → OnlyTimes k c b b′
   only-times k c b b′ r =
-      code-or k K
+      eq-or k K
       (λ e.
-      code-or c C
+      eq-or c C
       (λ g. record {
         times = λ t. rw (r .0 ∙ sym (leaf-hit (times K C) f k c b e g refl)) (but-reword f 4 8 b);
         rest = λ n. absurd (n (rw (e, g) timed));

@@ -6,7 +6,7 @@ use mathlib.Core.List.{List, [], _∷_}
 use lib.ListN.{drop}
 use Rattle.wire.specs.Codes.{MOOV, TRAK, STSD}
 use Rattle.wire.specs.Tests.{ifEq}
-use Rattle.wire.proofs.Tests.{lt-yea, lt-nay, code-or}
+use Rattle.wire.proofs.Tests.{lt-yea, lt-nay, eq-or}
 use Rattle.boxes.specs.Box.{Box, size}
 use Rattle.boxes.specs.Boxes.{boxes}
 use Rattle.boxes.specs.Seek.{meant, nth, startIn}
@@ -30,7 +30,7 @@ module _ (t : ℕ) (x : Box) (l : List Box) (i p : ℕ) where
   spot-here : i < held (x .code) (x .body) → Spotted t (x ∷ l) i p t i
   unfolding nth ifEq entriesOf listIn
   spot-here h =
-      code-or (x .code) TRAK
+      eq-or (x .code) TRAK
       (λ e.
       let o = meant-yes TRAK (x .code) (λ z. omega arith) e in
       let s = split-from (t + 1) (boxes (drop FRONT (table STSD (x .body)))) (p + x .head + entriesStart (x .body)) i (entriesAfter (t + 1) l (p + size x)) (omega (arith, held-hit x l e)) in
@@ -53,7 +53,7 @@ module _ (t : ℕ) (x : Box) (l : List Box) (i p : ℕ) where
   unfolding nth ifEq
   spot-next u n h ih =
       let s = ih (p + size x) in
-      code-or (x .code) TRAK
+      eq-or (x .code) TRAK
       (λ e.
       let o = meant-yes TRAK (x .code) (λ z. omega arith) e in
       record { m = suc (s .m); is = omega (arith, s .is, o); split = rw (skip-hit e h, ← o) (rw (← o) at (s .split)) })

@@ -6,7 +6,7 @@ use mathlib.Core.Bool.{true}
 use mathlib.Core.List.{List, [], _∷_}
 use Rattle.wire.specs.Tests.{ifEq}
 use Rattle.wire.specs.Codes.{MOOV, TRAK, MDIA, MINF, STBL, STSD, DINF, DREF}
-use Rattle.wire.proofs.Tests.{if-keep, if-same}
+use Rattle.wire.proofs.Tests.{eq-kept, eq-same}
 use Rattle.boxes.specs.Box.{Box}
 use Rattle.boxes.specs.Boxes.{boxes}
 use Rattle.boxes.specs.Containers.{parent, kindIn}
@@ -25,7 +25,7 @@ use Rattle.lists.specs.Rules.{fiveRule, nineRule}
 
 same-box : (c : ℕ) (b b′ : List ℕ) → (c ≡ TRAK → stored (follow toStsd b) ≡ stored (follow toStsd b′)) → entriesOf c b ≡ entriesOf c b′
 unfolding entriesOf
-same-box c b b′ h = if-same c TRAK _ _ 0 h
+same-box c b b′ h = eq-same c TRAK _ _ 0 h
 
 module _ (G : Leaf) (counts : (b b′ : List ℕ) → G STBL STSD b b′ → stored b ≡ stored b′) where
   -- a way ends at kin payloads that store the same count
@@ -68,19 +68,19 @@ module _ (G : Leaf)
   form-keep : (k c : ℕ) (b b′ : List ℕ) → G k c b b′ → formIn k c b ≡ true → formIn k c b′ ≡ true
   unfolding formIn
   form-keep k c b b′ g =
-      if-keep k STBL _ _ _ _ (λ e. if-keep c STSD _ _ _ _ (λ f. stsd b b′ (rw (e, f) at g)) (λ t. t))
-      (if-keep k DINF _ _ _ _ (λ e. if-keep c DREF _ _ _ _ (λ f. dref b b′ (rw (e, f) at g)) (λ t. t)) (λ t. t))
+      eq-kept k STBL _ _ _ _ (λ e. eq-kept c STSD _ _ _ _ (λ f. stsd b b′ (rw (e, f) at g)) (λ t. t))
+      (eq-kept k DINF _ _ _ _ (λ e. eq-kept c DREF _ _ _ _ (λ f. dref b b′ (rw (e, f) at g)) (λ t. t)) (λ t. t))
 
   pub kin-5 : (d k : ℕ) (xs ys : List ℕ) → Kin G d k xs ys → allIn fiveRule d k xs ≡ true → allIn fiveRule d k ys ≡ true
   kin-5 = keep fiveRule fiveRule G (λ k c b b′ z g. form-keep k c b b′ g)
-      (λ d k xs ys a. if-keep k MOOV _ _ _ _ (λ e t. rw (← same-entries G counts d (subst (λ (i : ℕ). Kin G (suc d) i xs ys) e a .0)) t) (λ t. t))
+      (λ d k xs ys a. eq-kept k MOOV _ _ _ _ (λ e t. rw (← same-entries G counts d (subst (λ (i : ℕ). Kin G (suc d) i xs ys) e a .0)) t) (λ t. t))
       (λ xs t. t)
 
 -- of `dref` that its entries are of this file
 module _ (G : Leaf) (dref : (b b′ : List ℕ) → G DINF DREF b b′ → allUrls b ≡ true → allUrls b′ ≡ true) where
   urls-keep : (k c : ℕ) (b b′ : List ℕ) → G k c b b′ → allUrlsIn k c b ≡ true → allUrlsIn k c b′ ≡ true
   unfolding allUrlsIn
-  urls-keep k c b b′ g = if-keep k DINF _ _ _ _ (λ e. if-keep c DREF _ _ _ _ (λ f. dref b b′ (rw (e, f) at g)) (λ t. t)) (λ t. t)
+  urls-keep k c b b′ g = eq-kept k DINF _ _ _ _ (λ e. eq-kept c DREF _ _ _ _ (λ f. dref b b′ (rw (e, f) at g)) (λ t. t)) (λ t. t)
 
   pub kin-9 : (d k : ℕ) (xs ys : List ℕ) → Kin G d k xs ys → allIn nineRule d k xs ≡ true → allIn nineRule d k ys ≡ true
   kin-9 = keep nineRule nineRule G (λ k c b b′ z g. urls-keep k c b b′ g) (λ d k xs ys a t. t) (λ xs t. t)

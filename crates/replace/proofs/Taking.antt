@@ -11,7 +11,7 @@ use Rattle.wire.specs.Clauses.{oneIf}
 use Rattle.wire.specs.Numbers.{word}
 use Rattle.wire.proofs.Clauses.{is-eq, not-eq, is-lt, not-lt, fails, holds, done, yea, nay}
 use Rattle.wire.proofs.Numbers.{word-out}
-use Rattle.wire.proofs.Tests.{eq-yea, eq-nay, lt-yea, lt-nay, code-or}
+use Rattle.wire.proofs.Tests.{eq-yea, eq-nay, lt-yea, lt-nay, eq-or}
 use Rattle.heads.specs.Kinds.{kindOf}
 use Rattle.heads.proofs.Meeting.{eq-ways, eq-met}
 use Rattle.entries.specs.Decoders.{damrRule, d263Rule, recordRule}
@@ -43,7 +43,7 @@ module _ (xs : List ℕ) (i : ℕ) where
   pub kind-none : length (entries xs) ≤ i - 1 → 0 ≡ kindAt xs i
   unfolding kindAt
   kind-none h =
-      code-or i 0 (λ e. eq-yea _ _ _ _ _ e refl)
+      eq-or i 0 (λ e. eq-yea _ _ _ _ _ e refl)
       (λ e. eq-nay _ _ _ _ _ e (none-known ∙ ap kindOf (sym (ap (λ (ys : List ℕ). word 4 ys 4) (bytes-none (i - 1) (entries xs) h) ∙ word-out 4 [] 4 (omega arith)))))
 
 -- ---- a record that meets its rule
@@ -67,7 +67,7 @@ record-short kind most new e =
 
 -- so there is such an entry
 pub record-first : (xs : List ℕ) (i most kind : ℕ) (new : List ℕ) → kind ≡ kindAt xs i → recordRule kind most new ≡ 1 → 1 ≤ i
-record-first xs i most kind new k e = code-or i 0 (λ z. absurd (omega (arith, kind-zero xs i z, record-short kind most new e .0))) (λ z. omega arith)
+record-first xs i most kind new k e = eq-or i 0 (λ z. absurd (omega (arith, kind-zero xs i z, record-short kind most new e .0))) (λ z. omega arith)
 
 -- ---- whether a kind takes a record
 

@@ -5,7 +5,7 @@ use mathlib.Core.Path.{_≡_, refl, sym}
 use mathlib.Core.List.{List, [], _∷_, _++_}
 use Rattle.wire.specs.Tests.{ifEq}
 use Rattle.wire.specs.Codes.{TRAK}
-use Rattle.wire.proofs.Tests.{eq-yea, eq-nay, code-or}
+use Rattle.wire.proofs.Tests.{eq-yea, eq-nay, eq-or}
 use Rattle.boxes.specs.Box.{Box, size}
 use Rattle.boxes.specs.Seek.{meant, count, nth, placeBy, startIn}
 use Rattle.boxes.proofs.Reading.{All}
@@ -74,4 +74,4 @@ pub data Each (P : List ℕ → Type 0) : List Box → Type 0 where
 
 pub each : (P : List ℕ → Type 0) {l : List Box} → All (λ x. x .code ≡ TRAK → P (x .body)) l → Each P l
 each P nil = none
-each P (some {x} h a) = code-or (x .code) TRAK (λ e. track e (h e) (each P a)) (λ e. other e (each P a))
+each P (some {x} h a) = eq-or (x .code) TRAK (λ e. track e (h e) (each P a)) (λ e. other e (each P a))

@@ -3,7 +3,7 @@ use Prim.Native.Nat.{ℕ, zero, suc}
 use mathlib.Core.Path.{_≡_, refl, sym, ap}
 use mathlib.Core.Bool.{true}
 use mathlib.Core.List.{List, _++_, map}
-use Rattle.wire.proofs.Tests.{code-or}
+use Rattle.wire.proofs.Tests.{eq-or}
 use Rattle.boxes.specs.Box.{Box, write}
 use Rattle.boxes.specs.Boxes.{after}
 use Rattle.boxes.specs.Containers.{kindIn}
@@ -26,7 +26,7 @@ module _ (r : Rule) (f g : Leaves) (leaf : (k c : ℕ) (b : List ℕ) → r .lea
   edit-agree (suc d) k xs q =
       let o = opened r d k xs q in
       ap (λ (l : List Box). write l ++ after xs)
-      (map-agree _ _ (all-with (λ x p n. code-or (kindIn k (x .code)) 0
+      (map-agree _ _ (all-with (λ x p n. eq-or (kindIn k (x .code)) 0
       (λ z. edit-leaf g _ k _ _ refl z (sym (edit-leaf f _ k _ _ refl z (sym (leaf k (x .code) (x .body) (p z))))))
       (λ z. edit-node g _ k _ _ refl z (sym (edit-node f _ k _ _ refl z (sym (edit-agree d (kindIn k (x .code)) (x .body) (n z)))))))
       (o .leaves) (o .inside)))

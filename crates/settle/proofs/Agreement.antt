@@ -4,7 +4,7 @@ use mathlib.Core.Path.{_≡_, refl, sym, ap, subst, _∙_}
 use mathlib.Core.Bool.{true}
 use mathlib.Core.List.{List}
 use Rattle.wire.specs.Codes.{STBL, STCO}
-use Rattle.wire.proofs.Tests.{eq-yea, eq-nay, code-or}
+use Rattle.wire.proofs.Tests.{eq-yea, eq-nay, eq-or}
 use Rattle.boxes.specs.Box.{Box}
 use Rattle.boxes.specs.Boxes.{boxes}
 use Rattle.boxes.specs.Containers.{kindIn, FILE, DEPTH}
@@ -35,8 +35,8 @@ module _ (f g : ℕ → ℕ) where
   leaf-agrees : (k c : ℕ) (b : List ℕ) → (k ≡ STBL → c ≡ STCO → agreeOn f g b ≡ true) → agreeIn f g k c b ≡ true
   unfolding agreeIn
   leaf-agrees k c b h =
-      sym (code-or k STBL
-      (λ e. eq-yea _ _ _ _ _ e (code-or c STCO (λ r. eq-yea _ _ _ _ _ r (sym (h e r))) (λ r. eq-nay _ _ _ _ _ r refl)))
+      sym (eq-or k STBL
+      (λ e. eq-yea _ _ _ _ _ e (eq-or c STCO (λ r. eq-yea _ _ _ _ _ r (sym (h e r))) (λ r. eq-nay _ _ _ _ _ r refl)))
       (λ e. eq-nay _ _ _ _ _ e refl))
 
   agrees-leaf : (k c : ℕ) (b : List ℕ) → agreeIn f g k c b ≡ true → k ≡ STBL → c ≡ STCO → agreeOn f g b ≡ true
@@ -47,7 +47,7 @@ module _ (f g : ℕ → ℕ) where
   module _ (l : List Box) (h : (o n : ℕ) → inAt l o n ≡ true → f o ≡ g o) where
     leaves : (d k : ℕ) (xs : List ℕ) → Chunked l (suc d) k xs → All (λ x. kindIn k (x .code) ≡ 0 → agreeIn f g k (x .code) (x .body) ≡ true) (boxes xs)
     leaves d k xs s =
-        code-or k STBL
+        eq-or k STBL
         (λ e. all-map (λ x p z. leaf-agrees k (x .code) (x .body) (λ r. p)) (all-agree l d xs (subst (λ (i : ℕ). Chunked l (suc d) i xs) e s) f g h))
         (λ e. all-map (λ x p z. leaf-agrees k (x .code) (x .body) (λ r. absurd (e r))) (inside l d k xs s))
 

@@ -3,7 +3,7 @@ use Prim.Native.Nat.{ℕ, _+_, _≤_, _<_}
 use native.Mathlib.Omega.{arith}
 use mathlib.Core.Path.{_≡_, refl, sym}
 use mathlib.Core.List.{List, [], _∷_}
-use Rattle.wire.proofs.Tests.{eq-yea, eq-nay, code-or}
+use Rattle.wire.proofs.Tests.{eq-yea, eq-nay, eq-or}
 use Rattle.boxes.specs.Box.{Box}
 use Rattle.boxes.specs.Seek.{ANY, count, nth, find}
 use Rattle.boxes.proofs.Seeking.{meant-yes, meant-no}
@@ -34,7 +34,7 @@ module _ (c : ℕ) (z : c ≡ ANY → ⊥) where
     pub found-each : (l : List Box) → (0 < count c l → P (find c l)) → count c l ≤ 1 → All (λ x. x .code ≡ c → P (x .body)) l
     found-each [] p h = none
     found-each (x ∷ l) p h =
-        code-or (x .code) c
+        eq-or (x .code) c
         (λ e.
         let n = count-hit x l e in
         some (λ f. rw (find-hit x l e) at (p (omega (arith, n)))) (found-each l (λ m. absurd (omega (arith, n))) (omega (arith, n))))

@@ -9,7 +9,7 @@ use borrow.Author.Tests.{ne-eqb, ltb-true}
 use Rattle.wire.specs.Tests.{pick, ifEq}
 use Rattle.wire.specs.Clauses.{isEq}
 use Rattle.wire.specs.Codes.{FTYP, MOOV, TRAK}
-use Rattle.wire.proofs.Tests.{both, code-or}
+use Rattle.wire.proofs.Tests.{both, eq-or}
 use Rattle.wire.proofs.Clauses.{eq-is, le-is, clause}
 use Rattle.boxes.specs.Box.{Box}
 use Rattle.boxes.specs.Containers.{FILE}
@@ -26,7 +26,7 @@ unfolding exactly
 exactly-is n c [] l e h = let z : _≡_ {A = ℕ} 0 1 = cc in absurd (omega arith)
 exactly-is n c (a ∷ cs) l e h =
     let u = both (isEq (count a l) n) _ e in
-    code-or a c (λ q. rw q at (eq-is _ _ (u .0))) (λ q. exactly-is n c cs l (u .1) (rw (ne-eqb a c q) at h))
+    eq-or a c (λ q. rw q at (eq-is _ _ (u .0))) (λ q. exactly-is n c cs l (u .1) (rw (ne-eqb a c q) at h))
 
 -- a container of kind k needs a box of code c, and 0, which means any box, is none
 abbrev pub needs : ℕ → ℕ → Bool

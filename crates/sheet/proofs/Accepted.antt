@@ -4,7 +4,7 @@ use mathlib.Core.Path.{_≡_, refl}
 use mathlib.Core.List.{List}
 use Rattle.wire.specs.Tests.{ifEq}
 use Rattle.wire.specs.Codes.{MOOV, TRAK, STSD}
-use Rattle.wire.proofs.Tests.{if-same}
+use Rattle.wire.proofs.Tests.{eq-same}
 use Rattle.wire.proofs.Clauses.{le-is}
 use Rattle.boxes.specs.Box.{Box}
 use Rattle.boxes.specs.Boxes.{boxes}
@@ -33,7 +33,7 @@ listed m = form-is _ (needed-leaf (in-stbl m) STSD refl refl)
 
 held-one : (c : ℕ) (b : List ℕ) → (c ≡ TRAK → Met fiveRule 4 TRAK b) → held c b ≡ entriesOf c b
 unfolding held entriesOf listIn table follow
-held-one c b m = if-same c TRAK _ _ 0 (λ e. listed (m e) .counted)
+held-one c b m = eq-same c TRAK _ _ 0 (λ e. listed (m e) .counted)
 
 held-all : {l : List Box} → All (λ x. x .code ≡ TRAK → Met fiveRule 4 TRAK (x .body)) l → heldIn l ≡ entries l
 unfolding heldIn entries

@@ -4,7 +4,7 @@ use mathlib.Core.Path.{_≡_, refl, sym, ap, subst, _∙_}
 use mathlib.Core.Bool.{Bool, true}
 use mathlib.Core.List.{List}
 use Rattle.wire.specs.Tests.{ifEq}
-use Rattle.wire.proofs.Tests.{if-keep}
+use Rattle.wire.proofs.Tests.{eq-kept}
 use Rattle.boxes.specs.Boxes.{after}
 use Rattle.boxes.specs.Containers.{kindIn}
 use Rattle.boxes.specs.Kin.{Leaf, Kin}
@@ -32,4 +32,4 @@ module _ (r s : Rule) (G : Leaf)
 -- a rule of one kind of container
 pub kept-at : (G : Leaf) (K : ℕ) (f g : List ℕ → Bool) (d k : ℕ) (xs ys : List ℕ) → (Kin G (suc d) K xs ys → f xs ≡ true → g ys ≡ true)
     → Kin G (suc d) k xs ys → ifEq k K (f xs) true ≡ true → ifEq k K (g ys) true ≡ true
-kept-at G K f g d k xs ys h a = if-keep k K _ _ _ _ (λ e. h (subst (λ (j : ℕ). Kin G (suc d) j xs ys) e a)) (λ t. t)
+kept-at G K f g d k xs ys h a = eq-kept k K _ _ _ _ (λ e. h (subst (λ (j : ℕ). Kin G (suc d) j xs ys) e a)) (λ t. t)

@@ -3,7 +3,7 @@ use Prim.Native.Nat.{ℕ, suc}
 use mathlib.Core.Path.{_≡_, refl, sym, ap, subst, _∙_}
 use mathlib.Core.Bool.{Bool, true}
 use mathlib.Core.List.{List, [], _∷_}
-use Rattle.wire.proofs.Tests.{both, eq-yea, eq-nay, code-or}
+use Rattle.wire.proofs.Tests.{both, eq-yea, eq-nay, eq-or}
 use Rattle.boxes.specs.Box.{Box}
 use Rattle.boxes.specs.Boxes.{boxes, after}
 use Rattle.boxes.specs.Containers.{kindIn}
@@ -51,7 +51,7 @@ module _ (r : Rule) (d k : ℕ) (xs : List ℕ) where
 
   pub closed : Opened r d k xs → allIn r (suc d) k xs ≡ true
   unfolding allIn allBox
-  closed o = rw (o .node) (each-list _ _ (all-with (λ x p q. sym (code-or (kindIn k (x .code)) 0 (λ z. eq-yea _ _ _ _ _ z (sym (p z))) (λ z. eq-nay _ _ _ _ _ z (sym (q z))))) (o .leaves) (o .inside)) (o .end))
+  closed o = rw (o .node) (each-list _ _ (all-with (λ x p q. sym (eq-or (kindIn k (x .code)) 0 (λ z. eq-yea _ _ _ _ _ z (sym (p z))) (λ z. eq-nay _ _ _ _ _ z (sym (q z))))) (o .leaves) (o .inside)) (o .end))
 
 -- the boxes of one code
 module _ {r : Rule} {d k : ℕ} {xs : List ℕ} (o : Opened r d k xs) (c : ℕ) where

@@ -36,22 +36,22 @@ both true t e = (refl, e)
 both false t e = absurd (subst T (sym e) tt)
 
 -- two numbers are the same, or they are not
-pub code-or : {A : Type 0} (m n : ℕ) → (m ≡ n → A) → ((m ≡ n → ⊥) → A) → A
-code-or {A} m n f g = go (eqb m n) refl
+pub eq-or : {A : Type 0} (m n : ℕ) → (m ≡ n → A) → ((m ≡ n → ⊥) → A) → A
+eq-or {A} m n f g = go (eqb m n) refl
   where
     go : (t : Bool) → eqb m n ≡ t → A
     go true e = f (eqb-true m n e)
     go false e = g (eqb-false m n e)
 
 -- a test that is asked where k is m, and one that is asked elsewhere
-pub if-keep : (k m : ℕ) (s s′ t t′ : Bool) → (k ≡ m → s ≡ true → s′ ≡ true) → (t ≡ true → t′ ≡ true) → ifEq k m s t ≡ true → ifEq k m s′ t′ ≡ true
+pub eq-kept : (k m : ℕ) (s s′ t t′ : Bool) → (k ≡ m → s ≡ true → s′ ≡ true) → (t ≡ true → t′ ≡ true) → ifEq k m s t ≡ true → ifEq k m s′ t′ ≡ true
 unfolding ifEq
-if-keep k m s s′ t t′ h g = go (eqb k m) refl
+eq-kept k m s s′ t t′ h g = go (eqb k m) refl
   where
     go : (e : Bool) → eqb k m ≡ e → pick e s t ≡ true → pick e s′ t′ ≡ true
     go true e = h (eqb-true _ _ e)
     go false e = g
 
 -- what is chosen where m is n may be said otherwise there
-pub if-same : {A : Type 0} (m n : ℕ) (a a′ b : A) → (m ≡ n → a ≡ a′) → ifEq m n a b ≡ ifEq m n a′ b
-if-same m n a a′ b h = code-or m n (λ e. eq-yea _ _ _ _ _ e (sym (eq-yea _ _ _ _ _ e (sym (h e))))) (λ e. eq-nay _ _ _ _ _ e (sym (eq-nay _ _ _ _ _ e refl)))
+pub eq-same : {A : Type 0} (m n : ℕ) (a a′ b : A) → (m ≡ n → a ≡ a′) → ifEq m n a b ≡ ifEq m n a′ b
+eq-same m n a a′ b h = eq-or m n (λ e. eq-yea _ _ _ _ _ e (sym (eq-yea _ _ _ _ _ e (sym (h e))))) (λ e. eq-nay _ _ _ _ _ e (sym (eq-nay _ _ _ _ _ e refl)))
