@@ -6,7 +6,9 @@ use mathlib.Core.List.{List, [], _∷_}
 use Rattle.wire.specs.Codes.{TRAK}
 use Rattle.boxes.specs.Box.{Box}
 use Rattle.boxes.specs.Seek.{meant}
-use Rattle.boxes.proofs.Meaning.{meant-or}
+use Rattle.boxes.proofs.Reading.{All}
+use Rattle.boxes.proofs.Reading.All.{none as nil, some}
+use Rattle.boxes.proofs.Meaning.{meant-or, meant-is}
 
 pub data Each (P : List ℕ → Type 0) : List Box → Type 0 where
   none : Each P []
