@@ -2,27 +2,28 @@
 use Prim.Native.Nat.{ℕ, _+_, _≤_, _<_}
 use native.Mathlib.Omega.{arith}
 use mathlib.Core.Path.{_≡_, refl, sym, _∙_}
+use mathlib.Core.Bool.{true}
 use mathlib.Core.List.{List}
 use lib.ListN.{length, length-append}
-use Rattle.wire.specs.Tests.{ifLt}
 use Rattle.wire.specs.Clauses.{oneIf}
 use Rattle.wire.specs.Codes.{STSD}
 use Rattle.wire.specs.Numbers.{bytes}
 use Rattle.wire.specs.Writing.{Put}
-use Rattle.wire.proofs.Tests.{eq-yea, eq-nay, lt-yea, lt-nay}
+use Rattle.wire.proofs.Tests.{lt-yea, lt-nay}
 use Rattle.wire.proofs.Clauses.{was-nay, was-yea}
 use Rattle.wire.proofs.Numbers.{length-bytes}
-use Rattle.wire.proofs.Writing.{pen-then, pen-is, pen-front}
+use Rattle.wire.proofs.Writing.{pen-then, pen-front}
 use Rattle.boxes.specs.Containers.{LONGEST}
 use Rattle.movie.specs.Entries.{Entry}
 use Rattle.verdict.specs.declared.Answer.{Answer}
 use Rattle.verdict.specs.declared.Answer.the-variants.{Done, Refused}
-use Rattle.verdict.specs.Answers.{inRoom}
-use Rattle.verdict.proofs.Answers.{room-short, room-fits, out-kept, out-wrote}
+use Rattle.verdict.specs.Answers.{outBy}
+use Rattle.verdict.proofs.Answers.{room-short, room-fits, out-kept, out-wrote, answered}
 use Rattle.sheet.specs.Sheet.{bodies}
-use Rattle.table.specs.Form.{read, unsheet, formed}
-use Rattle.table.specs.Table.{own, table, tableOf, tableAnswer, tableOut}
+use Rattle.table.specs.Form.{read, unsheet, steps, formed}
+use Rattle.table.specs.Table.{own, table, ownAnswer, tableOf, tableAnswer, tableOut}
 use Rattle.table.proofs.Opening.{Opened, opened}
+use Rattle.table.proofs.Tracks.{formed-steps, has-track, no-track}
 
 -- ---- the table
 
@@ -34,50 +35,54 @@ pub table-put : (es : List Entry) {count size : ℕ} {out a b d e after : List �
 unfolding table
 table-put es c s pa pb pd pe po = pen-then (pen-then (pen-then (pen-then (rw s at pa) pb) pd) (rw c at pe)) po
 
--- ---- the answers
+-- ---- the answers of a track's entries
 
-module _ (k : ℕ) (s out : List ℕ) (t : ℕ) where
-  kept : {n : ℕ} → Refused n 0 ≡ tableAnswer k s t out → (Refused n 0 ≡ tableAnswer k s t out) × (out ≡ tableOut k s t out)
-  kept e = (e, out-kept (tableOf k s t) out (tableAnswer k s t out) e)
+module _ (es : List Entry) (out : List ℕ) {start after : List ℕ} {size : ℕ} (p : Put (bodies es) start 0 size after) where
+  long : length (table es) ≡ 16 + size
+  long = table-length es ∙ omega (arith, p .next)
 
-  module _ {f : ℕ} (e : f ≡ oneIf (formed k s)) where
-    not-formed : f ≡ 0 → Refused 30 0 ≡ tableAnswer k s t out
+  pub own-long : LONGEST < 16 + size → (Refused 24 0 ≡ ownAnswer es out) × (out ≡ outBy (Refused 24 0) (table es) out)
+  unfolding ownAnswer outBy
+  own-long l = (lt-yea _ _ _ _ _ (omega (arith, long)) refl, refl)
+
+  module _ (l : 16 + size ≤ LONGEST) where
+    pub own-short : length out < 16 + size → (Refused 25 0 ≡ ownAnswer es out) × (out ≡ outBy (Refused 25 0) (table es) out)
+    unfolding ownAnswer outBy
+    own-short m = (lt-nay _ _ _ _ _ (omega (arith, long)) (room-short _ _ (omega (arith, long))), refl)
+
+    pub own-done : {r : ℕ} {end : List ℕ} → 16 + size ≤ length out → Put (table es) out 0 r end → (Done r ≡ ownAnswer es out) × (end ≡ outBy (Done r) (table es) out)
+    unfolding ownAnswer
+    own-done m w = (
+      lt-nay _ _ _ _ _ (omega (arith, long)) (room-fits (table es) out (omega (arith, long)) (w .next ∙ omega arith)),
+      out-wrote (table es) out _ refl (pen-front w (omega (arith, long, w .next))),
+    )
+
+-- ---- the answers of a sheet
+
+module _ (k : ℕ) (s out : List ℕ) (t : ℕ) {f : ℕ} (e : f ≡ oneIf (formed k s)) where
+  not-formed : f ≡ 0 → Refused 30 0 ≡ tableAnswer k s t out
+  unfolding tableAnswer
+  not-formed z = rw (was-nay (formed k s) f z e)
+
+  pub answer-form : f ≡ 0 → (Refused 30 0 ≡ tableAnswer k s t out) × (out ≡ tableOut k s t out)
+  answer-form z = (not-formed z, out-kept (tableOf k s t) out (tableAnswer k s t out) (not-formed z))
+
+  module _ (g : f ≡ 0 → ⊥) {n : ℕ} {xs ys : List ℕ} (o : Opened k s n xs ys) {count : ℕ} (c : count ≡ length (own t (read n xs ys))) where
+    few : count ≡ length (own t (unsheet k s))
+    few = c ∙ rw (opened o)
+
+    stepped : steps 0 (unsheet k s) ≡ true
+    stepped = formed-steps k s (was-yea (formed k s) f g e)
+
+    none-there : count ≡ 0 → Refused 20 0 ≡ tableAnswer k s t out
     unfolding tableAnswer
-    not-formed z = rw (was-nay (formed k s) f z e)
+    none-there z = rw (was-yea (formed k s) f g e, ← no-track t (unsheet k s) stepped (sym few ∙ z))
 
-    pub answer-form : f ≡ 0 → (Refused 30 0 ≡ tableAnswer k s t out) × (out ≡ tableOut k s t out)
-    answer-form z = kept (not-formed z)
+    pub answer-track : count ≡ 0 → (Refused 20 0 ≡ tableAnswer k s t out) × (out ≡ tableOut k s t out)
+    answer-track z = (none-there z, out-kept (tableOf k s t) out (tableAnswer k s t out) (none-there z))
 
-    module _ (g : f ≡ 0 → ⊥) {n : ℕ} {xs ys : List ℕ} (o : Opened k s n xs ys) {count : ℕ} (c : count ≡ length (own t (read n xs ys))) where
-      few : count ≡ length (own t (unsheet k s))
-      few = c ∙ rw (opened o)
-
-      no-track : count ≡ 0 → Refused 20 0 ≡ tableAnswer k s t out
-      unfolding tableAnswer
-      no-track z = rw (was-yea (formed k s) f g e) (eq-yea _ _ _ _ _ (sym few ∙ z) refl)
-
-      pub answer-track : count ≡ 0 → (Refused 20 0 ≡ tableAnswer k s t out) × (out ≡ tableOut k s t out)
-      answer-track z = kept (no-track z)
-
-      module _ (h : count ≡ 0 → ⊥) {start after : List ℕ} {size : ℕ} (p : Put (bodies (own t (read n xs ys))) start 0 size after) where
-        long : length (tableOf k s t) ≡ 16 + size
-        unfolding tableOf
-        long = table-length (own t (unsheet k s)) ∙ rw (← opened o) (omega (arith, p .next))
-
-        past : {r : Answer} → r ≡ ifLt LONGEST (length (tableOf k s t)) (Refused 24 0) (inRoom (tableOf k s t) out) → r ≡ tableAnswer k s t out
-        unfolding tableAnswer
-        past d = rw (was-yea (formed k s) f g e) (eq-nay _ _ _ _ _ (λ z. h (few ∙ z)) d)
-
-        pub answer-long : LONGEST < 16 + size → (Refused 24 0 ≡ tableAnswer k s t out) × (out ≡ tableOut k s t out)
-        answer-long l = kept (past (lt-yea _ _ _ _ _ (omega (arith, long)) refl))
-
-        module _ (l : 16 + size ≤ LONGEST) where
-          pub answer-short : length out < 16 + size → (Refused 25 0 ≡ tableAnswer k s t out) × (out ≡ tableOut k s t out)
-          answer-short m = kept (past (lt-nay _ _ _ _ _ (omega (arith, long)) (room-short _ _ (omega (arith, long)))))
-
-          pub answer-done : {r : ℕ} {end : List ℕ} → 16 + size ≤ length out → Put (table (own t (read n xs ys))) out 0 r end → (Done r ≡ tableAnswer k s t out) × (end ≡ tableOut k s t out)
-          unfolding tableOf
-          answer-done m q =
-              let w : Put (tableOf k s t) out 0 _ _ = pen-is (rw (opened o)) q in
-              let d = past (lt-nay _ _ _ _ _ (omega (arith, long)) (room-fits (tableOf k s t) out (omega (arith, long)) (w .next ∙ omega arith))) in
-              (d, out-wrote (tableOf k s t) out _ d (pen-front w (omega (arith, long, w .next))))
+    pub answer-own : (count ≡ 0 → ⊥) → {r : Answer} {end : List ℕ} → (r ≡ ownAnswer (own t (read n xs ys)) out) × (end ≡ outBy r (table (own t (read n xs ys))) out) → (r ≡ tableAnswer k s t out) × (end ≡ tableOut k s t out)
+    unfolding tableAnswer tableOf
+    answer-own h (p, q) =
+        rw (was-yea (formed k s) f g e, ← has-track t (unsheet k s) stepped (omega (arith, few)))
+        (answered (table (own t (unsheet k s))) out (rw (opened o) at p) (rw (opened o) at q))

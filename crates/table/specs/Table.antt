@@ -1,8 +1,10 @@
 -- The table writer: "takes a sheet and a track and gives one stsd box".
 use Prim.Native.Nat.{ℕ, _+_, max}
+use mathlib.Core.Bool.{Bool}
 use mathlib.Core.List.{List, [], _∷_, _++_}
 use lib.ListN.{length}
 use Rattle.wire.specs.Tests.{pick, ifEq, ifLt}
+use Rattle.wire.specs.Clauses.{isLe, every}
 use Rattle.wire.specs.Numbers.{bytes}
 use Rattle.wire.specs.Codes.{STSD}
 use Rattle.boxes.specs.Containers.{LONGEST}
@@ -18,10 +20,14 @@ unfoldable pub own : ℕ → List Entry → List Entry
 own t [] = []
 own t (e ∷ es) = ifEq (e .track) t (e ∷ own t es) (own t es)
 
--- "the sheet's highest" track: in a sheet of the form a track has entries exactly from 1 to it
+-- "the sheet's highest" track
 unfoldable pub highest : List Entry → ℕ
 highest [] = 0
 highest (e ∷ es) = max (e .track) (highest es)
+
+-- not "track 0 or above the sheet's highest"
+unfoldable pub hasTrack : ℕ → List Entry → Bool
+hasTrack t es = every (isLe 1 t ∷ isLe t (highest es) ∷ [])
 
 -- "16 bytes, then that track's bodies": size, `stsd`, version and flags, count
 unfoldable pub table : List Entry → List ℕ
@@ -30,13 +36,15 @@ table es = bytes 4 (16 + length (bodies es)) ++ bytes 4 STSD ++ bytes 4 0 ++ byt
 unfoldable pub tableOf : ℕ → List ℕ → ℕ → List ℕ
 tableOf k xs t = table (own t (unsheet k xs))
 
+-- 24, 25, of the entries of one track
+unfoldable pub ownAnswer : List Entry → List ℕ → Answer
+ownAnswer es out = ifLt LONGEST (length (table es)) (Refused 24 0) (inRoom (table es) out)
+
 -- "30, then 20 (track 0 or above the sheet's highest), then 24, then 25"
 unfoldable pub tableAnswer : ℕ → List ℕ → ℕ → List ℕ → Answer
 tableAnswer k xs t out =
     pick (formed k xs)
-    (ifEq (length (own t (unsheet k xs))) 0 (Refused 20 0)
-    (ifLt LONGEST (length (tableOf k xs t)) (Refused 24 0)
-    (inRoom (tableOf k xs t) out)))
+    (pick (hasTrack t (unsheet k xs)) (ownAnswer (own t (unsheet k xs)) out) (Refused 20 0))
     (Refused 30 0)
 
 abbrev pub tableOut : ℕ → List ℕ → ℕ → List ℕ → List ℕ

@@ -12,9 +12,10 @@ ghost use Prim.Native.Nat.{_+_, _^_, _≤_, _<_};
 ghost use lib.ListN.{length};
 ghost use Rattle.wire.specs.Tests.{ifEq};
 ghost use Rattle.wire.specs.Writing.{Put};
+ghost use Rattle.verdict.specs.Answers.{outBy};
 ghost use Rattle.sheet.specs.Sheet.{SLOTS, bodies as bodiesText};
 ghost use Rattle.table.specs.Form.{read};
-ghost use Rattle.table.specs.Table.{own, table as tableText, tableAnswer, tableOut};
+ghost use Rattle.table.specs.Table.{own, table as tableText, ownAnswer, tableAnswer, tableOut};
 
 pub mod form;
 pub mod slots;
@@ -92,6 +93,29 @@ fn put_table(
     put_own(out, d, slots, bodies, n, track)
 }
 
+// Of a track that has `count` entries of n slots: 24, 25, or its table is written.
+fn write_own(
+    slots: &[u8],
+    bodies: &[u8],
+    n: usize,
+    track: usize,
+    count: usize,
+    out: &mut [u8],
+) -> Answer
+    requires { ⌜ (16 + length (now bodies) < 2 ^ 63) × (count ≡ length (own track (read n (now slots) (now bodies)))) ⌝ }
+    ensures { λ r. ⌜ (r ≡ ownAnswer (own track (read n (now (slots .entry)) (now (bodies .entry)))) (now (out .entry))) × (now (out .exit) ≡ outBy r (tableText (own track (read n (now (slots .entry)) (now (bodies .entry))))) (now (out .entry))) ⌝ }
+{
+    let mut none = [0u8; 1];
+    let size = put_own(&mut none, 0, slots, bodies, n, track);
+    if containers::LONGEST < 16 + size {
+        return Answer::Refused(24, 0);
+    }
+    if out.len() < 16 + size {
+        return Answer::Refused(25, 0);
+    }
+    Answer::Done(put_table(out, slots, bodies, n, track, count, size))
+}
+
 // The `stsd` box of a track of a sheet.
 pub fn table(sheet: &[u8], track: usize, out: &mut [u8]) -> Answer
     ensures { λ r. ⌜ (r ≡ tableAnswer SLOTS (now (sheet .entry)) track (now (out .entry))) × (now (out .exit) ≡ tableOut SLOTS (now (sheet .entry)) track (now (out .entry))) ⌝ }
@@ -106,13 +130,5 @@ pub fn table(sheet: &[u8], track: usize, out: &mut [u8]) -> Answer
     if count == 0 {
         return Answer::Refused(20, 0);
     }
-    let mut none = [0u8; 1];
-    let size = put_own(&mut none, 0, slots, bodies, n, track);
-    if containers::LONGEST < 16 + size {
-        return Answer::Refused(24, 0);
-    }
-    if out.len() < 16 + size {
-        return Answer::Refused(25, 0);
-    }
-    Answer::Done(put_table(out, slots, bodies, n, track, count, size))
+    write_own(slots, bodies, n, track, count, out)
 }

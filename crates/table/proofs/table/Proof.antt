@@ -1,5 +1,5 @@
 use borrow.Author.Needs.{needs}
-use Rattle.table.proofs.Answering.{answer-form, answer-track, answer-long, answer-short, answer-done}
+use Rattle.table.proofs.Answering.{answer-form, answer-track, answer-own}
 use lib.ListN.{length, length-drop}
 use mathlib.Core.Path.{ap, _∙_}
 use native.Mathlib.Omega.{arith}
@@ -15,12 +15,6 @@ table-spec = tie.close (tie.spec
     (λ c κs. search needs)
     (λ c κs. search needs)
     (λ c. answer-track _ _ _ _ (c .before .before .before .before .before .before .formed .ensures) (λ e. omega arith) record { count = c .before .before .before .before .byte .ensures .0; slots = c .before .before .before .rest .ensures; bodies = c .before .before .rest2 .ensures } (c .before .count-own .ensures .0) (omega arith))
+    (λ c κs. (omega (arith, ap length (c .before .before .before .rest2 .ensures) ∙ length-drop 100 (c .before .before .before .before .before .before .before .before .before .before .args .sheet .now)), c .before .before .count-own .ensures .0))
     (λ c. search needs)
-    (λ c κs. omega (arith, ap length (c .before .before .before .rest2 .ensures) ∙ length-drop 100 (c .before .before .before .before .before .before .before .before .before .before .args .sheet .now)))
-    (λ c. omega (arith, ap length (c .before .before .before .before .before .rest2 .ensures) ∙ length-drop 100 (c .before .before .before .before .before .before .before .before .before .before .before .before .args .sheet .now)))
-    (λ c. answer-long _ _ _ _ (c .before .before .before .before .before .before .before .before .before .before .formed .ensures) (λ e. omega arith) record { count = c .before .before .before .before .before .before .before .before .byte .ensures .0; slots = c .before .before .before .before .before .before .before .rest .ensures; bodies = c .before .before .before .before .before .before .rest2 .ensures } (c .before .before .before .before .before .count-own .ensures .0) (λ e. omega arith) (c .before .before .put-own .ensures .0) (omega arith))
-    (λ c. search needs)
-    (λ c. answer-short _ _ _ _ (c .before .before .before .before .before .before .before .before .before .before .before .formed .ensures) (λ e. omega arith) record { count = c .before .before .before .before .before .before .before .before .before .byte .ensures .0; slots = c .before .before .before .before .before .before .before .before .rest .ensures; bodies = c .before .before .before .before .before .before .before .rest2 .ensures } (c .before .before .before .before .before .before .count-own .ensures .0) (λ e. omega arith) (c .before .before .before .put-own .ensures .0) (omega arith) (omega arith))
-    (λ c κs. (omega (arith, ap length (c .before .before .before .before .before .before .before .before .rest2 .ensures) ∙ length-drop 100 (c .before .before .before .before .before .before .before .before .before .before .before .before .before .before .before .args .sheet .now)), omega arith, c .before .before .before .before .before .before .before .count-own .ensures .0, omega (arith, c .before .before .before .before .put-own .ensures .0 .next)))
-    (λ c. search needs)
-    (λ c. answer-done _ _ _ _ (c .before .before .before .before .before .before .before .before .before .before .before .before .before .before .before .formed .ensures) (λ e. omega arith) record { count = c .before .before .before .before .before .before .before .before .before .before .before .before .before .byte .ensures .0; slots = c .before .before .before .before .before .before .before .before .before .before .before .before .rest .ensures; bodies = c .before .before .before .before .before .before .before .before .before .before .before .rest2 .ensures } (c .before .before .before .before .before .before .before .before .before .before .count-own .ensures .0) (λ e. omega arith) (c .before .before .before .before .before .before .before .put-own .ensures .0) (omega arith) (omega arith) (c .before .before .put-table .ensures)))
+    (λ c. answer-own _ _ _ _ (c .before .before .before .before .before .before .before .before .before .before .formed .ensures) (λ e. omega arith) record { count = c .before .before .before .before .before .before .before .before .byte .ensures .0; slots = c .before .before .before .before .before .before .before .rest .ensures; bodies = c .before .before .before .before .before .before .rest2 .ensures } (c .before .before .before .before .before .count-own .ensures .0) (λ e. omega arith) (c .before .before .write-own .ensures)))
