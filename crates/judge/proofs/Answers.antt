@@ -18,7 +18,7 @@ use Rattle.verdict.specs.Verdict.{sooner, unless}
 use Rattle.verdict.specs.Judge.{Judge, judgeBox, judgeIn}
 use Rattle.verdict.proofs.Places.{sooner-none, unless-nay}
 use Rattle.verdict.proofs.Traverse.{Found, found-none, found-over}
-use Rattle.judge.specs.Rules.{unlessAnswer, endBy}
+use Rattle.judge.specs.Asked.{unlessAnswer, endBy}
 
 pub unless-is : (t : Bool) (p : ℕ) {r : ℕ} {v : Verdict} → r ≡ oneIf t → v ≡ unlessAnswer r p → v ≡ unless t p
 unfolding unlessAnswer unless oneIf

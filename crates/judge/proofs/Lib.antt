@@ -1,6 +1,5 @@
 pub mod Answers
 pub mod Order
-pub mod Says
 pub mod Exact
 pub mod Calls
 pub mod Editable

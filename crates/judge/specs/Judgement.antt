@@ -1,16 +1,25 @@
 -- The judgement of a file: "The number given is the lowest whose rule is broken".
-use Prim.Native.Nat.{ℕ, zero, suc, _+_}
-use mathlib.Core.List.{List}
+use Prim.Native.Nat.{ℕ, _+_}
+use mathlib.Core.List.{List, [], _∷_}
 use lib.ListN.{length}
 use Rattle.wire.specs.Tests.{ifLt}
-use Rattle.boxes.specs.Containers.{LONGEST}
+use Rattle.boxes.specs.Box.{Box}
+use Rattle.boxes.specs.Boxes.{boxes}
+use Rattle.boxes.specs.Containers.{FILE, DEPTH, LONGEST}
 use Rattle.verdict.specs.declared.Verdict.{Verdict}
 use Rattle.verdict.specs.declared.Verdict.the-variants.{Fine, Bad}
 use Rattle.verdict.specs.declared.Answer.{Answer}
 use Rattle.verdict.specs.declared.Answer.the-variants as answer
+use Rattle.verdict.specs.Judge.{Judge, judgeIn}
+use Rattle.shape.specs.Rules.{two, three}
+use Rattle.lists.specs.Rules.{five, nine}
+use Rattle.headers.specs.Four.{four}
+use Rattle.tracks.specs.Six.{six}
+use Rattle.tracks.specs.Seven.{seven}
+use Rattle.tracks.specs.Eight.{eight}
+use Rattle.descriptions.specs.Ten.{ten}
 use Rattle.judge.specs.declared.Judgement.{Judgement}
 use Rattle.judge.specs.declared.Judgement.the-variants.{Accepted, Refused}
-use Rattle.judge.specs.Rules.{verdictOf}
 
 -- the refusal number of the paper, 0 where there is none, and its place
 abbrev pub number : Judgement → ℕ
@@ -21,19 +30,27 @@ abbrev pub place : Judgement → ℕ
 place Accepted = 0
 place (Refused n p) = p
 
--- rule n's verdict, and then the rules after it
+-- rules 2 to 10 in their order; rule 8 is asked in a file with the boxes l
+abbrev pub judges : List Box → List Judge
+judges l = two ∷ three ∷ four ∷ five ∷ six ∷ seven ∷ eight l ∷ nine ∷ ten ∷ []
+
+-- what a rule says of a file
+abbrev pub verdictBy : Judge → List ℕ → Verdict
+verdictBy j xs = judgeIn j DEPTH FILE xs 0 0
+
+-- the verdict of rule n, and then the rules after it
 unfoldable pub next : ℕ → Verdict → Judgement → Judgement
 next n Fine j = j
 next n (Bad p) j = Refused n p
 
--- the rules from n on, of which k are left
-unfoldable pub judgedFrom : ℕ → ℕ → List ℕ → Judgement
-judgedFrom zero n xs = Accepted
-judgedFrom (suc k) n xs = next n (verdictOf n xs) (judgedFrom k (n + 1) xs)
+-- the rules from n on
+unfoldable pub judgedFrom : ℕ → List Judge → List ℕ → Judgement
+judgedFrom n [] xs = Accepted
+judgedFrom n (j ∷ js) xs = next n (verdictBy j xs) (judgedFrom (n + 1) js xs)
 
 -- rule 1: "Length is 8 to 1,048,576. Place 0."; then rules 2 to 10
 unfoldable pub judged : List ℕ → Judgement
-judged xs = ifLt (length xs) 8 (Refused 1 0) (ifLt LONGEST (length xs) (Refused 1 0) (judgedFrom 9 2 xs))
+judged xs = ifLt (length xs) 8 (Refused 1 0) (ifLt LONGEST (length xs) (Refused 1 0) (judgedFrom 2 (judges (boxes xs)) xs))
 
 -- "after 1 to 10": the answer of a call on a file that is accepted, else the refusal
 unfoldable pub whenAccepted : Judgement → Answer → Answer

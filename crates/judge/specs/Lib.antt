@@ -1,3 +1,3 @@
-pub mod Rules
 pub mod Judgement
 pub mod Acceptance
+pub mod Asked

@@ -9,7 +9,7 @@ ghost use lib.ListN.{length};
 ghost use Rattle.wire.specs.Clauses.{oneIf};
 ghost use Rattle.boxes.specs.Containers.{LONGEST};
 ghost use Rattle.judge.specs.Acceptance.{plain as plainOf};
-ghost use Rattle.judge.specs.Rules.{verdictOf};
+ghost use Rattle.judge.specs.Asked.{verdictOf};
 ghost use Rattle.judge.specs.Judgement.{judged};
 
 // A file is accepted, or refused with a number and a place.

@@ -11,7 +11,7 @@ ghost use lib.ListN.{length};
 ghost use Rattle.boxes.specs.Boxes.{boxes};
 ghost use Rattle.boxes.specs.Walk.{boxAt};
 ghost use Rattle.verdict.specs.Judge.{judgeBox, judgeIn};
-ghost use Rattle.judge.specs.Rules.{unlessAnswer, leafBy, nodeBy, judgeBy};
+ghost use Rattle.judge.specs.Asked.{unlessAnswer, leafBy, nodeBy, judgeBy};
 
 // Broken at a place where an answer is 0.
 fn unless(answer: usize, place: usize) -> Verdict

@@ -38,10 +38,9 @@ use Rattle.tracks.specs.Seven.{sevenHolds, sevenIn}
 use Rattle.tracks.specs.Six.{tableOf, tableIn, sixHolds}
 use Rattle.descriptions.specs.Ten.{aroundIn, stsdStart, meets, entriesFrom, tenAt}
 use Rattle.judge.specs.Judgement.{next, judgedFrom, judged, whenAccepted}
-use Rattle.judge.specs.Rules.{leafBy, nodeBy, endBy, verdictOf}
 use Rattle.shift.specs.Shift.{both, trackTimes, allTimes, shiftable, acceptedAnswer, shiftAnswer}
 use Rattle.promises.specs.Marked.{table, allMarked}
 
 pub marked : allMarked table ≡ true
-unfolding whenAccepted track mayShift both trackTimes allTimes shiftable acceptedAnswer shiftAnswer isEq isLt isLe every oneIf bytesOn bytes word same sumTo allTo ifEq ifLt ifLe header write whole boxes total after parent kindIn tilingOf meant count nth placeBy placeIn startIn samplesIn firstSample chunkAt extentOf descriptionOf emptyTogether seven rises runFine runsFine runAmong runOf listed sizeAt bytesFrom hasForm timedTo mdats within past resolve inAt chunkIn chunksIn boxHeader commonHead audioHead visualStart visualHead headSize nameIn begins headRule kindOf handlerOf boxRule strayModes periodRule framesRule damrRule d263Rule recordRule trackRule esdsRule avcRule insideRule ruleAs entryRule judgeList judgeBox judgeIn sooner unless needed exactly first besides shape listForm formIn follow brokenAt entriesOf entries overMost isUrl brandsForm headForm handlerForm ifBox form tracksIn identity fresh tkhdPlace freshTo eightHolds eightAt sevenHolds sevenIn tableOf tableIn sixHolds aroundIn stsdStart meets entriesFrom tenAt next judgedFrom judged leafBy nodeBy endBy verdictOf
+unfolding whenAccepted track mayShift both trackTimes allTimes shiftable acceptedAnswer shiftAnswer isEq isLt isLe every oneIf bytesOn bytes word same sumTo allTo ifEq ifLt ifLe header write whole boxes total after parent kindIn tilingOf meant count nth placeBy placeIn startIn samplesIn firstSample chunkAt extentOf descriptionOf emptyTogether seven rises runFine runsFine runAmong runOf listed sizeAt bytesFrom hasForm timedTo mdats within past resolve inAt chunkIn chunksIn boxHeader commonHead audioHead visualStart visualHead headSize nameIn begins headRule kindOf handlerOf boxRule strayModes periodRule framesRule damrRule d263Rule recordRule trackRule esdsRule avcRule insideRule ruleAs entryRule judgeList judgeBox judgeIn sooner unless needed exactly first besides shape listForm formIn follow brokenAt entriesOf entries overMost isUrl brandsForm headForm handlerForm ifBox form tracksIn identity fresh tkhdPlace freshTo eightHolds eightAt sevenHolds sevenIn tableOf tableIn sixHolds aroundIn stsdStart meets entriesFrom tenAt next judgedFrom judged
 marked = refl

@@ -1,5 +1,5 @@
 use borrow.Author.Needs.{needs}
-use Rattle.judge.specs.Rules.{verdictOf}
+use Rattle.judge.specs.Asked.{verdictOf}
 use Rattle.judge.proofs.verdict_of.Statement.{statement}
 use Rattle.judge.proofs.verdict_of.Tie as tie
 

@@ -3,7 +3,7 @@ use Prim.Native.Nat.{ℕ, _+_, _-_, _*_, _<_}
 use Rattle.boxes.proofs.Walking.{ran, ended, broke}
 use Rattle.boxes.specs.Boxes.{boxes, after}
 use Rattle.judge.proofs.Answers.{box-leaf, box-node, judge-shallow, judge-start, end-tiled, end-passed, end-torn}
-use Rattle.judge.specs.Rules.{endBy, judgeBy}
+use Rattle.judge.specs.Asked.{endBy, judgeBy}
 use Rattle.verdict.proofs.Traverse.{Found, found-more}
 use Rattle.verdict.specs.Judge.{judgeBox, judgeIn}
 use lib.ListN.{length, drop, length-take, length-drop}

@@ -1,6 +1,6 @@
 use borrow.Author.Needs.{needs}
 use Rattle.judge.proofs.Answers.{unless-is}
-use Rattle.judge.specs.Rules.{leafBy}
+use Rattle.judge.specs.Asked.{leafBy}
 use Rattle.wire.proofs.Tests.{eq-yea, eq-nay}
 use mathlib.Core.Path.{refl}
 use native.Mathlib.Omega.{arith}

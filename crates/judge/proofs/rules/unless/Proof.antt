@@ -1,4 +1,4 @@
-use Rattle.judge.specs.Rules.{unlessAnswer}
+use Rattle.judge.specs.Asked.{unlessAnswer}
 use Rattle.wire.proofs.Tests.{eq-yea, eq-nay}
 use mathlib.Core.Path.{refl}
 use native.Mathlib.Omega.{arith}

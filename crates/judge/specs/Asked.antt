@@ -1,13 +1,12 @@
--- The rules by number. Rule 1 is of the file's length alone; the others are asked of every box, in file order.
+-- How code asks: one traversal for every rule, by the rule's number.
 use Prim.Native.Nat.{ℕ}
 use mathlib.Core.List.{List}
 use Rattle.wire.specs.Tests.{ifEq}
 use Rattle.boxes.specs.Box.{Box}
 use Rattle.boxes.specs.Boxes.{boxes}
-use Rattle.boxes.specs.Containers.{FILE, DEPTH}
 use Rattle.verdict.specs.declared.Verdict.{Verdict}
 use Rattle.verdict.specs.declared.Verdict.the-variants.{Fine, Bad}
-use Rattle.verdict.specs.Judge.{Judge, judgeIn}
+use Rattle.verdict.specs.Judge.{Judge}
 use Rattle.shape.specs.Rules.{two, three, plain}
 use Rattle.lists.specs.Rules.{five, nine}
 use Rattle.headers.specs.Four.{four}
@@ -15,6 +14,7 @@ use Rattle.tracks.specs.Six.{six}
 use Rattle.tracks.specs.Seven.{seven}
 use Rattle.tracks.specs.Eight.{eight}
 use Rattle.descriptions.specs.Ten.{ten}
+use Rattle.judge.specs.Judgement.{verdictBy}
 
 -- rules 4, 5, 6 and 9 look at opaque boxes
 unfoldable pub leafBy : ℕ → ℕ → ℕ → List ℕ → ℕ → ℕ → Verdict
@@ -44,7 +44,7 @@ judgeBy n l = record { leaf = leafBy n; node = nodeBy n l; end = endBy n }
 
 -- what rule n says of a file
 unfoldable pub verdictOf : ℕ → List ℕ → Verdict
-verdictOf n xs = judgeIn (judgeBy n (boxes xs)) DEPTH FILE xs 0 0
+verdictOf n xs = verdictBy (judgeBy n (boxes xs)) xs
 
 -- broken at a place where an answer is 0
 unfoldable pub unlessAnswer : ℕ → ℕ → Verdict
