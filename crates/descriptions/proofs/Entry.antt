@@ -1,15 +1,13 @@
 -- What rule 10's answers say. Assumes nothing.
-use Prim.Native.Nat.{ℕ, _+_, _-_, _≤_, _<_}
+use Prim.Native.Nat.{ℕ, _+_, _-_}
 use native.Mathlib.Omega.{arith}
 use mathlib.Core.Path.{_≡_, refl, sym, ap, _∙_}
-use mathlib.Core.List.{List, [], _++_, append-assoc}
-use lib.ListN.{length, take, drop, length-append, drop-of-length-le}
+use mathlib.Core.List.{List, _++_, append-assoc}
+use lib.ListN.{length, take, drop, length-append}
 use lib.Seq.{take-at}
-use borrow.Rule.Slice.PartMut.{midOf}
 use Rattle.wire.specs.Numbers.{Bytes, word}
 use Rattle.wire.specs.Codes.{MDIA, MDHD, HDLR, MINF, DINF, DREF, STBL, STSD}
 use Rattle.wire.proofs.Clauses.{is-eq, not-eq}
-use Rattle.wire.proofs.Lists.{tail-is}
 use Rattle.wire.proofs.Tests.{eq-yea, eq-nay}
 use Rattle.boxes.specs.declared.walk.Walk.{Walk}
 use Rattle.boxes.specs.declared.walk.BoxAt.{BoxAt}
@@ -17,8 +15,7 @@ use Rattle.boxes.specs.Box.{Box, header}
 use Rattle.boxes.specs.Boxes.{boxes, FRONT}
 use Rattle.boxes.specs.Walk.{payload, boxAt, Ran, Over}
 use Rattle.boxes.specs.Seek.{find, startIn}
-use Rattle.boxes.proofs.Whole.{length-header, short-not}
-use Rattle.boxes.proofs.Reading.{boxes-stop}
+use Rattle.boxes.proofs.Whole.{length-header}
 use Rattle.boxes.proofs.Seeking.{length-payload, ran-bytes}
 use Rattle.entries.specs.declared.rule.Around.{Around}
 use Rattle.entries.specs.declared.rule.Around.the-variants.{Track}
@@ -26,7 +23,6 @@ use Rattle.entries.specs.Entries.{entryRule, FRAMES}
 use Rattle.verdict.specs.declared.Verdict.{Verdict}
 use Rattle.verdict.specs.declared.Verdict.the-variants.{Fine, Bad}
 use Rattle.verdict.specs.Verdict.{sooner, unless}
-use Rattle.verdict.specs.Judge.{judgeList}
 use Rattle.verdict.proofs.Places.{sooner-none, unless-yea, unless-nay}
 use Rattle.verdict.proofs.Traverse.{Found, found-none, found-more, found-over}
 use Rattle.descriptions.specs.Ten.{stsd, aroundIn, stsdStart, meets, bytesOf, entryFine, entriesFrom, tenAt}
@@ -65,16 +61,9 @@ start-is l p e f g h i = rw (g, h, i, f, e)
 
 -- ---- the entries of a track
 
-module _ (xs : List ℕ) (p : ℕ) where
-  pub track-short : {b : List ℕ} → b ≡ stsd (boxes xs) → length b < FRONT → Fine ≡ tenAt MDIA xs p
-  unfolding tenAt entriesFrom judgeList
-  track-short e h =
-      let z : drop FRONT (stsd (boxes xs)) ≡ [] = drop-of-length-le (stsd (boxes xs)) {i = FRONT} (omega (arith, ap length e)) in
-      eq-yea _ _ _ _ _ refl (rw (z, boxes-stop [] (short-not [] (omega arith))))
-
-  pub track-is : {b : List ℕ} {a : Around} {s : ℕ} {v : Verdict} → b ≡ stsd (boxes xs) → a ≡ aroundIn (boxes xs) → s ≡ stsdStart (boxes xs) p + FRONT → FRONT ≤ length b → v ≡ entriesFrom a (midOf FRONT (length b - FRONT) b) s → v ≡ tenAt MDIA xs p
-  unfolding tenAt
-  track-is {b} e f g h q = eq-yea _ _ _ _ _ refl (q ∙ rw (tail-is b FRONT h, e, f, g))
+pub track-is : (xs : List ℕ) (p : ℕ) {b list : List ℕ} {a : Around} {s : ℕ} {v : Verdict} → b ≡ stsd (boxes xs) → a ≡ aroundIn (boxes xs) → s ≡ stsdStart (boxes xs) p → list ≡ drop FRONT b → v ≡ entriesFrom a list (s + FRONT) → v ≡ tenAt MDIA xs p
+unfolding tenAt
+track-is xs p e f g h q = eq-yea _ _ _ _ _ refl (q ∙ rw (h, e, f, g))
 
 pub ten-mdia : (k : ℕ) (xs : List ℕ) (p : ℕ) {v : Verdict} → k ≡ MDIA → v ≡ tenAt MDIA xs p → v ≡ tenAt k xs p
 ten-mdia k xs p e q = rw e q

@@ -8,6 +8,7 @@ use entries::rule;
 use entries::rule::Around;
 use verdict::Verdict;
 use wire::codes;
+use wire::lend;
 use wire::number;
 ghost use mathlib.Core.Path.{_≡_};
 ghost use Prim.Native.Nat.{_+_, _^_, _<_, _≤_};
@@ -95,12 +96,8 @@ fn track_entries(mdia: &[u8], base: usize) -> Verdict
     ensures { λ r. ⌜ r ≡ tenAt MDIA (now (mdia .entry)) base ⌝ }
 {
     let around = around_in(mdia);
-    let list = stsd_in(mdia);
-    if list.len() < FRONT {
-        return Verdict::Fine;
-    }
-    let start = stsd_start(mdia, base) + FRONT;
-    entries_from(&list[FRONT..], start, around)
+    let list = lend::rest(stsd_in(mdia), FRONT);
+    entries_from(list, stsd_start(mdia, base) + FRONT, around)
 }
 
 // Rule 10 of a container of kind k whose payload starts at base.

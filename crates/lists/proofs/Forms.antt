@@ -1,24 +1,19 @@
 -- Laws of rule 5 in one box. Assumes nothing.
-use Prim.Native.Nat.{ℕ, _-_, min}
+use Prim.Native.Nat.{ℕ, _-_}
 use native.Mathlib.Omega.{arith}
 use mathlib.Core.Path.{_≡_, refl, sym, ap, _∙_}
 use mathlib.Core.Bool.{Bool, true, false}
 use mathlib.Core.List.{List}
 use lib.Dec.{eqb}
-use lib.ListN.{length, take, drop}
+use lib.ListN.{length}
 use Rattle.wire.specs.Tests.{pick, ifEq}
 use Rattle.wire.specs.Clauses.{isEq, oneIf}
-use Rattle.wire.proofs.Lists.{tail-is, drop-min}
 use Rattle.wire.proofs.Clauses.{eq-is, le-is, clause}
 use Rattle.boxes.specs.declared.seek.Tiling.{Tiling}
 use Rattle.boxes.specs.declared.seek.Tiling.the-variants.{Whole, Torn}
-use Rattle.boxes.specs.Boxes.{after, FRONT}
+use Rattle.boxes.specs.Boxes.{after}
 use Rattle.boxes.specs.Seek.{tilingOf}
 use Rattle.lists.specs.Forms.{listForm, Listed}
-
--- what stands past the count
-pub listed-is : (xs : List ℕ) (n : ℕ) → n ≡ min FRONT (length xs) → take (length xs - n) (drop n xs) ≡ drop FRONT xs
-listed-is xs n e = rw e (tail-is xs (min FRONT (length xs)) (omega arith) ∙ drop-min FRONT xs)
 
 pub form-is : (b : List ℕ) → listForm b ≡ true → Listed b
 unfolding listForm

@@ -3,20 +3,13 @@ use boxes::seek;
 use boxes::seek::Tiling;
 use boxes::walk::FRONT;
 use wire::codes;
+use wire::lend;
 use wire::number;
 ghost use mathlib.Core.Path.{_≡_};
-ghost use lib.ListN.{length, drop};
+ghost use lib.ListN.{length};
 ghost use Rattle.wire.specs.Clauses.{isEq, oneIf};
-ghost use Rattle.boxes.specs.Boxes.{after, FRONT};
+ghost use Rattle.boxes.specs.Boxes.{after};
 ghost use Rattle.lists.specs.Forms.{listForm, formIn};
-
-// What stands past the count.
-pub fn listed(body: &[u8]) -> &[u8]
-    ensures { λ r. ⌜ now r ≡ drop FRONT (now (body .entry)) ⌝ }
-{
-    let n = number::least(FRONT, body.len());
-    &body[n..]
-}
 
 // Whether boxes tile a part: 1 or 0.
 fn tiled(part: &[u8]) -> usize
@@ -32,7 +25,7 @@ fn tiled(part: &[u8]) -> usize
 pub fn list_form(body: &[u8]) -> usize
     ensures { λ r. ⌜ r ≡ oneIf (listForm (now (body .entry))) ⌝ }
 {
-    let rest = listed(body);
+    let list = lend::rest(body, FRONT);
     let n = number::word32(body, 4);
     if body.len() < FRONT {
         return 0;
@@ -43,10 +36,10 @@ pub fn list_form(body: &[u8]) -> usize
     if n < 1 {
         return 0;
     }
-    if tiled(rest) == 0 {
+    if tiled(list) == 0 {
         return 0;
     }
-    if seek::count(rest, seek::ANY) != n {
+    if seek::count(list, seek::ANY) != n {
         return 0;
     }
     1

@@ -1,11 +1,11 @@
 // Rule 9: what a `dref` lists.
-use crate::form;
 use boxes::walk;
 use boxes::walk::BoxAt;
 use boxes::walk::Step;
 use boxes::walk::Walk;
 use verdict::Verdict;
 use wire::codes;
+use wire::lend;
 use wire::number;
 ghost use mathlib.Core.Path.{_≡_};
 ghost use Prim.Native.Nat.{_+_, _^_, _≤_, _<_};
@@ -76,5 +76,5 @@ pub fn urls_in(k: usize, c: usize, body: &[u8], q: usize) -> Verdict
     if c != codes::DREF {
         return Verdict::Fine;
     }
-    urls_from(form::listed(body), q + walk::FRONT)
+    urls_from(lend::rest(body, walk::FRONT), q + walk::FRONT)
 }

@@ -1,11 +1,10 @@
 -- Looking an entry up, as code and its callers ask. Assumes nothing.
-use Prim.Native.Nat.{ℕ, _+_, _-_, _≤_, min}
+use Prim.Native.Nat.{ℕ, _+_, _-_, _≤_}
 use native.Mathlib.Omega.{arith}
 use mathlib.Core.Path.{_≡_, refl, ap, subst, _∙_}
 use mathlib.Core.List.{List}
-use lib.ListN.{length, take, drop, length-take, length-drop}
+use lib.ListN.{length, drop, length-drop}
 use Rattle.wire.specs.Codes.{MOOV, TRAK, MDIA, MINF, STBL, STSD}
-use Rattle.wire.proofs.Lists.{tail-is, drop-min}
 use Rattle.boxes.specs.declared.walk.BoxAt.{BoxAt}
 use Rattle.boxes.specs.declared.seek.Seen.{Seen}
 use Rattle.boxes.specs.declared.seek.Seen.the-variants as seen
@@ -25,9 +24,9 @@ use Rattle.movie.proofs.Counting.{length-after}
 
 -- ---- as code asks
 
-pub list-is : (b stsd : List ℕ) (n : ℕ) → stsd ≡ table STSD b → length stsd ≤ length b → n ≡ min FRONT (length stsd) → (take (length stsd - n) (drop n stsd) ≡ listIn b) × (length (take (length stsd - n) (drop n stsd)) ≤ length b)
+pub list-is : (b stsd list : List ℕ) → stsd ≡ table STSD b → length stsd ≤ length b → list ≡ drop FRONT stsd → (list ≡ listIn b) × (length list ≤ length b)
 unfolding listIn
-list-is b stsd n e h f = (rw f (tail-is stsd (min FRONT (length stsd)) (omega arith) ∙ drop-min FRONT stsd) ∙ ap (drop FRONT) e, rw (length-take, length-drop) (omega arith))
+list-is b stsd list e h f = (f ∙ ap (drop FRONT) e, omega (arith, ap length f ∙ length-drop FRONT stsd))
 
 pub spot-in : (xs : List ℕ) {moov : List ℕ} → moov ≡ find MOOV (boxes xs) → (i : ℕ) (r : Spot) (t n : ℕ) → SpotAs moov i r → r ≡ In t n → InTrack (find MOOV (boxes xs)) i t n
 spot-in xs {moov} e i r t n s f = let g : InTrack moov i t n = subst (SpotAs moov i) f s in rw e at g

@@ -6,6 +6,7 @@ use boxes::walk::BoxAt;
 use boxes::walk::Step;
 use boxes::walk::Walk;
 use wire::codes;
+use wire::lend;
 use wire::number;
 ghost use mathlib.Core.Path.{_≡_};
 ghost use Prim.Native.Nat.{_+_, _≤_};
@@ -40,9 +41,7 @@ pub enum Spot {
 pub fn list(track: &[u8]) -> &[u8]
     ensures { λ r. ⌜ (now r ≡ listIn (now (track .entry))) × (length (now r) ≤ length (now (track .entry))) ⌝ }
 {
-    let stsd = crate::table(track, codes::STSD);
-    let n = number::least(walk::FRONT, stsd.len());
-    &stsd[n..]
+    lend::rest(crate::table(track, codes::STSD), walk::FRONT)
 }
 
 // How many entries a box of `moov` holds: none where it is no `trak`.

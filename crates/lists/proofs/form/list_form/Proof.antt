@@ -17,7 +17,7 @@ list-form-spec = tie.close (tie.spec
     (λ c κs. search needs)
     (λ c. nay _ (fails 3 _ (was-nay _ _ (c .if4 .taken) (cc))))
     (λ c κs. search needs)
-    (λ c. let n = rw (c .before .before .before .before .before .before .before .before .before .listed .ensures) at (c .before .count .ensures .0) in nay _ (fails 4 _ (not-eq _ _ (λ e. omega arith))))
-    (λ c. let n = rw (c .before .before .before .before .before .before .before .before .before .listed .ensures) at (c .before .count .ensures .0) in
+    (λ c. let n = rw (c .before .before .before .before .before .before .before .before .before .rest .ensures) at (c .before .count .ensures .0) in nay _ (fails 4 _ (not-eq _ _ (λ e. omega arith))))
+    (λ c. let n = rw (c .before .before .before .before .before .before .before .before .before .rest .ensures) at (c .before .count .ensures .0) in
     yea _ (holds _ _ (is-le _ _ (omega arith)) (holds _ _ (is-eq _ _ (omega arith)) (holds _ _ (is-le _ _ (omega arith))
     (holds _ _ (was-yea _ _ (c .before .before .if4 .left) (cc)) (holds _ _ (is-eq _ _ (omega arith)) done)))))))

@@ -13,5 +13,5 @@ urls-in-spec = tie.close (tie.spec
     (λ c. eq-yea _ _ _ _ _ (omega arith) (eq-nay _ _ _ _ _ (c .if2 .taken) refl))
     (λ c κs. search needs)
     (λ c. search needs)
-    (λ c κs. omega (arith, ap length (c .listed .ensures) ∙ length-drop FRONT (c .before .before .before .before .args .body .now)))
-    (λ c. eq-yea _ _ _ _ _ (omega arith) (eq-yea _ _ _ _ _ (omega arith) (rw (c .before .listed .ensures) at (c .urls-from .ensures)))))
+    (λ c κs. omega (arith, ap length (c .rest .ensures) ∙ length-drop FRONT (c .before .before .before .before .args .body .now)))
+    (λ c. eq-yea _ _ _ _ _ (omega arith) (eq-yea _ _ _ _ _ (omega arith) (rw (c .before .rest .ensures) at (c .urls-from .ensures)))))

@@ -7,7 +7,4 @@ pub list-spec : {M : Type 1} → statement M
 list-spec = tie.close (tie.spec
     (λ c κs. search needs)
     (λ c κs. search needs)
-    (λ c. search needs)
-    (λ c. search needs)
-    (λ c. search needs)
-    (λ c. list-is _ _ _ (c .before .before .table .ensures .0) (c .before .before .table .ensures .1) (c .before .least .ensures)))
+    (λ c. list-is _ _ _ (c .before .table .ensures .0) (c .before .table .ensures .1) (c .rest .ensures)))
