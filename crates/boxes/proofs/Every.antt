@@ -65,16 +65,6 @@ module _ (c : ℕ) (z : c ≡ ANY → ⊥) (P : List ℕ → Type 0) where
       (λ x l e a h. rw (nth-hit c x l e) (all-head a (meant-is c (x .code) z e)))
       (λ n x l e ih a h. rw (nth-next c x l e n) (ih (all-tail a) (omega arith)))
 
-  -- whether there is one or not, where it holds of nothing
-  pub each-or-none : P [] → (n : ℕ) (l : List Box) → All (λ x. x .code ≡ c → P (x .body)) l → P (nth c n l)
-  unfolding nth
-  each-or-none o =
-      by-number c (λ n l. All (λ x. x .code ≡ c → P (x .body)) l → P (nth c n l))
-      (λ n a. o)
-      (λ n x l e ih a. rw (nth-miss c x l e n) (ih (all-tail a)))
-      (λ x l e a. rw (nth-hit c x l e) (all-head a (meant-is c (x .code) z e)))
-      (λ n x l e ih a. rw (nth-next c x l e n) (ih (all-tail a)))
-
   -- and what holds of the first holds of every one, where there is one at most
   pub found-each : (l : List Box) → (0 < count c l → P (find c l)) → count c l ≤ 1 → All (λ x. x .code ≡ c → P (x .body)) l
   unfolding count

@@ -19,16 +19,12 @@ use Rattle.judge.specs.declared.Judgement.the-variants as judgement
 use Rattle.judge.specs.Judgement.{judged}
 use Rattle.judge.specs.Acceptance.{Meets, plain}
 use Rattle.judge.proofs.Calls.{when-done}
-use Rattle.judge.proofs.Exact.{accepted-meets, meets-accepted}
+use Rattle.judge.proofs.Exact.{accepted-meets}
 use Rattle.moving.specs.Moving.{moveOf, moveAnswer}
 use Rattle.replace.specs.Replace.{kindAt, takes, replaceOf, roomAnswer, settledAnswer, takenAnswer, replaceAnswer}
 use Rattle.shift.specs.Shift.{shiftOf, shiftAnswer}
 use Rattle.keeping.specs.Kept.{Kept}
 use Rattle.keeping.proofs.Edits.{keeps-move, keeps-shift, keeps-replace}
-
--- the edited file is accepted by the call that judges
-pub kept-accepted : (xs ys : List ℕ) → Kept xs ys → judged ys ≡ judgement.Accepted
-kept-accepted xs ys k = meets-accepted ys (k .accepted)
 
 -- ---- what an answer that is done says
 

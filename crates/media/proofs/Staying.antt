@@ -11,7 +11,6 @@ use Rattle.boxes.specs.Rewrite.{Bodies, over}
 use Rattle.boxes.specs.Kin.{All2}
 use Rattle.boxes.specs.Kin.All2.{nil, cons}
 use Rattle.boxes.proofs.Pairs.{all2-refl, all2-then, all2-map}
-use Rattle.tables.specs.Chunks.{offsetAt}
 use Rattle.media.specs.Payloads.{Spot, nowhere, spot, resolve, placeOf}
 use Rattle.media.specs.Relocate.{putAt, relocate, Relocated, Alike}
 use Rattle.media.proofs.Resolving.{resolved}
@@ -55,9 +54,6 @@ relocate-same l o = go (resolve l o) refl
 -- to a file with the same layout nothing moves
 pub relocate-alike : {l m : List Box} → All2 Alike l m → (o : ℕ) → relocate l m o ≡ o
 relocate-alike {l} a o = sym (relocate-like l a o) ∙ relocate-same l o
-
-pub relocated-alike : {l m : List Box} → All2 Alike l m → (stco : List ℕ) → Relocated l m stco stco
-relocated-alike a stco = record { same = refl; offsets = λ k h. sym (relocate-alike a (offsetAt stco k)) }
 
 -- a table that is missing of both has no offsets
 pub relocated-none : (l m : List Box) → Relocated l m [] []

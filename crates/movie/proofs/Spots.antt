@@ -2,23 +2,20 @@
 use Prim.Native.Nat.{ℕ, zero, suc, _+_, _-_, _≤_, _<_}
 use native.Mathlib.Omega.{arith}
 use mathlib.Core.Path.{_≡_, refl, sym, ap, _∙_}
-use mathlib.Core.List.{List, [], _∷_, _++_}
+use mathlib.Core.List.{List, [], _∷_}
 use lib.ListN.{length, drop}
-use Rattle.wire.specs.Codes.{MOOV, TRAK}
+use Rattle.wire.specs.Codes.{TRAK}
 use Rattle.wire.specs.Numbers.{Bytes}
 use Rattle.wire.proofs.Tests.{lt-yea, lt-nay}
 use Rattle.boxes.specs.declared.walk.Walk.{Walk}
 use Rattle.boxes.specs.declared.walk.BoxAt.{BoxAt}
-use Rattle.boxes.specs.Box.{header}
 use Rattle.boxes.specs.Boxes.{boxes}
-use Rattle.boxes.specs.Walk.{payload, boxAt, Ran, Over}
-use Rattle.boxes.specs.Seek.{ANY, meant, find, Cut}
+use Rattle.boxes.specs.Walk.{payload, Ran, Over}
+use Rattle.boxes.specs.Seek.{meant}
 use Rattle.movie.specs.declared.entry.Spot.the-variants.{In, Past}
-use Rattle.movie.specs.Movie.{track}
-use Rattle.movie.specs.Entries.{Entry, entries}
-use Rattle.movie.specs.Named.{listIn, held, InTrack, SpotAs, spotIn, bytesAt}
+use Rattle.movie.specs.Entries.{Entry}
+use Rattle.movie.specs.Named.{held, SpotAs, spotIn, bytesAt}
 use Rattle.movie.proofs.Spotting.{Gone, gone-none, gone-more, gone-in, gone-past}
-use Rattle.movie.proofs.Naming.{cut-is}
 
 -- ---- the walk
 
@@ -66,8 +63,3 @@ unfolding bytesAt
 bytes-none i [] h = refl
 bytes-none zero (x ∷ es) h = absurd (omega arith)
 bytes-none (suc i) (x ∷ es) h = bytes-none i es (omega arith)
-
--- entry i is the box of its spot
-pub spot-bytes : (xs : List ℕ) → Bytes xs → {i t n : ℕ} → InTrack (find MOOV (boxes xs)) i t n → {b : BoxAt} → Cut (listIn (track xs t)) ANY n b
-    → bytesAt i (entries xs) ≡ header (boxAt (listIn (track xs t)) b) ++ payload (listIn (track xs t)) b
-spot-bytes xs v {i} s c = bytes-at i (entries xs) (cut-is xs v s c)

@@ -4,4 +4,3 @@ pub mod Placed
 pub mod Agreement
 pub mod Settled
 pub mod Accepted
-pub mod Staying

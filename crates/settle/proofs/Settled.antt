@@ -18,8 +18,8 @@ use Rattle.boxes.specs.Rewrite.{editIn}
 use Rattle.boxes.specs.Words.{eachWord, reword, rewordLeaf}
 use Rattle.boxes.specs.Kin.{All2, Leaf, Kin}
 use Rattle.boxes.proofs.Reading.{All}
-use Rattle.boxes.proofs.Editing.{edit-length, edit-bytes, edit-same}
-use Rattle.boxes.proofs.Wording.{leaf-length, leaf-bytes}
+use Rattle.boxes.proofs.Editing.{edit-length, edit-same}
+use Rattle.boxes.proofs.Wording.{leaf-length}
 use Rattle.media.specs.Payloads.{inAt}
 use Rattle.media.specs.Relocate.{relocate, Alike}
 use Rattle.media.proofs.Staying.{relocate-alike}
@@ -33,10 +33,6 @@ use Rattle.settle.proofs.Agreement.{meets-agree, kin-agree, list-agree}
 pub settled-length : (xs zs : List ℕ) → length (settled xs zs) ≡ length zs
 unfolding settled
 settled-length xs zs = edit-length (rewordLeaf offsets (relocate (boxes xs) (boxes zs))) (leaf-length offsets (relocate (boxes xs) (boxes zs))) DEPTH FILE zs
-
-pub settled-bytes : (xs zs : List ℕ) → Bytes zs → Bytes (settled xs zs)
-unfolding settled
-settled-bytes xs zs h = edit-bytes (rewordLeaf offsets (relocate (boxes xs) (boxes zs))) (leaf-bytes offsets (relocate (boxes xs) (boxes zs))) DEPTH FILE zs h
 
 -- ---- f moves every place in a payload of xs as relocation to zs does
 

@@ -14,7 +14,6 @@ use Rattle.wire.proofs.Same.{same-refl, same-is}
 use Rattle.movie.specs.Entries.{Entry}
 use Rattle.sheet.specs.Sheet.{SLOT, slot, slots, bodies, front, bodiesAt, sheet}
 use Rattle.table.specs.Form.{read, unsheet, steps, allMeet, formed}
-use Rattle.table.specs.Table.{own, table, tableOf}
 use Rattle.table.proofs.Making.{slot-length, front-length}
 
 -- what an entry says fits its slot
@@ -64,11 +63,6 @@ unfolding unsheet sheet front
 unsheet-sheet k es h a =
     rw (drop-at (front k es) (bodies es) (bodiesAt k) (front-length k es h), append-assoc)
     (back es (replicate (SLOT * (k - length es)) 0 ++ bodies es) a)
-
--- the table of a track, from a sheet of entries
-pub table-sheet : (k t : ℕ) (es : List Entry) → length es ≤ k → AllSmall es → tableOf k (sheet k es) t ≡ table (own t es)
-unfolding tableOf
-table-sheet k t es h a = rw (unsheet-sheet k es h a)
 
 count-sheet : (k : ℕ) (es : List Entry) → getD (sheet k es) 1 0 ≡ length es
 unfolding sheet front

@@ -1,5 +1,5 @@
 -- Laws of rules 6 and 7. Assumes nothing.
-use Prim.Native.Nat.{ℕ, _+_, _≤_, _<_}
+use Prim.Native.Nat.{ℕ, _<_}
 use native.Mathlib.Omega.{arith}
 use mathlib.Core.Path.{_≡_, refl, _∙_}
 use mathlib.Core.Bool.{true}
@@ -7,13 +7,11 @@ use mathlib.Core.List.{List}
 use Rattle.wire.proofs.Tests.{eq-nay}
 use Rattle.wire.proofs.Clauses.{eq-is, le-is, clause}
 use Rattle.tables.specs.Tables.{count}
-use Rattle.tables.specs.Sizes.{samples, bytesFrom}
+use Rattle.tables.specs.Sizes.{samples}
 use Rattle.tables.specs.Runs.{runsFine}
-use Rattle.tables.specs.Chunks.{samplesIn, firstSample, offsetAt, chunkAt, extentOf, extentAt, Walkable}
-use Rattle.tables.specs.declared.chunk.Chunk.{Chunk}
+use Rattle.tables.specs.Chunks.{offsetAt, chunkAt, extentOf, extentAt, Walkable}
 use Rattle.tables.specs.Rules.{Six, emptyTogether, seven, Seven}
 use Rattle.tables.proofs.Runs.{rising}
-use Rattle.tables.proofs.Chunks.{first-more, first-mono}
 
 some-runs : (chunks runs n : ℕ) → emptyTogether chunks runs n ≡ true → 0 < chunks → 0 < runs
 unfolding emptyTogether
@@ -36,15 +34,6 @@ module _ (stts stsc stsz stco : List ℕ) (entries : ℕ) (six : Six stts stsc s
         walk = walkable (clause 2 _ e) (clause 4 _ e);
       }
 
--- a chunk's samples are samples of the track
-module _ (stts stsc stsz stco : List ℕ) (k : ℕ) (s : Seven stts stsc stsz stco) (h : k < count stco) where
-  pub chunk-within : firstSample stsc k + samplesIn stsc k ≤ samples stsz
-  chunk-within = omega (arith, s .total, first-more stsc k, first-mono stsc (k + 1) (count stco) (omega arith))
-
-  pub chunk-few : (c : Chunk) → c ≡ chunkAt stsc stco k → c .first + c .samples ≤ 65536
-  unfolding chunkAt
-  chunk-few c e = rw e (omega (arith, chunk-within, s .few))
-
 -- ---- `stco` is read by its count and its offsets alone
 
 pub seven-same : (stts stsc stsz : List ℕ) (entries : ℕ) (o p : List ℕ) → count o ≡ count p → seven stts stsc stsz o entries ≡ seven stts stsc stsz p entries
@@ -58,7 +47,3 @@ chunk-same stsc k o p e = rw e
 pub extent-offset : (stsc stsz stco : List ℕ) (k : ℕ) → extentAt stsc stsz stco k .offset ≡ offsetAt stco k
 unfolding extentOf chunkAt
 extent-offset stsc stsz stco k = refl
-
-pub extent-bytes : (stsc stsz stco : List ℕ) (k : ℕ) → extentAt stsc stsz stco k .bytes ≡ bytesFrom stsz (firstSample stsc k) (samplesIn stsc k)
-unfolding extentOf chunkAt
-extent-bytes stsc stsz stco k = refl

@@ -2,21 +2,17 @@
 use Prim.Native.Nat.{ℕ, _+_, _*_, _^_, _≤_, _<_}
 use native.Mathlib.Omega.{arith}
 use native.Mathlib.Nat.{mul-le-mul-left, mul-le-mul-right, mul-add, mul-one}
-use mathlib.Core.Path.{_≡_, sym}
+use mathlib.Core.Path.{_≡_}
 use mathlib.Core.Bool.{true}
 use mathlib.Core.List.{List}
 use lib.ListN.{length}
-use Rattle.wire.proofs.Clauses.{is-eq, eq-is, done, holds, clause}
+use Rattle.wire.proofs.Clauses.{eq-is, clause}
 use Rattle.tables.specs.Tables.{count, hasForm, Form, Table}
 
 -- the form, as a test and as facts
 pub form-is : (n : ℕ) (xs : List ℕ) → hasForm n xs ≡ true → Form n xs
 unfolding hasForm
 form-is n xs e = record { version = eq-is _ _ (clause 0 _ e); long = eq-is _ _ (clause 1 _ e) }
-
-pub is-form : (n : ℕ) (xs : List ℕ) → Form n xs → hasForm n xs ≡ true
-unfolding hasForm
-is-form n xs f = sym (holds _ _ (is-eq _ _ (f .version)) (holds _ _ (is-eq _ _ (f .long)) done))
 
 -- the one-table-entry length fact, over the item width: a number of an item of a table lies inside
 pub item-inside : (w j i : ℕ) (xs : List ℕ) → Table w xs → j + 4 ≤ w → i < count xs → 8 + j + w * i + 4 ≤ length xs
