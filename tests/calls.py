@@ -1,5 +1,5 @@
 #!/usr/bin/env python3
-"""Writes what the program `calls` is run on (crates/calls/data) and what it must write (crates/calls/stdout).
+"""Writes what the program `test_calls` is run on (crates/test_calls/data) and what it must write (crates/test_calls/stdout).
 
 The answers are those of tests/answers.py, which knows the documents and not the library's code."""
 import pathlib
@@ -10,8 +10,8 @@ import files
 from files import Box, audio, bitr, d263, damr, esds, h, num, patch, visual, w
 
 ROOT = pathlib.Path(__file__).resolve().parent.parent
-CALLS = ROOT / "crates" / "calls"
-REAL = ROOT / "crates" / "cases" / "data"
+CALLS = ROOT / "crates" / "test_calls"
+REAL = ROOT / "crates" / "test_parts" / "data"
 GROUP = 65536
 ROOM = 40000
 LONG_ROOM = 1050000

@@ -1,10 +1,10 @@
 #!/usr/bin/env python3
-"""Writes what the program `cases` is run on (crates/cases/data) and what it must write (crates/cases/stdout).
+"""Writes what the program `test_parts` is run on (crates/test_parts/data) and what it must write (crates/test_parts/stdout).
 
 The answers are worked out here from the documents, apart from the library's code."""
 import pathlib
 
-CASES = pathlib.Path(__file__).resolve().parent.parent / "crates" / "cases"
+CASES = pathlib.Path(__file__).resolve().parent.parent / "crates" / "test_parts"
 DATA = CASES / "data"
 
 

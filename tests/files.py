@@ -5,7 +5,7 @@ whose place is named (of several, the first). A judge written here from the docu
 code, must agree."""
 import pathlib
 
-REAL = pathlib.Path(__file__).resolve().parent.parent / "crates" / "cases" / "data"
+REAL = pathlib.Path(__file__).resolve().parent.parent / "crates" / "test_parts" / "data"
 LONGEST = 1048576
 
 

@@ -9,7 +9,7 @@ use Rattle.wire.specs.Numbers.{word}
 use Rattle.wire.specs.Clauses.{isEq, oneIf}
 use Rattle.wire.proofs.Sums.{sum-none, sum-more, all-none, all-more, all-fails}
 use Rattle.movie.specs.Movie.{track, handler}
-use Rattle.tracks.proofs.Answers.{found-nay, found-yea}
+use Rattle.rule_tracks.proofs.Answers.{found-nay, found-yea}
 use Rattle.brands.specs.Brands.{timesTo, times, handledTo, single, singleTo, plain, plainTo}
 
 module _ (c : ℕ) (ftyp : List ℕ) where

@@ -3,7 +3,7 @@ mod compatible;
 mod conditions;
 
 use judge::Judgement;
-use verdict::Answer;
+use rule::Answer;
 use wire::codes;
 ghost use mathlib.Core.Path.{_≡_};
 ghost use Rattle.wire.specs.Clauses.{oneIf};

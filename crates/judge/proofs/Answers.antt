@@ -12,12 +12,12 @@ use Rattle.boxes.specs.Box.{Box}
 use Rattle.boxes.specs.Boxes.{after}
 use Rattle.boxes.specs.Walk.{Over}
 use Rattle.boxes.specs.Containers.{kindIn}
-use Rattle.verdict.specs.declared.Verdict.{Verdict}
-use Rattle.verdict.specs.declared.Verdict.the-variants.{Fine, Bad}
-use Rattle.verdict.specs.Verdict.{sooner, unless}
-use Rattle.verdict.specs.Judge.{Judge, judgeBox, judgeIn}
-use Rattle.verdict.proofs.Places.{sooner-none, unless-nay}
-use Rattle.verdict.proofs.Traverse.{Found, found-none, found-over}
+use Rattle.rule.specs.declared.Verdict.{Verdict}
+use Rattle.rule.specs.declared.Verdict.the-variants.{Fine, Bad}
+use Rattle.rule.specs.Verdict.{sooner, unless}
+use Rattle.rule.specs.Judge.{Judge, judgeBox, judgeIn}
+use Rattle.rule.proofs.Places.{sooner-none, unless-nay}
+use Rattle.rule.proofs.Traverse.{Found, found-none, found-over}
 use Rattle.judge.specs.Asked.{unlessAnswer, endBy}
 
 pub unless-is : (t : Bool) (p : ℕ) {r : ℕ} {v : Verdict} → r ≡ oneIf t → v ≡ unlessAnswer r p → v ≡ unless t p

@@ -8,13 +8,13 @@ use Rattle.wire.proofs.Clauses.{yea, nay}
 use Rattle.boxes.specs.Box.{Box}
 use Rattle.boxes.specs.Boxes.{boxes}
 use Rattle.boxes.specs.Containers.{FILE, DEPTH}
-use Rattle.verdict.specs.declared.Verdict.{Verdict}
-use Rattle.verdict.specs.declared.Verdict.the-variants.{Fine, Bad}
-use Rattle.verdict.specs.Verdict.{unless, isFine}
-use Rattle.verdict.specs.Rule.{Says}
-use Rattle.verdict.proofs.Places.{placed-says}
-use Rattle.verdict.proofs.Acceptance.{judge-fine}
-use Rattle.shape.specs.Rules.{plainRule}
+use Rattle.rule.specs.declared.Verdict.{Verdict}
+use Rattle.rule.specs.declared.Verdict.the-variants.{Fine, Bad}
+use Rattle.rule.specs.Verdict.{unless, isFine}
+use Rattle.rule.specs.Rule.{Says}
+use Rattle.rule.proofs.Places.{placed-says}
+use Rattle.rule.proofs.Acceptance.{judge-fine}
+use Rattle.rule_shape.specs.Rules.{plainRule}
 use Rattle.judge.specs.Asked.{leafBy, nodeBy, endBy, judgeBy, verdictOf}
 use Rattle.judge.specs.Acceptance.{plain}
 

@@ -12,23 +12,23 @@ use Rattle.wire.proofs.Tests.{lt-nay}
 use Rattle.boxes.specs.Box.{Box}
 use Rattle.boxes.specs.Boxes.{boxes}
 use Rattle.boxes.specs.Containers.{FILE, DEPTH, LONGEST}
-use Rattle.verdict.specs.declared.Verdict.{Verdict}
-use Rattle.verdict.specs.declared.Verdict.the-variants.{Fine, Bad}
-use Rattle.verdict.specs.Judge.{Judge}
-use Rattle.verdict.specs.Rule.{Rule, Says}
-use Rattle.verdict.proofs.Places.{placed-says}
-use Rattle.verdict.proofs.Acceptance.{fine-all, all-fine}
-use Rattle.shape.specs.Rules.{twoRule, threeRule}
-use Rattle.lists.specs.Rules.{fiveRule, nineRule}
-use Rattle.lists.proofs.Rules.{five-says, nine-says}
-use Rattle.headers.specs.Four.{fourRule}
-use Rattle.headers.proofs.Rule4.{four-says}
-use Rattle.tracks.specs.Six.{sixRule}
-use Rattle.tracks.specs.Seven.{sevenRule}
-use Rattle.tracks.specs.Eight.{eightRule}
-use Rattle.tracks.proofs.KeptEight.{eight-says}
-use Rattle.descriptions.specs.Ten.{tenRule}
-use Rattle.descriptions.proofs.Kept.{ten-says}
+use Rattle.rule.specs.declared.Verdict.{Verdict}
+use Rattle.rule.specs.declared.Verdict.the-variants.{Fine, Bad}
+use Rattle.rule.specs.Judge.{Judge}
+use Rattle.rule.specs.Rule.{Rule, Says}
+use Rattle.rule.proofs.Places.{placed-says}
+use Rattle.rule.proofs.Acceptance.{fine-all, all-fine}
+use Rattle.rule_shape.specs.Rules.{twoRule, threeRule}
+use Rattle.rule_lists.specs.Rules.{fiveRule, nineRule}
+use Rattle.rule_lists.proofs.Rules.{five-says, nine-says}
+use Rattle.rule_headers.specs.Four.{fourRule}
+use Rattle.rule_headers.proofs.Rule4.{four-says}
+use Rattle.rule_tracks.specs.Six.{sixRule}
+use Rattle.rule_tracks.specs.Seven.{sevenRule}
+use Rattle.rule_tracks.specs.Eight.{eightRule}
+use Rattle.rule_tracks.proofs.KeptEight.{eight-says}
+use Rattle.rule_entries.specs.Ten.{tenRule}
+use Rattle.rule_entries.proofs.Kept.{ten-says}
 use Rattle.judge.specs.declared.Judgement.{Judgement}
 use Rattle.judge.specs.declared.Judgement.the-variants.{Accepted, Refused}
 use Rattle.judge.specs.Judgement.{judges, verdictBy, next, judgedFrom, judged}

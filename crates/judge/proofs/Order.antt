@@ -9,10 +9,10 @@ use Rattle.wire.proofs.Tests.{lt-yea, lt-nay}
 use Rattle.boxes.specs.Box.{Box}
 use Rattle.boxes.specs.Boxes.{boxes}
 use Rattle.boxes.specs.Containers.{LONGEST}
-use Rattle.verdict.specs.declared.Verdict.{Verdict}
-use Rattle.verdict.specs.declared.Verdict.the-variants.{Fine, Bad}
-use Rattle.verdict.specs.Verdict.{unless}
-use Rattle.verdict.specs.Judge.{Judge}
+use Rattle.rule.specs.declared.Verdict.{Verdict}
+use Rattle.rule.specs.declared.Verdict.the-variants.{Fine, Bad}
+use Rattle.rule.specs.Verdict.{unless}
+use Rattle.rule.specs.Judge.{Judge}
 use Rattle.judge.specs.declared.Judgement.the-variants.{Accepted, Refused}
 use Rattle.judge.specs.Judgement.{judges, next, judgedFrom, judged}
 use Rattle.judge.specs.Asked.{leafBy, nodeBy, endBy, judgeBy, verdictOf}

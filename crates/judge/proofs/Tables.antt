@@ -8,13 +8,13 @@ use Rattle.boxes.specs.Boxes.{boxes}
 use Rattle.boxes.specs.Containers.{FILE, DEPTH}
 use Rattle.boxes.specs.Seek.{find}
 use Rattle.movie.specs.Movie.{tracks, track, minf}
-use Rattle.verdict.specs.Rule.{Rule, allIn}
-use Rattle.shape.specs.Rules.{threeRule}
-use Rattle.shape.proofs.Descent.{Met, in-track, in-stbl}
-use Rattle.tracks.specs.Six.{sixRule}
-use Rattle.tracks.specs.Seven.{sevenRule}
-use Rattle.tracks.specs.Eight.{eightRule}
-use Rattle.tracks.proofs.Chunked.{Chunked}
+use Rattle.rule.specs.Rule.{Rule, allIn}
+use Rattle.rule_shape.specs.Rules.{threeRule}
+use Rattle.rule_shape.proofs.Descent.{Met, in-track, in-stbl}
+use Rattle.rule_tracks.specs.Six.{sixRule}
+use Rattle.rule_tracks.specs.Seven.{sevenRule}
+use Rattle.rule_tracks.specs.Eight.{eightRule}
+use Rattle.rule_tracks.proofs.Chunked.{Chunked}
 use Rattle.judge.specs.Acceptance.{Holds, Meets}
 
 module _ (xs : List ℕ) (m : Meets xs) where

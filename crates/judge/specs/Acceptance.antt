@@ -6,14 +6,14 @@ use mathlib.Core.List.{List}
 use lib.ListN.{length}
 use Rattle.boxes.specs.Boxes.{boxes}
 use Rattle.boxes.specs.Containers.{FILE, DEPTH, LONGEST}
-use Rattle.verdict.specs.Rule.{Rule, allIn}
-use Rattle.shape.specs.Rules.{twoRule, threeRule, plainRule}
-use Rattle.lists.specs.Rules.{fiveRule, nineRule}
-use Rattle.headers.specs.Four.{fourRule}
-use Rattle.tracks.specs.Six.{sixRule}
-use Rattle.tracks.specs.Seven.{sevenRule}
-use Rattle.tracks.specs.Eight.{eightRule}
-use Rattle.descriptions.specs.Ten.{tenRule}
+use Rattle.rule.specs.Rule.{Rule, allIn}
+use Rattle.rule_shape.specs.Rules.{twoRule, threeRule, plainRule}
+use Rattle.rule_lists.specs.Rules.{fiveRule, nineRule}
+use Rattle.rule_headers.specs.Four.{fourRule}
+use Rattle.rule_tracks.specs.Six.{sixRule}
+use Rattle.rule_tracks.specs.Seven.{sevenRule}
+use Rattle.rule_tracks.specs.Eight.{eightRule}
+use Rattle.rule_entries.specs.Ten.{tenRule}
 
 -- a rule holds of a file
 abbrev pub Holds : Rule → List ℕ → Type 0

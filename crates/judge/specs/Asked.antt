@@ -4,16 +4,16 @@ use mathlib.Core.List.{List}
 use Rattle.wire.specs.Tests.{ifEq}
 use Rattle.boxes.specs.Box.{Box}
 use Rattle.boxes.specs.Boxes.{boxes}
-use Rattle.verdict.specs.declared.Verdict.{Verdict}
-use Rattle.verdict.specs.declared.Verdict.the-variants.{Fine, Bad}
-use Rattle.verdict.specs.Judge.{Judge}
-use Rattle.shape.specs.Rules.{two, three, plain}
-use Rattle.lists.specs.Rules.{five, nine}
-use Rattle.headers.specs.Four.{four}
-use Rattle.tracks.specs.Six.{six}
-use Rattle.tracks.specs.Seven.{seven}
-use Rattle.tracks.specs.Eight.{eight}
-use Rattle.descriptions.specs.Ten.{ten}
+use Rattle.rule.specs.declared.Verdict.{Verdict}
+use Rattle.rule.specs.declared.Verdict.the-variants.{Fine, Bad}
+use Rattle.rule.specs.Judge.{Judge}
+use Rattle.rule_shape.specs.Rules.{two, three, plain}
+use Rattle.rule_lists.specs.Rules.{five, nine}
+use Rattle.rule_headers.specs.Four.{four}
+use Rattle.rule_tracks.specs.Six.{six}
+use Rattle.rule_tracks.specs.Seven.{seven}
+use Rattle.rule_tracks.specs.Eight.{eight}
+use Rattle.rule_entries.specs.Ten.{ten}
 use Rattle.judge.specs.Judgement.{verdictBy}
 
 -- rules 4, 5, 6 and 9 look at opaque boxes

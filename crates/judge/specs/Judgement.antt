@@ -6,18 +6,18 @@ use Rattle.wire.specs.Tests.{ifLt}
 use Rattle.boxes.specs.Box.{Box}
 use Rattle.boxes.specs.Boxes.{boxes}
 use Rattle.boxes.specs.Containers.{FILE, DEPTH, LONGEST}
-use Rattle.verdict.specs.declared.Verdict.{Verdict}
-use Rattle.verdict.specs.declared.Verdict.the-variants.{Fine, Bad}
-use Rattle.verdict.specs.declared.Answer.{Answer}
-use Rattle.verdict.specs.declared.Answer.the-variants as answer
-use Rattle.verdict.specs.Judge.{Judge, judgeIn}
-use Rattle.shape.specs.Rules.{two, three}
-use Rattle.lists.specs.Rules.{five, nine}
-use Rattle.headers.specs.Four.{four}
-use Rattle.tracks.specs.Six.{six}
-use Rattle.tracks.specs.Seven.{seven}
-use Rattle.tracks.specs.Eight.{eight}
-use Rattle.descriptions.specs.Ten.{ten}
+use Rattle.rule.specs.declared.Verdict.{Verdict}
+use Rattle.rule.specs.declared.Verdict.the-variants.{Fine, Bad}
+use Rattle.rule.specs.declared.Answer.{Answer}
+use Rattle.rule.specs.declared.Answer.the-variants as answer
+use Rattle.rule.specs.Judge.{Judge, judgeIn}
+use Rattle.rule_shape.specs.Rules.{two, three}
+use Rattle.rule_lists.specs.Rules.{five, nine}
+use Rattle.rule_headers.specs.Four.{four}
+use Rattle.rule_tracks.specs.Six.{six}
+use Rattle.rule_tracks.specs.Seven.{seven}
+use Rattle.rule_tracks.specs.Eight.{eight}
+use Rattle.rule_entries.specs.Ten.{ten}
 use Rattle.judge.specs.declared.Judgement.{Judgement}
 use Rattle.judge.specs.declared.Judgement.the-variants.{Accepted, Refused}
 

@@ -2,7 +2,7 @@
 pub mod rules;
 
 use boxes::containers;
-use verdict::Verdict;
+use rule::Verdict;
 ghost use mathlib.Core.Path.{_≡_};
 ghost use Prim.Native.Nat.{_+_, _≤_};
 ghost use lib.ListN.{length};

@@ -4,13 +4,13 @@ use boxes::walk;
 use boxes::walk::BoxAt;
 use boxes::walk::Step;
 use boxes::walk::Walk;
-use verdict::Verdict;
+use rule::Verdict;
 ghost use mathlib.Core.Path.{_≡_};
 ghost use Prim.Native.Nat.{_+_, _-_, _^_, _≤_, _<_};
 ghost use lib.ListN.{length};
 ghost use Rattle.boxes.specs.Boxes.{boxes};
 ghost use Rattle.boxes.specs.Walk.{boxAt};
-ghost use Rattle.verdict.specs.Judge.{judgeBox, judgeIn};
+ghost use Rattle.rule.specs.Judge.{judgeBox, judgeIn};
 ghost use Rattle.judge.specs.Asked.{unlessAnswer, leafBy, nodeBy, judgeBy};
 
 // Broken at a place where an answer is 0.
@@ -29,16 +29,16 @@ fn leaf_by(n: usize, k: usize, c: usize, body: &[u8], place: usize, start: usize
     ensures { λ r. ⌜ r ≡ leafBy n k c (now (body .entry)) place start ⌝ }
 {
     if n == 4 {
-        return unless(headers::forms::form(k, c, body), place);
+        return unless(rule_headers::forms::form(k, c, body), place);
     }
     if n == 5 {
-        return unless(lists::form::form_in(k, c, body), place);
+        return unless(rule_lists::form::form_in(k, c, body), place);
     }
     if n == 6 {
-        return unless(tracks::table_in(k, c, body), place);
+        return unless(rule_tracks::table_in(k, c, body), place);
     }
     if n == 9 {
-        return lists::url::urls_in(k, c, body, start);
+        return rule_lists::url::urls_in(k, c, body, start);
     }
     Verdict::Fine
 }
@@ -49,25 +49,25 @@ fn node_by(n: usize, file: &[u8], k: usize, part: &[u8], home: usize, base: usiz
     ensures { λ r. ⌜ r ≡ nodeBy n (boxes (now (file .entry))) k (now (part .entry)) home base ⌝ }
 {
     if n == 3 {
-        return unless(shape::shape_of(k, part), home);
+        return unless(rule_shape::shape_of(k, part), home);
     }
     if n == 4 {
-        return headers::identities::tracks_in(k, part, base);
+        return rule_headers::identities::tracks_in(k, part, base);
     }
     if n == 5 {
-        return lists::total::most_in(k, part, base);
+        return rule_lists::total::most_in(k, part, base);
     }
     if n == 7 {
-        return unless(tracks::seven_in(k, part), home);
+        return unless(rule_tracks::seven_in(k, part), home);
     }
     if n == 8 {
-        return tracks::eight_at(file, k, part, base);
+        return rule_tracks::eight_at(file, k, part, base);
     }
     if n == 10 {
-        return descriptions::ten_at(k, part, base);
+        return rule_entries::ten_at(k, part, base);
     }
     if n == 23 {
-        return unless(shape::plain_of(k, part), home);
+        return unless(rule_shape::plain_of(k, part), home);
     }
     Verdict::Fine
 }
@@ -115,7 +115,7 @@ pub fn judge_in(
     loop {
         match w.step(part) {
             Step::Found(b, next) => {
-                found = verdict::sooner(found, judge_box(n, file, part, b, base, k, depth));
+                found = rule::sooner(found, judge_box(n, file, part, b, base, k, depth));
                 w = next;
             }
             Step::End => {
@@ -123,7 +123,7 @@ pub fn judge_in(
             }
             Step::Broken(p) => {
                 if n == 2 {
-                    return verdict::sooner(found, Verdict::Bad(base + p));
+                    return rule::sooner(found, Verdict::Bad(base + p));
                 }
                 return found;
             }

@@ -1,5 +1,5 @@
 // Prints the listing of a file. The file is named by the first argument, or is standard input.
-use verdict::Answer;
+use rule::Answer;
 ghost use Prim.Native.Nat.{_≤_};
 
 // The longest file that this program reads.

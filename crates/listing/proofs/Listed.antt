@@ -11,7 +11,7 @@ use Rattle.wire.specs.Numbers.{word}
 use Rattle.wire.specs.Clauses.{oneIf}
 use Rattle.wire.specs.Codes.{STTS}
 use Rattle.wire.proofs.Writing.{pen-none, pen-then, pen-is}
-use Rattle.tables.specs.Times.{mediaTicks}
+use Rattle.sample_tables.specs.Times.{mediaTicks}
 use Rattle.movie.specs.declared.entry.EntryAt.{EntryAt}
 use Rattle.movie.specs.declared.entry.Named.{Named}
 use Rattle.movie.specs.declared.entry.Named.the-variants.{At, Missing}
@@ -21,8 +21,8 @@ use Rattle.movie.specs.Named.{entryAs, NamedAs}
 use Rattle.movie.proofs.Asking.{named-at, named-none}
 use Rattle.judge.specs.Acceptance.{Meets}
 use Rattle.brands.specs.Brands.{brandHolds}
-use Rattle.reads.specs.Tracks.{Readable}
-use Rattle.reads.proofs.Accepted.{readable}
+use Rattle.read_tracks.specs.Tracks.{Readable}
+use Rattle.read_tracks.proofs.Accepted.{readable}
 use Rattle.listing.specs.Lines.{trackLine, entryNamed, entryPlaced, entryLine, brandLine}
 use Rattle.listing.specs.Listing.{lineOf, trackLines, entryLines, firstLine, brandOf}
 use Rattle.listing.specs.Rest.{Rest}

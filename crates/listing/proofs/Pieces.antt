@@ -6,10 +6,10 @@ use mathlib.Core.List.{List, [], _∷_, _++_}
 use lib.ListN.{length}
 use Rattle.wire.specs.Writing.{Put}
 use Rattle.wire.proofs.Writing.{pen-none, pen-then, pen-is, pen-front}
-use Rattle.verdict.specs.declared.Answer.{Answer}
-use Rattle.verdict.specs.declared.Answer.the-variants.{Done, Refused}
-use Rattle.verdict.specs.Answers.{inRoom, outBy}
-use Rattle.verdict.proofs.Answers.{room-short, room-fits, out-kept, out-wrote}
+use Rattle.rule.specs.declared.Answer.{Answer}
+use Rattle.rule.specs.declared.Answer.the-variants.{Done, Refused}
+use Rattle.rule.specs.Answers.{inRoom, outBy}
+use Rattle.rule.proofs.Answers.{room-short, room-fits, out-kept, out-wrote}
 use Rattle.judge.specs.declared.Judgement.{Judgement}
 use Rattle.judge.specs.declared.Judgement.the-variants as judgement
 use Rattle.judge.specs.Judgement.{judged}

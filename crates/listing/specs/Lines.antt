@@ -7,7 +7,7 @@ use Rattle.wire.specs.Numbers.{bytes, word}
 use Rattle.wire.specs.Text.{text}
 use Rattle.wire.specs.Codes.{VIDE, SOUN, TEXT}
 use Rattle.movie.specs.Entries.{Entry}
-use Rattle.heads.specs.Kinds.{kindOf}
+use Rattle.entry_heads.specs.Kinds.{kindOf}
 use Rattle.listing.specs.Decimal.{labelled}
 
 -- "Handlers but vide, soun, text .. print other"

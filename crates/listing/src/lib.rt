@@ -3,9 +3,9 @@ mod line;
 mod lines;
 
 use judge::Judgement;
-use verdict::Answer;
+use rule::Answer;
 ghost use mathlib.Core.Path.{_≡_};
-ghost use Rattle.verdict.specs.Answers.{inRoom, outBy};
+ghost use Rattle.rule.specs.Answers.{inRoom, outBy};
 ghost use Rattle.judge.specs.Acceptance.{Meets};
 ghost use Rattle.listing.specs.Lines.{refusedLine};
 ghost use Rattle.listing.specs.Listing.{acceptedLines, listing as listingOf};

@@ -50,7 +50,7 @@ fn put_code(out: &mut [u8], at: usize, c: usize) -> usize
     requires { ⌜ at < 2 ^ 62 ⌝ }
     ensures { λ r. ⌜ Put (codeText c) (now (out .entry)) at r (now (out .exit)) × (r ≤ at + 5) ⌝ }
 {
-    if heads::kind::of_code(c) == 0 {
+    if entry_heads::kind::of_code(c) == 0 {
         return pen::put_part(out, at, b"other");
     }
     pen::put_number(out, at, 4, c)

@@ -12,7 +12,7 @@ ghost use Rattle.boxes.specs.Containers.{LONGEST};
 ghost use Rattle.movie.specs.Movie.{tracks as tracksOf};
 ghost use Rattle.movie.specs.Entries.{entries as entriesOf};
 ghost use Rattle.judge.specs.Acceptance.{Meets};
-ghost use Rattle.reads.specs.Tracks.{Readable};
+ghost use Rattle.read_tracks.specs.Tracks.{Readable};
 ghost use Rattle.listing.specs.Lines.{entryLine};
 ghost use Rattle.listing.specs.Listing.{lineOf, trackLines, entryLines, firstLine, brandOf, brandLines, acceptedLines};
 
@@ -21,7 +21,7 @@ fn put_track(out: &mut [u8], at: usize, track: &[u8], t: usize) -> usize
     requires { ⌜ Readable (now track) × (at < 2 ^ 60) ⌝ }
     ensures { λ r. ⌜ Put (lineOf t (now (track .entry))) (now (out .entry)) at r (now (out .exit)) × (r ≤ at + 100) ⌝ }
 {
-    let ticks = tables::time::media_ticks(movie::table(track, codes::STTS));
+    let ticks = sample_tables::time::media_ticks(movie::table(track, codes::STTS));
     let handler = movie::handler(track);
     let scale = movie::scale(track);
     line::put_track(out, at, t, handler, ticks.0 as usize, scale)

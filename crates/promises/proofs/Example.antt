@@ -10,31 +10,31 @@ use Rattle.boxes.specs.Box.{header, write}
 use Rattle.boxes.specs.Boxes.{whole, boxes, total, after}
 use Rattle.boxes.specs.Containers.{parent, kindIn}
 use Rattle.boxes.specs.Seek.{tilingOf, meant, count, nth, placeBy, placeIn, startIn}
-use Rattle.tables.specs.Chunks.{samplesIn, firstSample, chunkAt, extentOf, descriptionOf}
-use Rattle.tables.specs.Rules.{emptyTogether, seven}
-use Rattle.tables.specs.Runs.{rises, runFine, runsFine, runAmong, runOf}
-use Rattle.tables.specs.Sizes.{listed, sizeAt, bytesFrom}
-use Rattle.tables.specs.Tables.{hasForm}
-use Rattle.tables.specs.Times.{timedTo}
-use Rattle.media.specs.Payloads.{mdats, within, past, resolve, inAt}
-use Rattle.media.specs.Rules.{chunkIn, chunksIn}
-use Rattle.heads.specs.Heads.{boxHeader, commonHead, audioHead, visualStart, visualHead, headSize, nameIn, begins, headRule}
-use Rattle.heads.specs.Kinds.{kindOf, handlerOf}
-use Rattle.entries.specs.Decoders.{boxRule, strayModes, periodRule, framesRule, damrRule, d263Rule, recordRule}
-use Rattle.entries.specs.Entries.{trackRule, esdsRule, avcRule, insideRule, ruleAs, entryRule}
-use Rattle.verdict.specs.Judge.{judgeList, judgeBox, judgeIn}
-use Rattle.verdict.specs.Verdict.{sooner, unless}
-use Rattle.shape.specs.Shape.{needed, exactly, first, besides, shape}
-use Rattle.lists.specs.Forms.{listForm, formIn}
-use Rattle.lists.specs.Totals.{follow, brokenAt, entriesOf, entries, overMost}
-use Rattle.lists.specs.Urls.{isUrl}
-use Rattle.headers.specs.Forms.{brandsForm, headForm, handlerForm, ifBox, form}
-use Rattle.headers.specs.Four.{tracksIn}
-use Rattle.headers.specs.Identities.{identity, fresh, tkhdPlace, freshTo}
-use Rattle.tracks.specs.Eight.{eightHolds, eightAt}
-use Rattle.tracks.specs.Seven.{sevenHolds, sevenIn}
-use Rattle.tracks.specs.Six.{tableOf, tableIn, sixHolds}
-use Rattle.descriptions.specs.Ten.{aroundIn, stsdStart, meets, entriesFrom, tenAt}
+use Rattle.sample_tables.specs.Chunks.{samplesIn, firstSample, chunkAt, extentOf, descriptionOf}
+use Rattle.sample_tables.specs.Rules.{emptyTogether, seven}
+use Rattle.sample_tables.specs.Runs.{rises, runFine, runsFine, runAmong, runOf}
+use Rattle.sample_tables.specs.Sizes.{listed, sizeAt, bytesFrom}
+use Rattle.sample_tables.specs.Tables.{hasForm}
+use Rattle.sample_tables.specs.Times.{timedTo}
+use Rattle.mdat.specs.Payloads.{mdats, within, past, resolve, inAt}
+use Rattle.mdat.specs.Rules.{chunkIn, chunksIn}
+use Rattle.entry_heads.specs.Heads.{boxHeader, commonHead, audioHead, visualStart, visualHead, headSize, nameIn, begins, headRule}
+use Rattle.entry_heads.specs.Kinds.{kindOf, handlerOf}
+use Rattle.entry_rules.specs.Decoders.{boxRule, strayModes, periodRule, framesRule, damrRule, d263Rule, recordRule}
+use Rattle.entry_rules.specs.Entries.{trackRule, esdsRule, avcRule, insideRule, ruleAs, entryRule}
+use Rattle.rule.specs.Judge.{judgeList, judgeBox, judgeIn}
+use Rattle.rule.specs.Verdict.{sooner, unless}
+use Rattle.rule_shape.specs.Shape.{needed, exactly, first, besides, shape}
+use Rattle.rule_lists.specs.Forms.{listForm, formIn}
+use Rattle.rule_lists.specs.Totals.{follow, brokenAt, entriesOf, entries, overMost}
+use Rattle.rule_lists.specs.Urls.{isUrl}
+use Rattle.rule_headers.specs.Forms.{brandsForm, headForm, handlerForm, ifBox, form}
+use Rattle.rule_headers.specs.Four.{tracksIn}
+use Rattle.rule_headers.specs.Identities.{identity, fresh, tkhdPlace, freshTo}
+use Rattle.rule_tracks.specs.Eight.{eightHolds, eightAt}
+use Rattle.rule_tracks.specs.Seven.{sevenHolds, sevenIn}
+use Rattle.rule_tracks.specs.Six.{tableOf, tableIn, sixHolds}
+use Rattle.rule_entries.specs.Ten.{aroundIn, stsdStart, meets, entriesFrom, tenAt}
 use Rattle.judge.specs.Judgement.{next, judgedFrom, judged}
 use Rattle.promises.specs.Example.{kinds, numbers}
 

@@ -5,18 +5,18 @@ use mathlib.Core.List.{List, _++_}
 use lib.ListN.{length, take, drop}
 use lib.Seq.{take-append-seam}
 use Rattle.wire.specs.Numbers.{Bytes}
-use Rattle.verdict.specs.declared.Answer.{Answer}
-use Rattle.verdict.specs.declared.Answer.the-variants.{Done, Refused}
-use Rattle.verdict.specs.Answers.{outBy}
+use Rattle.rule.specs.declared.Answer.{Answer}
+use Rattle.rule.specs.declared.Answer.the-variants.{Done, Refused}
+use Rattle.rule.specs.Answers.{outBy}
 use Rattle.judge.specs.declared.Judgement.the-variants.{Accepted}
 use Rattle.judge.specs.Judgement.{judged}
 use Rattle.judge.specs.Acceptance.{Meets}
 use Rattle.judge.proofs.Exact.{accepted-meets, meets-accepted}
-use Rattle.keeping.specs.Samples.{samples}
-use Rattle.keeping.specs.Kept.{Kept}
-use Rattle.keeping.proofs.Keeping.{kept-refl, kept-then}
-use Rattle.keeping.proofs.Done.{done-move, done-shift, done-replace}
-use Rattle.keeping.proofs.Size.{move-size, shift-size, replace-size}
+use Rattle.promise_kept.specs.Samples.{samples}
+use Rattle.promise_kept.specs.Kept.{Kept}
+use Rattle.promise_kept.proofs.Keeping.{kept-refl, kept-then}
+use Rattle.promise_kept.proofs.Done.{done-move, done-shift, done-replace}
+use Rattle.promise_kept.proofs.Size.{move-size, shift-size, replace-size}
 use Rattle.promises.specs.Runs.{Edit, shift, replace, move, meaning, answer, goOn, next, Lent, run, Given, AllGiven, none, more}
 
 -- an edit that is done keeps the file

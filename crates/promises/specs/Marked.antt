@@ -6,11 +6,11 @@ use lib.Dec.{eqb}
 use lib.IntN.{ℤ, pos}
 use Rattle.wire.specs.Numbers.{bytes}
 use Rattle.wire.specs.Codes.{SAMR, SAWB, SOUN}
-use Rattle.entries.specs.declared.rule.Around.the-variants.{Track, Alone}
-use Rattle.entries.specs.Entries.{entryRule}
-use Rattle.verdict.specs.Answers as answer
+use Rattle.entry_rules.specs.declared.entry.Around.the-variants.{Track, Alone}
+use Rattle.entry_rules.specs.Entries.{entryRule}
+use Rattle.rule.specs.Answers as answer
 use Rattle.judge.specs.Judgement.{judged, number, place}
-use Rattle.shift.specs.Shift.{shiftAnswer}
+use Rattle.edit_shift.specs.Shift.{shiftAnswer}
 use Rattle.promises.specs.Example.{fileAt, speech}
 
 -- M1 with another code, TimeScale, mode_set, period and frames, and whether it is accepted

@@ -4,12 +4,12 @@ use mathlib.Core.List.{List, [], _∷_}
 use lib.IntN.{ℤ}
 use lib.ListN.{take}
 use Rattle.wire.specs.Numbers.{Bytes}
-use Rattle.verdict.specs.declared.Answer.{Answer}
-use Rattle.verdict.specs.declared.Answer.the-variants.{Done, Refused}
-use Rattle.verdict.specs.Answers.{outBy}
-use Rattle.moving.specs.Moving.{moveOf, moveAnswer}
-use Rattle.replace.specs.Replace.{replaceOf, replaceAnswer}
-use Rattle.shift.specs.Shift.{shiftOf, shiftAnswer}
+use Rattle.rule.specs.declared.Answer.{Answer}
+use Rattle.rule.specs.declared.Answer.the-variants.{Done, Refused}
+use Rattle.rule.specs.Answers.{outBy}
+use Rattle.edit_move.specs.Moving.{moveOf, moveAnswer}
+use Rattle.edit_replace.specs.Replace.{replaceOf, replaceAnswer}
+use Rattle.edit_shift.specs.Shift.{shiftOf, shiftAnswer}
 
 -- an edit, with what it is given
 pub data Edit : Type 0 where

@@ -16,12 +16,12 @@ use Rattle.movie.specs.Movie.{movie as boxesOf, table}
 use Rattle.movie.specs.Entries as movie
 use Rattle.movie.specs.Named.{listIn, held, heldIn}
 use Rattle.movie.proofs.Counting.{length-after}
-use Rattle.shape.specs.Shape.{needed}
-use Rattle.shape.proofs.Descent.{Met, node-met, needed-leaf, in-moov, each-track, in-stbl, tracks-few}
-use Rattle.lists.specs.Forms.{Listed, formIn}
-use Rattle.lists.specs.Totals.{MOST, follow, entriesOf, entries}
-use Rattle.lists.specs.Rules.{fiveRule}
-use Rattle.lists.proofs.Forms.{form-is}
+use Rattle.rule_shape.specs.Shape.{needed}
+use Rattle.rule_shape.proofs.Descent.{Met, node-met, needed-leaf, in-moov, each-track, in-stbl, tracks-few}
+use Rattle.rule_lists.specs.Forms.{Listed, formIn}
+use Rattle.rule_lists.specs.Totals.{MOST, follow, entriesOf, entries}
+use Rattle.rule_lists.specs.Rules.{fiveRule}
+use Rattle.rule_lists.proofs.Forms.{form-is}
 use Rattle.judge.specs.Acceptance.{Meets}
 use Rattle.judge.proofs.Tables.{file-met}
 use Rattle.sheet.specs.Fits.{Fits}

@@ -15,7 +15,7 @@ use Rattle.movie.specs.declared.entry.Named.the-variants.{At, Missing}
 use Rattle.movie.specs.Entries.{Entry, entries}
 use Rattle.movie.specs.Named.{entryAs, NamedAs}
 use Rattle.movie.proofs.Asking.{named-at, named-none}
-use Rattle.heads.specs.Kinds.{kindOf}
+use Rattle.entry_heads.specs.Kinds.{kindOf}
 use Rattle.sheet.specs.Sheet.{slot, slotOf, slots, bodies}
 
 -- ---- a slot

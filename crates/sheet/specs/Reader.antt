@@ -2,8 +2,8 @@
 use Prim.Native.Nat.{ℕ}
 use mathlib.Core.List.{List}
 use Rattle.movie.specs.Entries.{entries}
-use Rattle.verdict.specs.declared.Answer.{Answer}
-use Rattle.verdict.specs.Answers.{inRoom, outBy}
+use Rattle.rule.specs.declared.Answer.{Answer}
+use Rattle.rule.specs.Answers.{inRoom, outBy}
 use Rattle.judge.specs.Judgement.{judged, whenAccepted}
 use Rattle.sheet.specs.Sheet.{SLOTS, sheet}
 

@@ -4,7 +4,7 @@ use mathlib.Core.List.{List, [], _∷_, _++_}
 use lib.ListN.{length, replicate}
 use Rattle.wire.specs.Numbers.{bytes, word}
 use Rattle.movie.specs.Entries.{Entry}
-use Rattle.heads.specs.Kinds.{kindOf}
+use Rattle.entry_heads.specs.Kinds.{kindOf}
 
 -- "Eight slots of 12 bytes"
 abbrev pub SLOTS : ℕ

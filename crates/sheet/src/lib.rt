@@ -1,10 +1,10 @@
 // The sheet reader: the sheet of a file's own sample entries.
-use heads::kind;
+use entry_heads::kind;
 use judge::Judgement;
 use movie::entry;
 use movie::entry::EntryAt;
 use movie::entry::Named;
-use verdict::Answer;
+use rule::Answer;
 use wire::number;
 use wire::pen;
 ghost use mathlib.Core.Path.{_≡_};
@@ -12,7 +12,7 @@ ghost use Prim.Native.Nat.{_+_, _*_, _^_, _≤_, _<_};
 ghost use lib.ListN.{length, take, drop};
 ghost use Rattle.wire.specs.Writing.{Put};
 ghost use Rattle.boxes.specs.Containers.{LONGEST};
-ghost use Rattle.verdict.specs.Answers.{inRoom, outBy};
+ghost use Rattle.rule.specs.Answers.{inRoom, outBy};
 ghost use Rattle.movie.specs.Entries.{entries};
 ghost use Rattle.movie.specs.Named.{entryAs};
 ghost use Rattle.sheet.specs.Sheet.{slot as slotText, slotOf, slots as slotsText, bodies as bodiesText};

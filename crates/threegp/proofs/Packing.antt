@@ -4,9 +4,9 @@ use mathlib.Core.Path.{_≡_, refl, sym, ap, _∙_}
 use mathlib.Core.List.{List}
 use lib.ListN.{length, set}
 use lib.Seq.{sets-eq}
-use Rattle.verdict.specs.declared.Answer.{Answer}
-use Rattle.verdict.specs.declared.Answer.the-variants as answer
-use Rattle.verdict.proofs.Answers.{room-short, room-fits, out-kept, out-wrote}
+use Rattle.rule.specs.declared.Answer.{Answer}
+use Rattle.rule.specs.declared.Answer.the-variants as answer
+use Rattle.rule.proofs.Answers.{room-short, room-fits, out-kept, out-wrote}
 use Rattle.newer.specs.declared.Part.{Part}
 use Rattle.newer.specs.declared.Outcome.{Outcome}
 use Rattle.newer.specs.declared.Outcome.the-variants.{Found, Refused}

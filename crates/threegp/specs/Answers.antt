@@ -1,9 +1,9 @@
 -- The answer of a call as one number: the refusal times 2^32, and the value or the place.
 use Prim.Native.Nat.{ℕ, _+_, _*_, _%_}
 use mathlib.Core.List.{List, [], _∷_}
-use Rattle.verdict.specs.declared.Answer.{Answer}
-use Rattle.verdict.specs.declared.Answer.the-variants as answer
-use Rattle.verdict.specs.Answers.{number, value, inRoom, outBy}
+use Rattle.rule.specs.declared.Answer.{Answer}
+use Rattle.rule.specs.declared.Answer.the-variants as answer
+use Rattle.rule.specs.Answers.{number, value, inRoom, outBy}
 use Rattle.judge.specs.declared.Judgement.{Judgement}
 use Rattle.judge.specs.Judgement as judgement
 use Rattle.newer.specs.declared.Outcome.{Outcome}

@@ -2,20 +2,20 @@
 use judge::Judgement;
 use newer::Outcome;
 use newer::Part;
-use verdict::Answer;
+use rule::Answer;
 ghost use mathlib.Core.Path.{_≡_};
 ghost use Rattle.judge.specs.Judgement.{judged};
-ghost use Rattle.reads.specs.Reads.{tracksAnswer, trackAnswer, trackOut, offsetsAnswer, offsetsOut};
+ghost use Rattle.read_tracks.specs.Reads.{tracksAnswer, trackAnswer, trackOut, offsetsAnswer, offsetsOut};
 ghost use Rattle.brands.specs.Calls.{brandAnswer};
 ghost use Rattle.sheet.specs.Sheet.{SLOTS};
 ghost use Rattle.sheet.specs.Reader.{sheetAnswer, sheetOut};
-ghost use Rattle.table.specs.Table.{tableAnswer, tableOut};
-ghost use Rattle.shift.specs.Shift.{shiftAnswer, shiftOut};
-ghost use Rattle.replace.specs.Replace.{replaceAnswer, replaceOut};
-ghost use Rattle.moving.specs.Moving.{moveAnswer, moveOut};
+ghost use Rattle.sheet_table.specs.Table.{tableAnswer, tableOut};
+ghost use Rattle.edit_shift.specs.Shift.{shiftAnswer, shiftOut};
+ghost use Rattle.edit_replace.specs.Replace.{replaceAnswer, replaceOut};
+ghost use Rattle.edit_move.specs.Moving.{moveAnswer, moveOut};
 ghost use Rattle.newer.specs.Newer.{newestOf};
-ghost use Rattle.fields.specs.Numbers.{readAnswer, readOut, writeAnswer, writeOut};
-ghost use Rattle.verdict.specs.Answers.{inRoom, outBy};
+ghost use Rattle.entry_fields.specs.Numbers.{readAnswer, readOut, writeAnswer, writeOut};
+ghost use Rattle.rule.specs.Answers.{inRoom, outBy};
 ghost use Rattle.listing.specs.Listing.{listing as listingOf};
 ghost use Rattle.threegp.specs.Answers.{pair as pairOf, packed, judgeAnswer, newerAnswer, newerOut};
 ghost use Rattle.newer.specs.declared.Outcome.the-variants.{Found};
@@ -52,7 +52,7 @@ pub extern "C" fn threegp_judge(file: &[u8]) -> u64
 pub extern "C" fn threegp_tracks(file: &[u8]) -> u64
     ensures { λ r. ⌜ r ≡ packed (tracksAnswer (now (file .entry))) ⌝ }
 {
-    pack(reads::tracks(file))
+    pack(read_tracks::tracks(file))
 }
 
 // Whether a brand holds.
@@ -76,7 +76,7 @@ pub extern "C" fn threegp_sheet(file: &[u8], out: &mut [u8]) -> u64
 pub extern "C" fn threegp_table(sheet: &[u8], track: u64, out: &mut [u8]) -> u64
     ensures { λ r. ⌜ (r ≡ packed (tableAnswer SLOTS (now (sheet .entry)) track (now (out .entry)))) × (now (out .exit) ≡ tableOut SLOTS (now (sheet .entry)) track (now (out .entry))) ⌝ }
 {
-    pack(table::table(sheet, track as usize, out))
+    pack(sheet_table::table(sheet, track as usize, out))
 }
 
 // The chunk offsets of a track.
@@ -84,7 +84,7 @@ pub extern "C" fn threegp_table(sheet: &[u8], track: u64, out: &mut [u8]) -> u64
 pub extern "C" fn threegp_offsets(file: &[u8], track: u64, list: &mut [u32]) -> u64
     ensures { λ r. ⌜ (r ≡ packed (offsetsAnswer (now (file .entry)) track (now (list .entry)))) × (now (list .exit) ≡ offsetsOut (now (file .entry)) track (now (list .entry))) ⌝ }
 {
-    pack(reads::offsets(file, track as usize, list))
+    pack(read_tracks::offsets(file, track as usize, list))
 }
 
 // What a track says: handler, media ticks, time scale, movie ticks.
@@ -92,7 +92,7 @@ pub extern "C" fn threegp_offsets(file: &[u8], track: u64, list: &mut [u32]) -> 
 pub extern "C" fn threegp_track(file: &[u8], track: u64, out: &mut [u64]) -> u64
     ensures { λ r. ⌜ (r ≡ packed (trackAnswer (now (file .entry)) track (now (out .entry)))) × (now (out .exit) ≡ trackOut (now (file .entry)) track (now (out .entry))) ⌝ }
 {
-    pack(reads::track(file, track as usize, out))
+    pack(read_tracks::track(file, track as usize, out))
 }
 
 // The times of a file shifted.
@@ -100,7 +100,7 @@ pub extern "C" fn threegp_track(file: &[u8], track: u64, out: &mut [u64]) -> u64
 pub extern "C" fn threegp_shift(file: &[u8], minutes: i64, out: &mut [u8]) -> u64
     ensures { λ r. ⌜ (r ≡ packed (shiftAnswer minutes (now (file .entry)) (now (out .entry)))) × (now (out .exit) ≡ shiftOut minutes (now (file .entry)) (now (out .entry))) ⌝ }
 {
-    pack(shift::shift(file, minutes, out))
+    pack(edit_shift::shift(file, minutes, out))
 }
 
 // A decoder record replaced.
@@ -108,7 +108,7 @@ pub extern "C" fn threegp_shift(file: &[u8], minutes: i64, out: &mut [u8]) -> u6
 pub extern "C" fn threegp_replace(file: &[u8], entry: u64, given: &[u8], out: &mut [u8]) -> u64
     ensures { λ r. ⌜ (r ≡ packed (replaceAnswer (now (file .entry)) entry (now (given .entry)) (now (out .entry)))) × (now (out .exit) ≡ replaceOut (now (file .entry)) entry (now (given .entry)) (now (out .entry))) ⌝ }
 {
-    pack(replace::replace(file, entry as usize, given, out))
+    pack(edit_replace::replace(file, entry as usize, given, out))
 }
 
 // `moov` moved right after `ftyp`.
@@ -116,7 +116,7 @@ pub extern "C" fn threegp_replace(file: &[u8], entry: u64, given: &[u8], out: &m
 pub extern "C" fn threegp_move(file: &[u8], out: &mut [u8]) -> u64
     ensures { λ r. ⌜ (r ≡ packed (moveAnswer (now (file .entry)) (now (out .entry)))) × (now (out .exit) ≡ moveOut (now (file .entry)) (now (out .entry))) ⌝ }
 {
-    pack(moving::move_moov(file, out))
+    pack(edit_move::move_moov(file, out))
 }
 
 // The fields of a record as numbers.
@@ -124,7 +124,7 @@ pub extern "C" fn threegp_move(file: &[u8], out: &mut [u8]) -> u64
 pub extern "C" fn threegp_record_read(entry: &[u8], out: &mut [u64]) -> u64
     ensures { λ r. ⌜ (r ≡ packed (readAnswer (now (entry .entry)) (now (out .entry)))) × (now (out .exit) ≡ readOut (now (entry .entry)) (now (out .entry))) ⌝ }
 {
-    pack(fields::read(entry, out))
+    pack(entry_fields::read(entry, out))
 }
 
 // The record of numbers.
@@ -132,7 +132,7 @@ pub extern "C" fn threegp_record_read(entry: &[u8], out: &mut [u64]) -> u64
 pub extern "C" fn threegp_record_write(numbers: &[u64], out: &mut [u8]) -> u64
     ensures { λ r. ⌜ (r ≡ packed (writeAnswer (now (numbers .entry)) (now (out .entry)))) × (now (out .exit) ≡ writeOut (now (numbers .entry)) (now (out .entry))) ⌝ }
 {
-    pack(fields::write(numbers, out))
+    pack(entry_fields::write(numbers, out))
 }
 
 // The printed listing of a file.

@@ -1,7 +1,7 @@
 use borrow.Author.Needs.{needs}
 use Rattle.brands.specs.Calls.{brandAnswer}
 use Rattle.judge.proofs.Calls.{when-accepted, when-refused}
-use Rattle.verdict.specs.declared.Answer.the-variants.{Done}
+use Rattle.rule.specs.declared.Answer.the-variants.{Done}
 use mathlib.Core.Path.{ap}
 use Rattle.brands.proofs.brand.Statement.{statement}
 use Rattle.brands.proofs.brand.Tie as tie

@@ -1,6 +1,6 @@
 use borrow.Author.Needs.{needs}
 use Rattle.brands.specs.Brands.{own}
-use Rattle.tracks.proofs.Answers.{answer-yea, answer-nay}
+use Rattle.rule_tracks.proofs.Answers.{answer-yea, answer-nay}
 use Rattle.wire.proofs.Clauses.{nay}
 use mathlib.Core.Path.{refl}
 use native.Mathlib.Omega.{arith}

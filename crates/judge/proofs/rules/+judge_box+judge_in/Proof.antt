@@ -4,8 +4,8 @@ use Rattle.boxes.proofs.Walking.{ran, ended, broke}
 use Rattle.boxes.specs.Boxes.{boxes, after}
 use Rattle.judge.proofs.Answers.{box-leaf, box-node, judge-shallow, judge-start, end-tiled, end-passed, end-torn}
 use Rattle.judge.specs.Asked.{endBy, judgeBy}
-use Rattle.verdict.proofs.Traverse.{Found, found-more}
-use Rattle.verdict.specs.Judge.{judgeBox, judgeIn}
+use Rattle.rule.proofs.Traverse.{Found, found-more}
+use Rattle.rule.specs.Judge.{judgeBox, judgeIn}
 use lib.ListN.{length, drop, length-take, length-drop}
 use mathlib.Core.Path.{_≡_, refl, _∙_}
 use native.Mathlib.Omega.{arith}
@@ -23,7 +23,7 @@ use Rattle.boxes.proofs.walk.Walk.step.Reads as step-reads
 use Rattle.boxes.proofs.walk.body.Reads as body-reads
 use Rattle.judge.proofs.rules.leaf_by.Reads as leaf-by-reads
 use Rattle.judge.proofs.rules.node_by.Reads as node-by-reads
-use Rattle.verdict.proofs.sooner.Reads as sooner-reads
+use Rattle.rule.proofs.sooner.Reads as sooner-reads
 use Rattle.judge.proofs.rules.+judge_box+judge_in.{statement}
 use Rattle.judge.proofs.rules.+judge_box+judge_in.Tie.{close}
 

@@ -1,5 +1,5 @@
 use borrow.Author.Needs.{needs}
-use Rattle.reads.proofs.Reading.{times-table}
+use Rattle.read_tracks.proofs.Reading.{times-table}
 use Rattle.listing.proofs.Listed.{line-of}
 use Rattle.listing.proofs.lines.put_track.Statement.{statement}
 use Rattle.listing.proofs.lines.put_track.Tie as tie

@@ -1,0 +1,37 @@
+-- "Move: moov goes right after ftyp; other top-level boxes keep their order."
+use Prim.Native.Nat.{ℕ}
+use mathlib.Core.List.{List, [], _∷_, _++_}
+use Rattle.wire.specs.Tests.{pick, ifEq}
+use Rattle.wire.specs.Codes.{MOOV}
+use Rattle.boxes.specs.Box.{Box, write}
+use Rattle.boxes.specs.Boxes.{boxes}
+use Rattle.rule.specs.declared.Answer.{Answer}
+use Rattle.rule.specs.declared.Answer.the-variants.{Refused}
+use Rattle.rule.specs.Answers.{inRoom, outBy}
+use Rattle.judge.specs.Judgement.{judged, whenAccepted}
+use Rattle.judge.specs.Acceptance.{plain}
+use Rattle.edit_offsets.specs.Settle.{settled}
+
+-- the boxes of a code, and the others
+unfoldable pub just : ℕ → List Box → List Box
+just c [] = []
+just c (x ∷ l) = ifEq (x .code) c (x ∷ just c l) (just c l)
+
+unfoldable pub others : ℕ → List Box → List Box
+others c [] = []
+others c (x ∷ l) = ifEq (x .code) c (others c l) (x ∷ others c l)
+
+-- `ftyp` is the first box
+unfoldable pub moovSecond : List Box → List Box
+moovSecond [] = []
+moovSecond (x ∷ l) = x ∷ (just MOOV l ++ others MOOV l)
+
+unfoldable pub moveOf : List ℕ → List ℕ
+moveOf xs = settled xs (write (moovSecond (boxes xs)))
+
+-- "move 23, 25"
+unfoldable pub moveAnswer : List ℕ → List ℕ → Answer
+moveAnswer xs out = whenAccepted (judged xs) (pick (plain xs) (inRoom (moveOf xs) out) (Refused 23 0))
+
+abbrev pub moveOut : List ℕ → List ℕ → List ℕ
+moveOut xs out = outBy (moveAnswer xs out) (moveOf xs) out

@@ -1,0 +1,77 @@
+-- The kind of an entry, and whether it takes a record. Assumes nothing.
+use Prim.Native.Nat.{ℕ, _+_, _-_, _≤_, _<_}
+use native.Mathlib.Omega.{arith}
+use mathlib.Core.Path.{_≡_, refl, sym, ap, _∙_}
+use mathlib.Core.List.{List, []}
+use mathlib.Core.Logic.{⊎-elim}
+use lib.ListN.{length, take, drop}
+use borrow.Rule.Slice.PartMut.{midOf}
+use Rattle.wire.specs.Tests.{ifEq}
+use Rattle.wire.specs.Clauses.{oneIf}
+use Rattle.wire.specs.Numbers.{word}
+use Rattle.wire.proofs.Clauses.{is-eq, not-eq, is-lt, not-lt, fails, holds, done, yea, nay}
+use Rattle.wire.proofs.Numbers.{word-out}
+use Rattle.wire.proofs.Tests.{eq-yea, eq-nay, lt-yea, lt-nay, eq-or}
+use Rattle.movie.specs.declared.entry.EntryAt.{EntryAt}
+use Rattle.movie.specs.Entries.{entries}
+use Rattle.movie.specs.Named.{EntryIs}
+use Rattle.movie.proofs.Spots.{bytes-at, bytes-none}
+use Rattle.entry_heads.specs.Kinds.{kindOf}
+use Rattle.entry_rules.specs.Decoders.{recordRule}
+use Rattle.entry_rules.proofs.Kept.{record-kinds}
+use Rattle.edit_replace.specs.Replace.{kindAt, recordCode, takes}
+
+-- ---- the kind
+
+-- by what `&xs[place..place + size]` lends
+pub kind-part : (place size : ℕ) (xs : List ℕ) {w r : ℕ} → w ≡ word 4 (midOf place (place + size - place) xs) 4 → r ≡ kindOf w → r ≡ kindOf (word 4 (take size (drop place xs)) 4)
+kind-part place size xs e f = let n : place + size - place ≡ size = omega arith in rw (f, e, n)
+
+none-known : 0 ≡ kindOf 0
+unfolding kindOf ifEq
+none-known = refl
+
+module _ (xs : List ℕ) (i : ℕ) where
+  pub kind-zero : i ≡ 0 → 0 ≡ kindAt xs i
+  unfolding kindAt
+  kind-zero e = eq-yea _ _ _ _ _ e refl
+
+  pub kind-is : (i ≡ 0 → ⊥) → {e : EntryAt} → EntryIs xs (i - 1) e → {r : ℕ} → r ≡ kindOf (word 4 (take (e .size) (drop (e .place) xs)) 4) → r ≡ kindAt xs i
+  unfolding kindAt
+  kind-is z s q = eq-nay _ _ _ _ _ z (q ∙ ap (λ (ys : List ℕ). kindOf (word 4 ys 4)) (sym (bytes-at (i - 1) (entries xs) (s .is))))
+
+  pub kind-none : length (entries xs) ≤ i - 1 → 0 ≡ kindAt xs i
+  unfolding kindAt
+  kind-none h =
+      eq-or i 0 (λ e. eq-yea _ _ _ _ _ e refl)
+      (λ e. eq-nay _ _ _ _ _ e (none-known ∙ ap kindOf (sym (ap (λ (ys : List ℕ). word 4 ys 4) (bytes-none (i - 1) (entries xs) h) ∙ word-out 4 [] 4 (omega arith)))))
+
+-- ---- a record that meets its rule
+
+-- is short, and its kind is editable
+pub record-short : (kind most : ℕ) (new : List ℕ) → recordRule kind most new ≡ 1 → (3 ≤ kind) × (length new ≤ 31)
+record-short kind most new e = let d = record-kinds kind most new e in (⊎-elim (λ p. ⊎-elim (λ q. omega arith) (λ q. omega arith) p) (λ q. omega arith) (d .0), d .1)
+
+-- so there is such an entry
+pub record-first : (xs : List ℕ) (i most kind : ℕ) (new : List ℕ) → kind ≡ kindAt xs i → recordRule kind most new ≡ 1 → 1 ≤ i
+record-first xs i most kind new k e = eq-or i 0 (λ z. absurd (omega (arith, kind-zero xs i z, record-short kind most new e .0))) (λ z. omega arith)
+
+-- ---- whether a kind takes a record
+
+module _ (kind : ℕ) (new : List ℕ) {code : ℕ} (e : code ≡ recordCode kind) where
+  pub takes-none : code ≡ 0 → 0 ≡ oneIf (takes kind new)
+  unfolding takes
+  takes-none z = nay _ (fails 0 _ (not-lt _ _ (omega arith)))
+
+  module _ (z : code ≡ 0 → ⊥) where
+    pub takes-short : length new < 8 → 1 ≡ oneIf (takes kind new)
+    unfolding takes
+    takes-short h = yea _ (holds _ _ (is-lt _ _ (omega arith)) (holds _ _ (sym (lt-yea _ _ _ _ _ h refl)) done))
+
+    pub takes-code : 8 ≤ length new → {r : ℕ} → r ≡ word 4 new 4 → r ≡ code → 1 ≡ oneIf (takes kind new)
+    unfolding takes
+    takes-code h q s = yea _ (holds _ _ (is-lt _ _ (omega arith)) (holds _ _ (sym (lt-nay _ _ _ _ _ h (sym (is-eq _ _ (sym q ∙ s ∙ e))))) done))
+
+    pub takes-other : 8 ≤ length new → {r : ℕ} → r ≡ word 4 new 4 → (r ≡ code → ⊥) → 0 ≡ oneIf (takes kind new)
+    unfolding takes
+    takes-other h q s = nay _ (fails 1 _ (sym (lt-nay _ _ _ _ _ h (sym (not-eq _ _ (λ u. s (q ∙ u ∙ sym e)))))))

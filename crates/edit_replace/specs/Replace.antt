@@ -1,0 +1,88 @@
+-- "Replace decoder record of entry i (from 1, sheet order, samr, sawb, s263 only): its damr or d263 becomes the given one of
+-- the same code. Enclosing sizes follow."
+use Prim.Native.Nat.{ℕ, _-_}
+use mathlib.Core.Bool.{Bool, true}
+use mathlib.Core.List.{List, [], _∷_}
+use lib.ListN.{length}
+use Rattle.wire.specs.Tests.{pick, ifEq, ifLt}
+use Rattle.wire.specs.Clauses.{isEq, isLt, every}
+use Rattle.wire.specs.Numbers.{word}
+use Rattle.wire.specs.Codes.{MOOV, TRAK, MDIA, MINF, STBL, STSD, DAMR, D263}
+use Rattle.boxes.specs.declared.way.Turn.{Turn}
+use Rattle.boxes.specs.Boxes.{HEAD, FRONT}
+use Rattle.boxes.specs.Seek.{ANY}
+use Rattle.boxes.specs.Way.{editWay, tailBy}
+use Rattle.boxes.specs.Containers.{LONGEST}
+use Rattle.movie.specs.declared.entry.Spot.{Spot}
+use Rattle.movie.specs.declared.entry.Spot.the-variants.{In, Past}
+use Rattle.movie.specs.Movie.{movie}
+use Rattle.movie.specs.Entries.{entries}
+use Rattle.movie.specs.Named.{spotIn, bytesAt}
+use Rattle.entry_heads.specs.Kinds.{kindOf}
+use Rattle.entry_heads.specs.Heads.{headSize}
+use Rattle.entry_rules.specs.Entries.{FRAMES}
+use Rattle.entry_rules.specs.Decoders.{recordRule}
+use Rattle.rule.specs.declared.Answer.{Answer}
+use Rattle.rule.specs.declared.Answer.the-variants.{Refused}
+use Rattle.rule.specs.Answers.{inRoom, outBy}
+use Rattle.judge.specs.Judgement.{judged, whenAccepted}
+use Rattle.judge.specs.Acceptance.{plain}
+use Rattle.edit_offsets.specs.Settle.{settled}
+
+-- ---- the entry
+
+-- the kind of entry i, and 0 where there is no such entry
+unfoldable pub kindAt : List ℕ → ℕ → ℕ
+kindAt xs i = ifEq i 0 0 (kindOf (word 4 (bytesAt (i - 1) (entries xs)) 4))
+
+-- the code of the record of a kind, and 0 for a kind that isn't editable
+unfoldable pub recordCode : ℕ → ℕ
+recordCode kind = ifEq kind 3 DAMR (ifEq kind 4 DAMR (ifEq kind 5 D263 0))
+
+-- ---- its meaning
+
+abbrev pub turn : ℕ → ℕ → Turn
+turn c n = record { skip = 0; code = c; nth = n }
+
+-- the way to entry n of track t, both from 0
+abbrev pub wayTo : ℕ → ℕ → List Turn
+wayTo t n = turn MOOV 0 ∷ turn TRAK t ∷ turn MDIA 0 ∷ turn MINF 0 ∷ turn STBL 0 ∷ turn STSD 0 ∷ record { skip = FRONT; code = ANY; nth = n } ∷ []
+
+-- the record is what stands behind the first `keep` bytes of the entry's payload
+abbrev pub recordAt : Spot → ℕ → List ℕ → List ℕ → List ℕ
+recordAt (In t n) keep new xs = editWay (wayTo t n) (tailBy keep new) xs
+recordAt Past keep new xs = xs
+
+unfoldable pub replaced : List ℕ → ℕ → List ℕ → List ℕ
+replaced xs i new = recordAt (spotIn 0 (movie xs) (i - 1)) (headSize (kindAt xs i) - HEAD) new xs
+
+unfoldable pub replaceOf : List ℕ → ℕ → List ℕ → List ℕ
+replaceOf xs i new = settled xs (replaced xs i new)
+
+-- ---- its answer
+
+-- 20: "no such entry ..; a kind that isn't editable, or a given record of 8 bytes or more whose code isn't the kind's"
+unfoldable pub takes : ℕ → List ℕ → Bool
+takes kind new = every (isLt 0 (recordCode kind) ∷ ifLt (length new) HEAD true (isEq (word 4 new 4) (recordCode kind)) ∷ [])
+
+-- 24, 25
+unfoldable pub roomAnswer : List ℕ → List ℕ → Answer
+roomAnswer new out = ifLt LONGEST (length new) (Refused 24 0) (inRoom new out)
+
+-- 23, 24, 25
+unfoldable pub settledAnswer : List ℕ → List ℕ → List ℕ → Answer
+settledAnswer xs new out = pick (plain xs) (roomAnswer new out) (Refused 23 0)
+
+-- 20, 21, and then those
+unfoldable pub takenAnswer : List ℕ → ℕ → List ℕ → List ℕ → Answer
+takenAnswer xs i new out =
+    pick (takes (kindAt xs i) new)
+    (ifEq (recordRule (kindAt xs i) FRAMES new) 1 (settledAnswer xs (replaceOf xs i new) out) (Refused 21 0))
+    (Refused 20 0)
+
+-- "20, 21, 23, 24, 25; all after 1 to 10"
+unfoldable pub replaceAnswer : List ℕ → ℕ → List ℕ → List ℕ → Answer
+replaceAnswer xs i new out = whenAccepted (judged xs) (takenAnswer xs i new out)
+
+abbrev pub replaceOut : List ℕ → ℕ → List ℕ → List ℕ → List ℕ
+replaceOut xs i new out = outBy (replaceAnswer xs i new out) (replaceOf xs i new) out

@@ -1,0 +1,66 @@
+-- What code writes by a zone is what is meant by minutes. Assumes nothing.
+use Prim.Native.Nat.{ℕ, _+_, _-_, _<_}
+use native.Mathlib.Omega.{arith}
+use mathlib.Core.Path.{_≡_, refl, sym, _∙_}
+use mathlib.Core.Bool.{Bool, true, false}
+use mathlib.Core.List.{List}
+use lib.Dec.{eqb}
+use lib.IntN.{ℤ}
+use lib.ListN.{length}
+use borrow.Author.Tests.{eqb-true, eqb-false}
+use Rattle.wire.specs.Tests.{pick, ifEq}
+use Rattle.wire.specs.Codes.{MOOV, MVHD, TRAK, TKHD, MDIA, MDHD}
+use Rattle.wire.specs.Numbers.{Bytes}
+use Rattle.boxes.specs.Boxes.{boxes}
+use Rattle.boxes.specs.Kin.{All2}
+use Rattle.boxes.specs.Words.{moved}
+use Rattle.boxes.proofs.Wording.{moved-low, moved-high}
+use Rattle.mdat.specs.Relocate.{Alike}
+use Rattle.mdat.proofs.Staying.{alike-then}
+use Rattle.clocks.specs.declared.Zone.{Zone}
+use Rattle.clocks.specs.Clocks.{zoneOf, shiftTime, mayShift}
+use Rattle.clocks.specs.Zones.{leaves}
+use Rattle.clocks.proofs.Whole.{shift-is, may-is}
+use Rattle.edit_offsets.proofs.Settled.{settled-same}
+use Rattle.edit_shift.specs.Shift.{times, timesBy, allTimesBy, shiftOf}
+use Rattle.edit_shift.specs.Amount.{byZone, zoneText}
+use Rattle.edit_shift.proofs.Passing.{times-length, times-bytes, times-alike}
+
+ext : {A : Type 0} (f g : ℕ → A) → ((n : ℕ) → f n ≡ g n) → f ≡ g
+ext f g h = λ i n. h n i
+
+-- a time of 0 is below the limit of 1
+moved-is : (z : Zone) (t : ℕ) → ifEq t 0 0 (t + z .behind - z .ahead) ≡ moved (byZone z) t
+unfolding ifEq
+moved-is z t = go (eqb t 0) refl
+  where
+    go : (s : Bool) → eqb t 0 ≡ s → pick s 0 (t + z .behind - z .ahead) ≡ moved (byZone z) t
+    go true e = let h = eqb-true t 0 e in moved-low (byZone z) t (omega arith) (omega arith)
+    go false e = let h = eqb-false t 0 e in moved-high (byZone z) t (omega arith) refl
+
+pub times-are : (z : ℤ) → moved (byZone (zoneOf z)) ≡ shiftTime z
+times-are z = ext _ _ (λ t. sym (shift-is z t ∙ moved-is (zoneOf z) t))
+
+pub leaves-are : (z : ℤ) → leaves (zoneOf z) ≡ mayShift z
+leaves-are z = ext _ _ (λ t. sym (may-is z t))
+
+-- ---- nothing moves
+
+module _ (f : ℕ → ℕ) (xs : List ℕ) (v : Bytes xs) (h : length xs < 4294967296) where
+  all-alike : All2 Alike (boxes xs) (boxes (allTimesBy f xs))
+  unfolding allTimesBy
+  all-alike =
+      let m = times-length (times MOOV MVHD) f xs in
+      let w = times-bytes (times MOOV MVHD) f xs v in
+      let n = times-length (times TRAK TKHD) f (timesBy (times MOOV MVHD) f xs) in
+      let u = times-bytes (times TRAK TKHD) f (timesBy (times MOOV MVHD) f xs) w in
+      alike-then (times-alike (times MOOV MVHD) f xs v h)
+      (alike-then (times-alike (times TRAK TKHD) f _ w (omega arith)) (times-alike (times MDIA MDHD) f _ u (omega arith)))
+
+  all-bytes : Bytes (allTimesBy f xs)
+  unfolding allTimesBy
+  all-bytes = times-bytes (times MDIA MDHD) f _ (times-bytes (times TRAK TKHD) f _ (times-bytes (times MOOV MVHD) f xs v))
+
+pub shift-text : (z : ℤ) (xs : List ℕ) → Bytes xs → length xs < 4294967296 → zoneText (zoneOf z) xs ≡ shiftOf z xs
+unfolding zoneText shiftOf
+shift-text z xs v h = rw (times-are z) (sym (settled-same xs (allTimesBy (shiftTime z) xs) (all-alike (shiftTime z) xs v h) (all-bytes (shiftTime z) xs v h)))

@@ -1,0 +1,67 @@
+-- "Shift times by z minutes, -840 to 840: 60z is taken from each non-zero creation and modification time in mvhd, every tkhd,
+-- every mdhd. Zero stays zero."
+use Prim.Native.Nat.{ℕ}
+use mathlib.Core.Bool.{Bool}
+use mathlib.Core.List.{List, [], _∷_}
+use lib.IntN.{ℤ}
+use Rattle.wire.specs.Tests.{pick}
+use Rattle.wire.specs.Clauses.{every}
+use Rattle.wire.specs.Numbers.{word}
+use Rattle.wire.specs.Sums.{allTo}
+use Rattle.wire.specs.Codes.{MOOV, MVHD, TRAK, TKHD, MDIA, MDHD}
+use Rattle.boxes.specs.declared.words.Target.{Target}
+use Rattle.boxes.specs.Boxes.{boxes}
+use Rattle.boxes.specs.Containers.{FILE, DEPTH}
+use Rattle.boxes.specs.Seek.{find}
+use Rattle.boxes.specs.Rewrite.{editIn}
+use Rattle.boxes.specs.Words.{rewordLeaf}
+use Rattle.clocks.specs.Clocks.{zoneFine, shiftTime, mayShift}
+use Rattle.movie.specs.Movie.{movie, tracks, track, mdia}
+use Rattle.rule.specs.declared.Answer.{Answer}
+use Rattle.rule.specs.declared.Answer.the-variants.{Refused}
+use Rattle.rule.specs.Answers.{inRoom, outBy}
+use Rattle.judge.specs.Judgement.{judged, whenAccepted}
+use Rattle.judge.specs.Acceptance.{plain}
+use Rattle.edit_offsets.specs.Settle.{settled}
+
+-- ---- its meaning
+
+-- the two times of the boxes of a code in a kind of container: "creation time at 4, modification at 8"
+abbrev pub times : ℕ → ℕ → Target
+times kind code = record { kind = kind; code = code; from = 4; span = 8 }
+
+abbrev pub timesBy : Target → (ℕ → ℕ) → List ℕ → List ℕ
+timesBy t f xs = editIn (rewordLeaf t f) DEPTH FILE xs
+
+unfoldable pub allTimesBy : (ℕ → ℕ) → List ℕ → List ℕ
+allTimesBy f xs = timesBy (times MDIA MDHD) f (timesBy (times TRAK TKHD) f (timesBy (times MOOV MVHD) f xs))
+
+unfoldable pub shiftOf : ℤ → List ℕ → List ℕ
+shiftOf z xs = settled xs (allTimesBy (shiftTime z) xs)
+
+-- ---- its answer
+
+-- p of both times of a header
+unfoldable pub both : (ℕ → Bool) → List ℕ → Bool
+both p b = every (p (word 4 b 4) ∷ p (word 4 b 8) ∷ [])
+
+-- and of a track's two headers
+unfoldable pub trackTimes : (ℕ → Bool) → List ℕ → Bool
+trackTimes p b = every (both p (find TKHD (boxes b)) ∷ both p (find MDHD (mdia b)) ∷ [])
+
+unfoldable pub allTimes : (ℕ → Bool) → List ℕ → Bool
+allTimes p xs = every (both p (find MVHD (movie xs)) ∷ allTo (λ t. trackTimes p (track xs t)) (tracks xs) ∷ [])
+
+-- 22: "minutes outside -840 to 840, or a non-zero time would leave 1 to 4,294,967,295"
+unfoldable pub shiftable : ℤ → List ℕ → Bool
+shiftable z xs = every (zoneFine z ∷ allTimes (mayShift z) xs ∷ [])
+
+-- 22, 23, 25
+unfoldable pub acceptedAnswer : ℤ → List ℕ → List ℕ → Answer
+acceptedAnswer z xs out = pick (shiftable z xs) (pick (plain xs) (inRoom (shiftOf z xs) out) (Refused 23 0)) (Refused 22 0)
+
+unfoldable pub shiftAnswer : ℤ → List ℕ → List ℕ → Answer
+shiftAnswer z xs out = whenAccepted (judged xs) (acceptedAnswer z xs out)
+
+abbrev pub shiftOut : ℤ → List ℕ → List ℕ → List ℕ
+shiftOut z xs out = outBy (shiftAnswer z xs out) (shiftOf z xs) out

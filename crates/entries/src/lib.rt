@@ -1,3 +1,0 @@
-// Sample entries: their decoder records, and rule 10.
-pub mod decoder;
-pub mod rule;

@@ -1,0 +1,20 @@
+use borrow.Author.Needs.{needs}
+use Rattle.entry_fields.proofs.Answering.{put-short, put-fits}
+use lib.ListN.{length-set}
+use native.Mathlib.Omega.{arith}
+use Rattle.entry_fields.proofs.numbers.put_amr.Statement.{statement}
+use Rattle.entry_fields.proofs.numbers.put_amr.Tie as tie
+
+pub put-amr-spec : {M : Type 1} → statement M
+put-amr-spec = tie.close (tie.spec
+    (λ c. put-short _ _ (omega arith))
+    (λ c. search needs)
+    (λ c. simp length-set (omega arith))
+    (λ c. simp length-set (omega arith))
+    (λ c. simp length-set (omega arith))
+    (λ c. simp length-set (omega arith))
+    (λ c. simp length-set (omega arith))
+    (λ c. simp length-set (omega arith))
+    (λ c. simp length-set (omega arith))
+    (λ c. search needs)
+    (λ c. put-fits _ _ (omega arith)))

@@ -1,0 +1,87 @@
+-- The record reader and writer over lists of numbers: the fields of a record in order, kind first.
+use Prim.Native.Nat.{ℕ}
+use mathlib.Core.List.{List}
+use lib.ListN.{length, getD}
+use Rattle.wire.specs.Tests.{ifEq}
+use Rattle.entry_rules.specs.Entries.{FRAMES}
+use Rattle.entry_records.specs.declared.field.Amr.{Amr}
+use Rattle.entry_records.specs.declared.field.Rates.{Rates}
+use Rattle.entry_records.specs.declared.field.H263.{H263}
+use Rattle.entry_records.specs.declared.field.Record.{Record}
+use Rattle.entry_records.specs.declared.field.Record.the-variants.{Speech, Picture, Broken}
+use Rattle.entry_records.specs.declared.record.Written.{Written}
+use Rattle.entry_records.specs.declared.record.Written.the-variants as written
+use Rattle.entry_records.specs.Records.{fieldsOf, readOf, writtenOf, outOf}
+use Rattle.rule.specs.declared.Answer.{Answer}
+use Rattle.rule.specs.declared.Answer.the-variants.{Done, Refused}
+use Rattle.rule.specs.Answers.{inRoom, outBy}
+
+-- ---- the record of numbers
+
+-- number i, from 0
+abbrev pub at : List ℕ → ℕ → ℕ
+at ns i = getD ns i 0
+
+-- of eight numbers
+abbrev pub amrOf : List ℕ → Amr
+amrOf ns =
+    record {
+      kind = at ns 0;
+      reference = at ns 1;
+      scale = at ns 2;
+      vendor = at ns 3;
+      version = at ns 4;
+      modes = at ns 5;
+      period = at ns 6;
+      frames = at ns 7;
+    }
+
+-- of eleven, the first of them 5
+abbrev pub ratesOf : List ℕ → Rates
+ratesOf ns = record { given = at ns 8; average = at ns 9; maximum = at ns 10 }
+
+abbrev pub h263Of : List ℕ → H263
+h263Of ns =
+    record {
+      reference = at ns 1;
+      width = at ns 2;
+      height = at ns 3;
+      vendor = at ns 4;
+      version = at ns 5;
+      level = at ns 6;
+      profile = at ns 7;
+      rates = ratesOf ns;
+    }
+
+-- any other count of numbers is that of no record
+unfoldable pub recordOf : List ℕ → Record
+recordOf ns = ifEq (length ns) 8 (Speech (amrOf ns)) (ifEq (length ns) 11 (ifEq (at ns 0) 5 (Picture (h263Of ns)) Broken) Broken)
+
+-- ---- the reader
+
+-- 21: "the given record isn't one whole box that meets its rule", and else a
+abbrev pub whenRead : Record → Answer → Answer
+whenRead (Speech f) a = a
+whenRead (Picture f) a = a
+whenRead Broken a = Refused 21 0
+
+-- 21, 25, or how many fields there are
+unfoldable pub readAnswer : List ℕ → List ℕ → Answer
+readAnswer xs out = whenRead (readOf FRAMES xs) (inRoom (fieldsOf (readOf FRAMES xs)) out)
+
+abbrev pub readOut : List ℕ → List ℕ → List ℕ
+readOut xs out = outBy (readAnswer xs out) (fieldsOf (readOf FRAMES xs)) out
+
+-- ---- the writer
+
+abbrev pub answerOf : Written → Answer
+answerOf (written.Done n) = Done n
+answerOf written.BadFields = Refused 21 0
+answerOf written.TooShort = Refused 25 0
+
+-- 21, 25, or the length of the entry
+unfoldable pub writeAnswer : List ℕ → List ℕ → Answer
+writeAnswer ns out = answerOf (writtenOf FRAMES (recordOf ns) out)
+
+abbrev pub writeOut : List ℕ → List ℕ → List ℕ
+writeOut ns out = outOf FRAMES (recordOf ns) out

@@ -1,0 +1,34 @@
+-- A kind and its code. Assumes nothing.
+use Prim.Native.Nat.{ℕ, _<_}
+use mathlib.Core.Path.{_≡_, refl, sym, ap, _∙_}
+use mathlib.Core.Bool.{true}
+use mathlib.Core.Logic.{⊎-elim}
+use lib.Dec.{eqb}
+use borrow.Author.Tests.{eqb-true}
+use Rattle.wire.specs.Tests.{ifEq}
+use Rattle.wire.specs.Codes.{MP4V, MP4A, SAMR, SAWB, S263, AVC1}
+use Rattle.wire.specs.Sums.{allTo}
+use Rattle.wire.proofs.Tests.{eq-ways}
+use Rattle.wire.proofs.Sums.{all-at}
+use Rattle.entry_heads.specs.Kinds.{kindOf, codeOf}
+
+codes : (MP4V ≡ codeOf 1) × (MP4A ≡ codeOf 2) × (SAMR ≡ codeOf 3) × (SAWB ≡ codeOf 4) × (S263 ≡ codeOf 5) × (AVC1 ≡ codeOf 6)
+unfolding codeOf ifEq
+codes = (refl, refl, refl, refl, refl, refl)
+
+-- a known kind has one code
+pub kind-code : (code kind : ℕ) → kindOf code ≡ kind → (kind ≡ 0 → ⊥) → code ≡ codeOf kind
+unfolding kindOf
+kind-code code kind h z =
+    next _ _ _ (codes .0) (next _ _ _ (codes .1) (next _ _ _ (codes .2) (next _ _ _ (codes .3) (next _ _ _ (codes .4) (next _ _ _ (codes .5) (λ e. absurd (z (sym e)))))))) h
+  where
+    next : (x k r : ℕ) → x ≡ codeOf k → (r ≡ kind → code ≡ codeOf kind) → ifEq code x k r ≡ kind → code ≡ codeOf kind
+    next x k r e rest g = ⊎-elim (λ w. w .0 ∙ e ∙ ap codeOf (w .1)) (λ w. rest (w .1)) (eq-ways code x k r kind g)
+
+-- and its code is of that kind
+all-codes : allTo (λ k. eqb (kindOf (codeOf k)) k) 7 ≡ true
+unfolding allTo kindOf codeOf ifEq
+all-codes = refl
+
+pub code-kind : (kind : ℕ) → kind < 7 → kindOf (codeOf kind) ≡ kind
+code-kind kind h = eqb-true _ _ (all-at (λ k. eqb (kindOf (codeOf k)) k) 7 all-codes kind h)

@@ -1,0 +1,75 @@
+-- The entry that the fields of a `samr` or `sawb` record make. Assumes nothing.
+use Prim.Native.Nat.{ℕ, _<_}
+use native.Mathlib.Omega.{arith}
+use mathlib.Core.Path.{_≡_, refl}
+use mathlib.Core.List.{List, []}
+use mathlib.Core.Logic.{⊎-elim}
+use lib.ListN.{take}
+use Rattle.wire.specs.Tests.{ifEq, ifLe}
+use Rattle.wire.specs.Numbers.{bytesOn, bytes, word}
+use Rattle.wire.specs.Codes.{DAMR}
+use Rattle.wire.proofs.Numbers.{word-bytes}
+use Rattle.entry_heads.specs.Kinds.{codeOf}
+use Rattle.entry_heads.specs.Heads.{boxHeader, commonHead, audioHead}
+use Rattle.entry_rules.proofs.Speech.{Spoken, SpeechAt}
+use Rattle.entry_records.specs.declared.field.Amr.{Amr}
+use Rattle.entry_records.specs.Fields.{amrIn, amrRule}
+use Rattle.entry_records.specs.Texts.{amrText}
+use Rattle.entry_records.proofs.Lengths.{amr-length}
+use Rattle.entry_records.proofs.Fitting.{below-at, below-rule}
+
+code-fits : (kind : ℕ) → Spoken kind → codeOf kind < 4294967296
+unfolding codeOf ifEq
+code-fits kind s = ⊎-elim (λ e. rw e (omega arith)) (λ e. rw e (omega arith)) s
+
+-- what stands where in it
+pub record AmrWords (f : Amr) (xs : List ℕ) : Type 0 where
+  pub size : word 4 xs 0 ≡ 53
+  pub code : word 4 xs 4 ≡ codeOf (f .kind)
+  pub reference : word 2 xs 14 ≡ f .reference
+  pub scale : word 2 xs 32 ≡ f .scale
+  pub inner : word 4 xs 36 ≡ 17
+  pub damr : word 4 xs 40 ≡ DAMR
+  pub vendor : word 4 xs 44 ≡ f .vendor
+  pub version : word 1 xs 48 ≡ f .version
+  pub modes : word 2 xs 49 ≡ f .modes
+  pub period : word 1 xs 51 ≡ f .period
+  pub frames : word 1 xs 52 ≡ f .frames
+
+module _ (most : ℕ) (f : Amr) (s : Spoken (f .kind)) (a : amrRule most f ≡ 1) where
+  pub amr-words : AmrWords f (amrText f)
+  unfolding amrRule amrText audioHead commonHead boxHeader bytes bytesOn word ifLe
+  amr-words =
+      record {
+        size = refl;
+        code = word-bytes 4 (codeOf (f .kind)) [] (code-fits (f .kind) s);
+        reference = word-bytes 2 (f .reference) [] (below-at 0 _ _ a);
+        scale = word-bytes 2 (f .scale) [] (below-at 1 _ _ a);
+        inner = refl;
+        damr = refl;
+        vendor = word-bytes 4 (f .vendor) [] (below-at 2 _ _ a);
+        version = word-bytes 1 (f .version) [] (below-at 3 _ _ a);
+        modes = word-bytes 2 (f .modes) [] (below-at 4 _ _ a);
+        period = word-bytes 1 (f .period) [] (below-at 5 _ _ a);
+        frames = word-bytes 1 (f .frames) [] (below-at 6 _ _ a);
+      }
+
+  amr-front : take 36 (amrText f) ≡ audioHead 53 (codeOf (f .kind)) (f .reference) (f .scale)
+  unfolding amrText audioHead commonHead boxHeader bytes bytesOn
+  amr-front = refl
+
+  pub amr-at : SpeechAt (f .kind) most (amrText f)
+  unfolding amrRule
+  amr-at =
+      let w = amr-words in
+      record {
+        long = amr-length f;
+        size = w .size;
+        front = rw (w .size, w .code, w .reference, w .scale) amr-front;
+        inner = w .inner;
+        code = w .damr;
+        frames = rw (w .modes, w .period, w .frames) (below-rule _ _ a);
+      }
+
+  pub amr-back : amrIn (f .kind) (amrText f) ≡ f
+  amr-back = let w = amr-words in rw (w .reference, w .scale, w .vendor, w .version, w .modes, w .period, w .frames)

@@ -1,0 +1,89 @@
+-- The entry that the fields of an `s263` record make, up to the profile. Assumes nothing.
+use Prim.Native.Nat.{ℕ, _+_, _≤_, _<_}
+use native.Mathlib.Omega.{arith}
+use mathlib.Core.Path.{_≡_, refl, sym, ap, _∙_}
+use mathlib.Core.List.{List, []}
+use lib.ListN.{length, take}
+use lib.Seq.{take-take}
+use Rattle.wire.specs.Tests.{ifLe}
+use Rattle.wire.specs.Numbers.{bytesOn, bytes, word}
+use Rattle.wire.specs.Codes.{S263, D263}
+use Rattle.wire.proofs.Numbers.{word-bytes, word-take}
+use Rattle.entry_heads.specs.Heads.{boxHeader, commonHead, visualStart, visualHead}
+use Rattle.entry_rules.proofs.Picture.{PictureAt}
+use Rattle.entry_records.specs.declared.field.H263.{H263}
+use Rattle.entry_records.specs.Texts.{plainText}
+use Rattle.entry_records.specs.Fields.{h263Rule}
+use Rattle.entry_records.proofs.Fitting.{below-at}
+
+-- what stands where up to the profile
+pub record PictureWords (n : ℕ) (f : H263) (xs : List ℕ) : Type 0 where
+  pub size : word 4 xs 0 ≡ 86 + n
+  pub code : word 4 xs 4 ≡ S263
+  pub reference : word 2 xs 14 ≡ f .reference
+  pub width : word 2 xs 32 ≡ f .width
+  pub height : word 2 xs 34 ≡ f .height
+  pub inner : word 4 xs 86 ≡ n
+  pub d263 : word 4 xs 90 ≡ D263
+  pub vendor : word 4 xs 94 ≡ f .vendor
+  pub version : word 1 xs 98 ≡ f .version
+  pub level : word 1 xs 99 ≡ f .level
+  pub profile : word 1 xs 100 ≡ f .profile
+
+module _ (f : H263) (a : h263Rule f ≡ 1) where
+  plain-words : (n : ℕ) → n < 100 → PictureWords n f (plainText (86 + n) n f)
+  unfolding h263Rule plainText visualHead visualStart commonHead boxHeader bytes bytesOn word ifLe
+  plain-words n h =
+      record {
+        size = word-bytes 4 (86 + n) [] (omega arith);
+        code = refl;
+        reference = word-bytes 2 (f .reference) [] (below-at 0 _ _ a);
+        width = word-bytes 2 (f .width) [] (below-at 1 _ _ a);
+        height = word-bytes 2 (f .height) [] (below-at 2 _ _ a);
+        inner = word-bytes 4 n [] (omega arith);
+        d263 = refl;
+        vendor = word-bytes 4 (f .vendor) [] (below-at 3 _ _ a);
+        version = word-bytes 1 (f .version) [] (below-at 4 _ _ a);
+        level = word-bytes 1 (f .level) [] (below-at 5 _ _ a);
+        profile = word-bytes 1 (f .profile) [] (below-at 6 _ _ a);
+      }
+
+  plain-front : (n : ℕ) → take 86 (plainText (86 + n) n f) ≡ visualHead (86 + n) S263 (f .reference) (f .width) (f .height) (bytes 32 0)
+  unfolding plainText visualHead visualStart commonHead boxHeader bytes bytesOn
+  plain-front n = refl
+
+  -- a text that begins so
+  module _ (n : ℕ) (h : n < 100) (xs : List ℕ) (t : take 101 xs ≡ plainText (86 + n) n f) (l : length xs ≡ 86 + n) (m : 15 ≤ n) where
+    up : (w at : ℕ) → at + w ≤ 101 → word w xs at ≡ word w (plainText (86 + n) n f) at
+    up w at k = sym (word-take w 101 xs at k (omega arith)) ∙ ap (λ (ys : List ℕ). word w ys at) t
+
+    pub picture-words : PictureWords n f xs
+    picture-words =
+        let p = plain-words n h in
+        record {
+          size = up 4 0 (omega arith) ∙ p .size;
+          code = up 4 4 (omega arith) ∙ p .code;
+          reference = up 2 14 (omega arith) ∙ p .reference;
+          width = up 2 32 (omega arith) ∙ p .width;
+          height = up 2 34 (omega arith) ∙ p .height;
+          inner = up 4 86 (omega arith) ∙ p .inner;
+          d263 = up 4 90 (omega arith) ∙ p .d263;
+          vendor = up 4 94 (omega arith) ∙ p .vendor;
+          version = up 1 98 (omega arith) ∙ p .version;
+          level = up 1 99 (omega arith) ∙ p .level;
+          profile = up 1 100 (omega arith) ∙ p .profile;
+        }
+
+    front : take 86 xs ≡ visualHead (86 + n) S263 (f .reference) (f .width) (f .height) (bytes 32 0)
+    front = sym (take-take 86 101 xs (omega arith)) ∙ ap (take 86) t ∙ plain-front n
+
+    pub picture-at : PictureAt n xs
+    picture-at =
+        let w = picture-words in
+        record {
+          long = l;
+          size = w .size;
+          front = rw (w .size, w .code, w .reference, w .width, w .height) front;
+          inner = w .inner;
+          code = w .d263;
+        }

@@ -1,0 +1,17 @@
+use borrow.Author.Needs.{needs}
+use Rattle.entry_rules.specs.Entries.{esdsRule}
+use Rattle.wire.proofs.Tests.{eq-yea, eq-nay, lt-yea, lt-nay}
+use mathlib.Core.Path.{refl}
+use native.Mathlib.Omega.{arith}
+use Rattle.entry_rules.proofs.entry.esds_rule.Statement.{statement}
+use Rattle.entry_rules.proofs.entry.esds_rule.Tie as tie
+
+pub esds-rule-spec : {M : Type 1} → statement M
+unfolding esdsRule
+esds-rule-spec = tie.close (tie.spec
+    (λ c κs. search needs)
+    (λ c. eq-yea _ _ _ _ _ (omega arith) (lt-yea _ _ _ _ _ (omega arith) refl))
+    (λ c κs. search needs)
+    (λ c κs. search needs)
+    (λ c. eq-yea _ _ _ _ _ (omega arith) (lt-nay _ _ _ _ _ (omega arith) (cc)))
+    (λ c. eq-nay _ _ _ _ _ (omega arith) refl))

@@ -1,0 +1,3 @@
+// Sample entries: their decoder records, and rule 10.
+pub mod decoder;
+pub mod entry;

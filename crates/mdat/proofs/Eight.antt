@@ -1,0 +1,55 @@
+-- Laws of rule 8, for the loop over the walk by chunk. Assumes nothing.
+use Prim.Native.Nat.{ℕ, _+_, _≤_, _<_}
+use native.Mathlib.Omega.{arith}
+use mathlib.Core.Path.{_≡_, _∙_}
+use mathlib.Core.Bool.{true, false}
+use mathlib.Core.List.{List}
+use Rattle.wire.specs.Clauses.{oneIf}
+use Rattle.wire.proofs.Sums.{all-none, all-more, all-of, all-at, all-fails}
+use Rattle.boxes.specs.Box.{Box}
+use Rattle.sample_tables.specs.Tables.{count}
+use Rattle.sample_tables.specs.Chunks.{chunkAt, extentOf}
+use Rattle.sample_tables.specs.Rules.{Seven}
+use Rattle.sample_tables.specs.declared.chunk.Chunk.{Chunk}
+use Rattle.sample_tables.specs.declared.chunk.Extent.{Extent}
+use Rattle.sample_tables.proofs.Chunks.{first-more, first-mono}
+use Rattle.mdat.specs.Payloads.{inAt}
+use Rattle.mdat.specs.Rules.{chunkIn, chunksIn, eight, Ready}
+
+-- ---- the tables
+
+pub ready : {stts stsc stsz stco : List ℕ} → Seven stts stsc stsz stco → Ready stsc stco
+ready s = record { walk = s .walk; few = rw (s .total) (s .few) }
+
+pub ready-few : {stsc stco : List ℕ} → Ready stsc stco → (k : ℕ) (c : Chunk) → c ≡ chunkAt stsc stco k → k < count stco → c .first + c .samples ≤ 65536
+unfolding chunkAt
+ready-few {stsc} {stco} r k c e h = rw e (omega (arith, r .few, first-more stsc k, first-mono stsc (k + 1) (count stco) (omega arith)))
+
+-- ---- the chunks
+
+module _ (l : List Box) (stsc stsz stco : List ℕ) where
+  pub chunks-none : chunksIn l stsc stsz stco 0 ≡ true
+  unfolding chunksIn
+  chunks-none = all-none (chunkIn l stsc stsz stco)
+
+  pub chunks-more : (k : ℕ) → chunksIn l stsc stsz stco k ≡ true → chunkIn l stsc stsz stco k ≡ true → chunksIn l stsc stsz stco (k + 1) ≡ true
+  unfolding chunksIn
+  chunks-more = all-more (chunkIn l stsc stsz stco)
+
+  pub chunks-fail : (n k : ℕ) → k < n → chunkIn l stsc stsz stco k ≡ false → chunksIn l stsc stsz stco n ≡ false
+  unfolding chunksIn
+  chunks-fail = all-fails (chunkIn l stsc stsz stco)
+
+  -- each chunk, from the rule, and the rule from each
+  pub eight-at : eight l stsc stsz stco ≡ true → (k : ℕ) → k < count stco → chunkIn l stsc stsz stco k ≡ true
+  unfolding chunksIn
+  eight-at = all-at (chunkIn l stsc stsz stco) (count stco)
+
+  pub eight-of : ((k : ℕ) → k < count stco → chunkIn l stsc stsz stco k ≡ true) → eight l stsc stsz stco ≡ true
+  unfolding chunksIn
+  eight-of = all-of (chunkIn l stsc stsz stco) (count stco)
+
+  -- the answer of one chunk
+  pub chunk-answer : (k : ℕ) {c : Chunk} {x : Extent} {r : ℕ} → c ≡ chunkAt stsc stco k → x ≡ extentOf stsz c → r ≡ oneIf (inAt l (x .offset) (x .bytes)) → r ≡ oneIf (chunkIn l stsc stsz stco k)
+  unfolding chunkIn
+  chunk-answer k e f q = q ∙ rw (f, e)

@@ -1,0 +1,86 @@
+-- Rule 8 and a track's samples, kept where every chunk offset is relocated. Assumes nothing.
+use Prim.Native.Nat.{ℕ, zero, suc, _+_, _≤_, _<_}
+use native.Mathlib.Omega.{arith}
+use mathlib.Core.Path.{_≡_, refl, sym, ap, _∙_}
+use mathlib.Core.Bool.{true}
+use mathlib.Core.List.{List, [], _∷_, _++_, append-nil}
+use lib.ListN.{take, drop}
+use lib.Seq.{take-take, drop-drop}
+use Rattle.wire.specs.Numbers.{Bytes}
+use Rattle.boxes.specs.Box.{Box, write}
+use Rattle.boxes.specs.Boxes.{boxes, after}
+use Rattle.boxes.proofs.Whole.{Good}
+use Rattle.boxes.proofs.Reading.{All, parts, write-boxes}
+use Rattle.sample_tables.specs.Tables.{count}
+use Rattle.sample_tables.specs.Sizes.{sizeAt, bytesFrom}
+use Rattle.sample_tables.specs.Chunks.{samplesIn, firstSample, offsetAt, chunkAt, extentOf}
+use Rattle.sample_tables.proofs.Sizes.{sample-within}
+use Rattle.mdat.specs.Payloads.{mdats, inAt}
+use Rattle.mdat.specs.Relocate.{Relocated}
+use Rattle.mdat.specs.Rules.{chunkIn, eight}
+use Rattle.mdat.specs.Samples.{joinTo, sampleIn, chunkSamples, samplesOf}
+use Rattle.mdat.proofs.Eight.{eight-at, eight-of}
+use Rattle.mdat.proofs.Relocating.{relocate-in, relocate-bytes}
+
+-- ---- lists of samples
+
+join-same : (f g : ℕ → List (List ℕ)) (n : ℕ) → ((i : ℕ) → i < n → f i ≡ g i) → joinTo f n ≡ joinTo g n
+unfolding joinTo
+join-same f g zero h = refl
+join-same f g (suc n) h = rw (join-same f g n (λ i k. h i (omega arith)), h n (omega arith))
+
+-- a part of the first n bytes
+part-of : (b s n : ℕ) (xs : List ℕ) → b + s ≤ n → take s (drop b (take n xs)) ≡ take s (drop b xs)
+part-of zero s n xs h = take-take s n xs (omega arith)
+part-of (suc b) s zero xs h = absurd (omega arith)
+part-of (suc b) s (suc n) [] h = refl
+part-of (suc b) s (suc n) (x ∷ xs) h = part-of b s n xs (omega arith)
+
+-- a part of the n bytes from o on
+part-at : (o b s n : ℕ) (xs : List ℕ) → b + s ≤ n → take s (drop (o + b) xs) ≡ take s (drop b (take n (drop o xs)))
+part-at o b s n xs h = rw (← drop-drop b o xs) (sym (part-of b s n (drop o xs) h))
+
+-- ---- one chunk, where its bytes are the same
+
+module _ (xs ys stsc stsz o p : List ℕ) (k : ℕ) where
+  abbrev bytesIn : ℕ
+  bytesIn = bytesFrom stsz (firstSample stsc k) (samplesIn stsc k)
+
+  chunk-same : take bytesIn (drop (offsetAt o k) xs) ≡ take bytesIn (drop (offsetAt p k) ys) → chunkSamples xs stsz (chunkAt stsc o k) ≡ chunkSamples ys stsz (chunkAt stsc p k)
+  unfolding chunkSamples sampleIn chunkAt
+  chunk-same e = join-same _ _ (samplesIn stsc k) (λ j h. ap (λ (b : List ℕ). b ∷ []) (go j (sample-within stsz (firstSample stsc k) j (samplesIn stsc k) h)))
+    where
+      go : (j : ℕ) → bytesFrom stsz (firstSample stsc k) j + sizeAt stsz (firstSample stsc k + j) ≤ bytesIn
+          → take (sizeAt stsz (firstSample stsc k + j)) (drop (offsetAt o k + bytesFrom stsz (firstSample stsc k) j) xs)
+          ≡ take (sizeAt stsz (firstSample stsc k + j)) (drop (offsetAt p k + bytesFrom stsz (firstSample stsc k) j) ys)
+      go j h = rw (part-at (offsetAt o k) _ _ bytesIn xs h, part-at (offsetAt p k) _ _ bytesIn ys h, e)
+
+-- ---- a track
+
+module _ (l m : List Box) (same : mdats l ≡ mdats m) (g : All Good m) (stsc stsz o p : List ℕ) (r : Relocated l m o p) where
+  chunk-lies : (k : ℕ) → chunkIn l stsc stsz o k ≡ true → inAt l (offsetAt o k) (bytesFrom stsz (firstSample stsc k) (samplesIn stsc k)) ≡ true
+  unfolding chunkIn extentOf chunkAt
+  chunk-lies k h = h
+
+  pub eight-kept : eight l stsc stsz o ≡ true → eight m stsc stsz p ≡ true
+  unfolding chunkIn extentOf chunkAt
+  eight-kept e =
+      eight-of m stsc stsz p (λ k h.
+      let n : k < count o = omega (arith, r .same) in
+      rw (r .offsets k n) (relocate-in l m same g _ _ (eight-at l stsc stsz o e k n)))
+
+  pub samples-kept : All Good l → eight l stsc stsz o ≡ true → samplesOf (write l) stsc stsz o ≡ samplesOf (write m) stsc stsz p
+  unfolding samplesOf
+  samples-kept f e =
+      rw (r .same) (join-same _ _ (count o) (λ k h.
+      chunk-same (write l) (write m) stsc stsz o p k (rw (r .offsets k h) (relocate-bytes l m same g f _ _ (chunk-lies k (eight-at l stsc stsz o e k h))))))
+
+-- ---- files that boxes tile
+
+pub tiled : (xs : List ℕ) → Bytes xs → after xs ≡ [] → write (boxes xs) ≡ xs
+tiled xs v e = sym (append-nil (write (boxes xs))) ∙ ap (λ (z : List ℕ). write (boxes xs) ++ z) (sym e) ∙ write-boxes xs v
+
+pub file-samples-kept : (xs ys : List ℕ) → Bytes xs → Bytes ys → after xs ≡ [] → after ys ≡ [] → mdats (boxes xs) ≡ mdats (boxes ys)
+    → (stsc stsz o p : List ℕ) → Relocated (boxes xs) (boxes ys) o p → eight (boxes xs) stsc stsz o ≡ true → samplesOf xs stsc stsz o ≡ samplesOf ys stsc stsz p
+file-samples-kept xs ys v w a b same stsc stsz o p r e =
+    rw (tiled xs v a, tiled ys w b) at (samples-kept (boxes xs) (boxes ys) same (parts ys w .good) stsc stsz o p r (parts xs v .good) e)

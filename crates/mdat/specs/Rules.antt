@@ -1,0 +1,25 @@
+-- Rule 8: "Each chunk, its samples laid end to end from its offset, lies inside the payload of one top-level mdat."
+use Prim.Native.Nat.{ℕ, _≤_}
+use mathlib.Core.Bool.{Bool}
+use mathlib.Core.List.{List}
+use Rattle.wire.specs.Sums.{allTo}
+use Rattle.boxes.specs.Box.{Box}
+use Rattle.sample_tables.specs.Tables.{count}
+use Rattle.sample_tables.specs.Chunks.{samplesOver, extentAt, Walkable}
+use Rattle.mdat.specs.Payloads.{inAt}
+
+-- of chunk k of a track, in a file with boxes l
+unfoldable pub chunkIn : List Box → (stsc stsz stco : List ℕ) → ℕ → Bool
+chunkIn l stsc stsz stco k = inAt l (extentAt stsc stsz stco k .offset) (extentAt stsc stsz stco k .bytes)
+
+-- of the first n chunks
+unfoldable pub chunksIn : List Box → (stsc stsz stco : List ℕ) → ℕ → Bool
+chunksIn l stsc stsz stco n = allTo (chunkIn l stsc stsz stco) n
+
+abbrev pub eight : List Box → (stsc stsz stco : List ℕ) → Bool
+eight l stsc stsz stco = chunksIn l stsc stsz stco (count stco)
+
+-- what a track's tables must be for it to be asked: rules 6 and 7 give this
+pub record Ready (stsc stco : List ℕ) : Type 0 where
+  pub walk : Walkable stsc stco
+  pub few : samplesOver stsc (count stco) ≤ 65536

@@ -1,0 +1,59 @@
+// The payloads of a file's `mdat` boxes.
+use boxes::walk::BoxAt;
+use boxes::walk::Step;
+use boxes::walk::Walk;
+use wire::codes;
+ghost use mathlib.Core.Path.{_≡_};
+ghost use Prim.Native.Nat.{_+_, _^_, _≤_, _<_};
+ghost use Rattle.wire.specs.Clauses.{oneIf};
+ghost use Rattle.boxes.specs.Boxes.{boxes};
+ghost use Rattle.mdat.specs.Payloads.{inAt, holds as holdsOf};
+
+// Whether so many bytes, from so far into a box, lie in its payload, and it is an `mdat`: 1 or 0.
+fn holds(b: BoxAt, from: usize, bytes: usize) -> usize
+    requires { ⌜ from ≤ b .size ⌝ }
+    ensures { λ r. ⌜ r ≡ oneIf (holdsOf (b .code) (b .head) (b .size) from bytes) ⌝ }
+{
+    if b.code != codes::MDAT {
+        return 0;
+    }
+    if from < b.head {
+        return 0;
+    }
+    if b.size - from < bytes {
+        return 0;
+    }
+    1
+}
+
+// The place past a box: an `mdat` inside it is passed over with it.
+fn past(b: BoxAt) -> usize
+    requires { ⌜ b .at + b .size < 2 ^ 63 ⌝ }
+    ensures { λ r. ⌜ r ≡ b .at + b .size ⌝ }
+{
+    b.at + b.size
+}
+
+// Whether so many bytes from a place on lie inside the payload of one `mdat` of the file: 1 or 0.
+pub fn in_payload(file: &[u8], offset: usize, bytes: usize) -> usize
+    ensures { λ r. ⌜ r ≡ oneIf (inAt (boxes (now (file .entry))) offset bytes) ⌝ }
+{
+    let mut w = Walk { at: 0 };
+    loop {
+        match w.step(file) {
+            Step::Found(b, _) => {
+                let end = past(b);
+                if offset <= end {
+                    return holds(b, offset - w.at, bytes);
+                }
+                w = Walk { at: end };
+            }
+            Step::End => {
+                return 0;
+            }
+            Step::Broken(_) => {
+                return 0;
+            }
+        }
+    }
+}

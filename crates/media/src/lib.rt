@@ -1,3 +1,0 @@
-// Where the bytes of samples stand: rule 8.
-pub mod payload;
-pub mod rule;

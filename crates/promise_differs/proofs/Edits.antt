@@ -1,0 +1,82 @@
+-- The end of demand 3, of each edit: "only the named fields, enclosing sizes, chunk offsets and, for a move, the box order
+-- differ". That of a move is `move-order` and `move-differs`, that of a shift `shift-differs`. Assumes nothing.
+use Prim.Native.Nat.{ℕ, _+_, _-_, _≤_, _<_}
+use native.Mathlib.Omega.{arith}
+use mathlib.Core.Path.{_≡_, refl, sym, ap, _∙_}
+use mathlib.Core.List.{List, [], _∷_}
+use mathlib.Core.Logic.{⊎-elim}
+use lib.IntN.{ℤ}
+use lib.ListN.{length}
+use Rattle.wire.specs.Codes.{TRAK}
+use Rattle.wire.specs.Numbers.{Bytes}
+use Rattle.wire.proofs.Tests.{lt-yea, lt-nay, lt-or}
+use Rattle.boxes.specs.Box.{Box}
+use Rattle.boxes.specs.Boxes.{boxes}
+use Rattle.boxes.specs.Seek.{meant}
+use Rattle.boxes.specs.Containers.{LONGEST}
+use Rattle.mdat.specs.Payloads.{mdats}
+use Rattle.mdat.proofs.Mdats.{kin-mdats}
+use Rattle.movie.specs.declared.entry.Spot.{Spot}
+use Rattle.movie.specs.declared.entry.Spot.the-variants.{In, Past}
+use Rattle.movie.specs.Movie.{movie}
+use Rattle.movie.specs.Named.{held, heldIn, spotIn}
+use Rattle.entry_rules.specs.Entries.{FRAMES}
+use Rattle.entry_rules.specs.Decoders.{recordRule}
+use Rattle.judge.specs.Acceptance.{Meets}
+use Rattle.edit_offsets.specs.Settle.{settled}
+use Rattle.edit_offsets.proofs.Settled.{settled-length}
+use Rattle.edit_move.specs.Moving.{moveOf}
+use Rattle.edit_replace.specs.Replace.{kindAt, recordAt, replaced, replaceOf}
+use Rattle.edit_replace.proofs.Taking.{record-first}
+use Rattle.edit_replace.proofs.Written.{spot-none}
+use Rattle.edit_shift.specs.Shift.{shiftOf}
+use Rattle.promise_kept.proofs.Named.{entry-in}
+use Rattle.promise_kept.proofs.Second.{second}
+use Rattle.promise_differs.specs.Differs.{OnlyOffsets, OnlyTimes, OnlyRecord, keptOf, Replaces}
+use Rattle.promise_differs.proofs.Moving.{move-order, move-differs}
+use Rattle.promise_differs.proofs.Timing.{shift-differs}
+use Rattle.promise_differs.proofs.Replacing.{record-differs}
+use Rattle.promise_differs.proofs.OneTrack.{record-there, record-elsewhere}
+
+-- ---- a replacement
+
+in-not : (t n : ℕ) → In t n ≡ Past → ⊥
+in-not t n e = let z : _≡_ {A = ℕ} 0 1 = cc in omega arith
+
+-- an entry that is nowhere is past them all
+held-past : (t : ℕ) (l : List Box) (i : ℕ) → spotIn t l i ≡ Past → heldIn l ≤ i
+unfolding spotIn heldIn
+held-past t [] i e = omega arith
+held-past t (x ∷ l) i e =
+    lt-or i (held (x .code) (x .body)) (λ h. absurd (in-not t i (lt-yea _ _ _ _ _ h refl ∙ e)))
+    (λ h. let k = held-past (t + meant TRAK (x .code)) l (i - held (x .code) (x .body)) (lt-nay _ _ _ _ _ h refl ∙ e) in omega arith)
+
+-- "Replace decoder record of entry i": one that meets its rule, where the result is not too long
+pub replace-differs : (xs : List ℕ) (i : ℕ) (new : List ℕ) → Bytes xs → Bytes new → Meets xs → recordRule (kindAt xs i) FRAMES new ≡ 1 → length (replaceOf xs i new) ≤ LONGEST → Replaces xs i new (replaceOf xs i new)
+unfolding replaceOf replaced
+replace-differs xs i new w v m r h = go (spotIn 0 (movie xs) (i - 1)) refl (rw settled-length at h)
+  where
+    go : (s : Spot) → spotIn 0 (movie xs) (i - 1) ≡ s → length (recordAt s (keptOf xs i) new xs) ≤ LONGEST → Replaces xs i new (settled xs (recordAt s (keptOf xs i) new xs))
+    go (In t n) e k =
+        let s : length (recordAt (In t n) (keptOf xs i) new xs) < 4294967296 = omega arith in
+        let q = entry-in xs i w (record-first xs i FRAMES (kindAt xs i) new refl r) t n e in
+        record {
+          t = t;
+          n = n;
+          spot = e;
+          differs = record-differs t n (keptOf xs i) new xs v w s;
+          there = record-there t n (keptOf xs i) new xs v w s (omega (arith, q .room));
+          elsewhere = record-elsewhere t n (keptOf xs i) new xs v w s;
+        }
+    go Past e k = absurd (spot-none xs i new refl Past (held-past 0 (movie xs) (i - 1) e) (sym e) refl refl r)
+
+-- ---- every `mdat` has its bytes
+
+pub move-mdats : (xs : List ℕ) → Bytes xs → Meets xs → mdats (boxes (moveOf xs)) ≡ mdats (boxes xs)
+move-mdats xs w m = sym (kin-mdats OnlyOffsets 5 _ (moveOf xs) (λ b c r. r .rest (λ o. omega (arith, o .0))) (move-differs xs w m)) ∙ ap mdats (move-order xs w m) ∙ second .payloads (boxes xs)
+
+pub shift-mdats : (z : ℤ) (xs : List ℕ) → Bytes xs → Meets xs → mdats (boxes (shiftOf z xs)) ≡ mdats (boxes xs)
+shift-mdats z xs w m = sym (kin-mdats OnlyTimes 5 xs (shiftOf z xs) (λ b c r. r .rest (λ o. ⊎-elim (λ p. omega (arith, p .0)) (λ p. ⊎-elim (λ q. omega (arith, q .0)) (λ q. omega (arith, q .0)) p) o)) (shift-differs z xs w m))
+
+pub replace-mdats : (xs : List ℕ) (i : ℕ) (new ys : List ℕ) → Replaces xs i new ys → mdats (boxes ys) ≡ mdats (boxes xs)
+replace-mdats xs i new ys h = sym (kin-mdats (OnlyRecord (h .n) _ new) 5 xs ys (λ b c r. r .rest (λ o. omega (arith, o .0)) (λ o. omega (arith, o .0))) (h .differs))

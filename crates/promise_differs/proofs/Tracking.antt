@@ -1,0 +1,36 @@
+-- What differs in a track, by what differs in the file. Assumes nothing.
+use Prim.Native.Nat.{ℕ}
+use native.Mathlib.Omega.{arith}
+use mathlib.Core.Path.{_≡_, refl}
+use mathlib.Core.List.{List, []}
+use Rattle.wire.specs.Tests.{ifEq}
+use Rattle.wire.specs.Codes.{MOOV, TRAK, STBL, STSD}
+use Rattle.boxes.specs.Boxes.{boxes}
+use Rattle.boxes.specs.Containers.{FILE, DEPTH, parent, kindIn}
+use Rattle.boxes.specs.Seek.{nth, find}
+use Rattle.boxes.specs.Kin.{Leaf, Kin}
+use Rattle.boxes.proofs.Kin.{kin-refl, kin-find, kin-child}
+use Rattle.movie.specs.Movie.{track, table}
+use Rattle.promise_kept.proofs.Tracking.{kin-track}
+use Rattle.promise_differs.specs.Differs.{TRACK, OnlyOffsets}
+use Rattle.promise_differs.proofs.Bodies.{but-refl}
+
+-- related files have related tracks
+pub track-kin : (G : Leaf) → ((k c : ℕ) (b : List ℕ) → G k c b b) → (xs ys : List ℕ) → Kin G DEPTH FILE xs ys → (u : ℕ) → Kin G TRACK TRAK (track xs u) (track ys u)
+unfolding track kindIn parent ifEq boxes nth
+track-kin G same xs ys a u =
+    let none : Kin G TRACK TRAK [] [] = kin-refl G same TRACK TRAK [] in
+    kin-child G 5 FILE xs ys a MOOV (λ z. omega arith) (λ b b′. Kin G TRACK TRAK (nth TRAK u (boxes b)) (nth TRAK u (boxes b′))) none (λ z. omega arith)
+    (λ b b′ r. kin-child G 4 MOOV b b′ r TRAK (λ z. omega arith) (Kin G TRACK TRAK) none (λ z. omega arith) (λ b b′ q. q) u) 0
+
+-- ---- where only chunk offsets differ
+
+pub offsets-refl : (k c : ℕ) (b : List ℕ) → OnlyOffsets k c b b
+offsets-refl k c b = record { offsets = λ o. but-refl 8 _ b; rest = λ n. refl }
+
+-- a track has the same sample entries
+pub same-stsd : (xs ys : List ℕ) → Kin OnlyOffsets DEPTH FILE xs ys → (t : ℕ) → table STSD (track xs t) ≡ table STSD (track ys t)
+unfolding table kindIn parent ifEq
+same-stsd xs ys a t =
+    kin-track OnlyOffsets (λ b b′. find STSD (boxes b) ≡ find STSD (boxes b′)) refl
+    (λ b b′ r. kin-find OnlyOffsets 0 STBL b b′ r STSD (λ z. omega arith) (λ u v. u ≡ v) refl refl (λ u v q. q .rest (λ o. omega (arith, o .1))) 0) xs ys a t

@@ -1,0 +1,90 @@
+-- "only the named fields, enclosing sizes, chunk offsets and, for a move, the box order differ". Files that `Kin` relates have the
+-- same boxes in the same order, of the sizes that their bodies give; these say what differs in the body of an opaque box.
+use Prim.Native.Nat.{ℕ, _-_}
+use mathlib.Core.Path.{_≡_}
+use mathlib.Core.List.{List}
+use mathlib.Core.Logic.{_⊎_}
+use lib.ListN.{length, take, drop}
+use Rattle.wire.specs.Codes.{MOOV, MVHD, TRAK, TKHD, MDIA, MDHD, STBL, STSD, STCO}
+use Rattle.boxes.specs.Boxes.{HEAD, FRONT}
+use Rattle.boxes.specs.Containers.{FILE, DEPTH}
+use Rattle.boxes.specs.Seek.{ANY}
+use Rattle.boxes.specs.Kin.{Kin}
+use Rattle.boxes.specs.Way.{overTurn, tailBy}
+use Rattle.movie.specs.declared.entry.Spot.the-variants.{In}
+use Rattle.movie.specs.Movie.{movie, track, table}
+use Rattle.movie.specs.Named.{spotIn}
+use Rattle.entry_heads.specs.Heads.{headSize}
+use Rattle.edit_replace.specs.Replace.{kindAt}
+
+-- two bodies of the same length, with the same bytes before place `from` and the same from place `to` on
+pub record But (from to : ℕ) (b b′ : List ℕ) : Type 0 where
+  pub long : length b ≡ length b′
+  pub before : take from b ≡ take from b′
+  pub behind : drop to b ≡ drop to b′
+
+-- an `stco`: all but the chunk offsets, which follow version, flags and count
+abbrev pub ButOffsets : List ℕ → List ℕ → Type 0
+ButOffsets b b′ = But 8 (length b) b b′
+
+-- a header: all but "creation time at 4, modification at 8"
+abbrev pub ButTimes : List ℕ → List ℕ → Type 0
+ButTimes b b′ = But 4 12 b b′
+
+-- ---- the boxes with such fields, by the container's kind k and the code c
+
+-- chunk offsets: `stco` in `stbl`
+abbrev pub Offsets : ℕ → ℕ → Type 0
+Offsets k c = (k ≡ STBL) × (c ≡ STCO)
+
+-- times: `mvhd` in `moov`, `tkhd` in `trak`, `mdhd` in `mdia`
+abbrev pub Timed : ℕ → ℕ → Type 0
+Timed k c = ((k ≡ MOOV) × (c ≡ MVHD)) ⊎ (((k ≡ TRAK) × (c ≡ TKHD)) ⊎ ((k ≡ MDIA) × (c ≡ MDHD)))
+
+-- sample entries: `stsd` in `stbl`
+abbrev pub Described : ℕ → ℕ → Type 0
+Described k c = (k ≡ STBL) × (c ≡ STSD)
+
+-- ---- a move
+
+-- chunk offsets; every other opaque box is the same
+pub record OnlyOffsets (k c : ℕ) (b b′ : List ℕ) : Type 0 where
+  pub offsets : Offsets k c → ButOffsets b b′
+  pub rest : (Offsets k c → ⊥) → b ≡ b′
+
+-- ---- a shift
+
+-- times; every other opaque box is the same, and so are chunk offsets, since nothing moves
+pub record OnlyTimes (k c : ℕ) (b b′ : List ℕ) : Type 0 where
+  pub times : Timed k c → ButTimes b b′
+  pub rest : (Timed k c → ⊥) → b ≡ b′
+
+-- ---- a replacement
+
+-- an `stsd` with another record behind the first `keep` bytes of the payload of its entry n, from 0
+abbrev pub withRecord : (n keep : ℕ) (new b : List ℕ) → List ℕ
+withRecord n keep new b = overTurn (record { skip = FRONT; code = ANY; nth = n }) (tailBy keep new) b
+
+-- one record in an `stsd`, and chunk offsets; every other opaque box is the same
+pub record OnlyRecord (n keep : ℕ) (new : List ℕ) (k c : ℕ) (b b′ : List ℕ) : Type 0 where
+  pub offsets : Offsets k c → ButOffsets b b′
+  pub entry : Described k c → (b ≡ b′) ⊎ (b′ ≡ withRecord n keep new b)
+  pub rest : (Offsets k c → ⊥) → (Described k c → ⊥) → b ≡ b′
+
+-- how many bytes of the payload of entry i stand before its record
+abbrev pub keptOf : List ℕ → ℕ → ℕ
+keptOf xs i = headSize (kindAt xs i) - HEAD
+
+-- the depth of a track: the containers from `trak` on
+abbrev pub TRACK : ℕ
+TRACK = DEPTH - 2
+
+-- ys is xs with another record of entry i, which is entry n of track t, both from 0: that track has the record there, and in any
+-- other track only chunk offsets differ
+pub record Replaces (xs : List ℕ) (i : ℕ) (new ys : List ℕ) : Type 0 where
+  pub t : ℕ
+  pub n : ℕ
+  pub spot : spotIn 0 (movie xs) (i - 1) ≡ In t n
+  pub differs : Kin (OnlyRecord n (keptOf xs i) new) DEPTH FILE xs ys
+  pub there : table STSD (track ys t) ≡ withRecord n (keptOf xs i) new (table STSD (track xs t))
+  pub elsewhere : (u : ℕ) → (u ≡ t → ⊥) → Kin OnlyOffsets TRACK TRAK (track xs u) (track ys u)

@@ -1,0 +1,48 @@
+-- Demand 3 of each edit: what it makes of an accepted file is accepted, edits take it again, and every track has the same samples. Assumes nothing.
+use Prim.Native.Nat.{ℕ, _-_, _≤_}
+use mathlib.Core.Path.{_≡_, refl}
+use mathlib.Core.List.{List}
+use lib.IntN.{ℤ}
+use lib.ListN.{length}
+use Rattle.wire.specs.Numbers.{Bytes}
+use Rattle.boxes.specs.Containers.{LONGEST}
+use Rattle.boxes.specs.Boxes.{HEAD}
+use Rattle.clocks.specs.Clocks.{shiftTime}
+use Rattle.movie.specs.declared.entry.Spot.{Spot}
+use Rattle.movie.specs.declared.entry.Spot.the-variants.{In, Past}
+use Rattle.movie.specs.Movie.{movie}
+use Rattle.movie.specs.Named.{spotIn}
+use Rattle.entry_heads.specs.Heads.{headSize}
+use Rattle.entry_rules.specs.Entries.{FRAMES}
+use Rattle.entry_rules.specs.Decoders.{recordRule}
+use Rattle.judge.specs.Acceptance.{Meets}
+use Rattle.edit_offsets.specs.Settle.{settled}
+use Rattle.edit_offsets.proofs.Settled.{settled-length}
+use Rattle.edit_move.specs.Moving.{moveOf}
+use Rattle.edit_replace.specs.Replace.{kindAt, recordAt, replaced, replaceOf}
+use Rattle.edit_shift.specs.Shift.{shiftOf}
+use Rattle.promise_kept.specs.Kept.{Kept}
+use Rattle.promise_kept.proofs.Content.{content-same}
+use Rattle.promise_kept.proofs.Second.{second}
+use Rattle.promise_kept.proofs.Times.{shift-content}
+use Rattle.promise_kept.proofs.Replacing.{record-content}
+use Rattle.promise_kept.proofs.Keeping.{keeps, keeps-stay}
+
+-- "Move: moov goes right after ftyp"
+pub keeps-move : (xs : List ℕ) → Bytes xs → Meets xs → Kept xs (moveOf xs)
+unfolding moveOf
+keeps-move xs w m = keeps second xs xs w m (content-same xs w (m .most))
+
+-- "Shift times by z minutes"
+pub keeps-shift : (z : ℤ) (xs : List ℕ) → Bytes xs → Meets xs → Kept xs (shiftOf z xs)
+unfolding shiftOf
+keeps-shift z xs w m = keeps-stay xs _ w m (shift-content (shiftTime z) xs w (m .most))
+
+-- "Replace decoder record of entry i": one that meets its rule, where the result is not too long
+pub keeps-replace : (xs : List ℕ) (i : ℕ) (new : List ℕ) → Bytes xs → Bytes new → Meets xs → recordRule (kindAt xs i) FRAMES new ≡ 1 → length (replaceOf xs i new) ≤ LONGEST → Kept xs (replaceOf xs i new)
+unfolding replaceOf replaced
+keeps-replace xs i new w v m r h = go (spotIn 0 (movie xs) (i - 1)) refl (rw settled-length at h)
+  where
+    go : (s : Spot) → spotIn 0 (movie xs) (i - 1) ≡ s → length (recordAt s (headSize (kindAt xs i) - HEAD) new xs) ≤ LONGEST → Kept xs (settled xs (recordAt s (headSize (kindAt xs i) - HEAD) new xs))
+    go (In t n) e k = keeps-stay xs _ w m (record-content xs i new w (m .most) r t n e v k)
+    go Past e k = keeps-stay xs xs w m (content-same xs w (m .most))

@@ -1,0 +1,84 @@
+-- Demand 3: what an edit makes of an accepted file is accepted, and has the same samples. Assumes nothing.
+use Prim.Native.Nat.{ℕ, _≤_}
+use native.Mathlib.Omega.{arith}
+use mathlib.Core.Path.{_≡_, refl, sym, ap, subst, _∙_}
+use mathlib.Core.List.{List}
+use lib.ListN.{length}
+use Rattle.wire.specs.Numbers.{Bytes}
+use Rattle.boxes.specs.Box.{Box, write}
+use Rattle.boxes.specs.Boxes.{boxes}
+use Rattle.boxes.specs.Kin.{All2}
+use Rattle.boxes.specs.Kin.All2.{nil, cons}
+use Rattle.boxes.proofs.Reading.{lengths, length-cons}
+use Rattle.mdat.proofs.Keeping.{tiled}
+use Rattle.judge.specs.Acceptance.{Meets}
+use Rattle.edit_offsets.specs.Settle.{settled}
+use Rattle.promise_kept.specs.Kept.{Kept}
+use Rattle.promise_kept.proofs.Content.{Content}
+use Rattle.promise_kept.proofs.Arranges.{Arranges, stay}
+use Rattle.promise_kept.proofs.Arranging.{arranged-length, arranged-bytes}
+use Rattle.promise_kept.proofs.Settling.{xs-tiled, new, new-bytes, new-tiled, new-small, new-length, edit-kin, settled-is, ys-tiled}
+use Rattle.promise_kept.proofs.Accepting.{edit-plain, edit-meets}
+use Rattle.promise_kept.proofs.Sampling.{edit-tracks, edit-samples}
+
+-- ---- what is kept, in a row
+
+-- a file keeps itself
+pub kept-refl : (xs : List ℕ) → Bytes xs → Meets xs → Kept xs xs
+kept-refl xs w m = record { accepted = m; plain = λ q. q; tracks = refl; samples = λ t. refl; bytes = w }
+
+-- what two edits in a row keep
+pub kept-then : (xs ys zs : List ℕ) → Kept xs ys → Kept ys zs → Kept xs zs
+kept-then xs ys zs k h =
+    record {
+      accepted = h .accepted;
+      plain = λ q. h .plain (k .plain q);
+      tracks = h .tracks ∙ k .tracks;
+      samples = λ t. h .samples t ∙ k .samples t;
+      bytes = h .bytes;
+    }
+
+-- ---- rule 1
+
+least-kept : {R : Box → Box → Type 0} {l m : List Box} → All2 R l m → 8 ≤ length (write l) → 8 ≤ length (write m)
+least-kept nil h = h
+least-kept (cons {y = y} {m = m} r a) h = omega (arith, length-cons y m)
+
+-- ---- the theorem
+
+module _ {A : List Box → List Box} (a : Arranges A) (xs ys : List ℕ) (w : Bytes xs) (m : Meets xs) (c : Content xs ys) where
+  abbrev mid : List ℕ
+  mid = new a xs ys w m c
+
+  abbrev result : List ℕ
+  result = write (A (boxes (new a xs ys w m c)))
+
+  long : length result ≡ length mid
+  long = arranged-length a mid (new-bytes a xs ys w m c) (new-tiled a xs ys w m c) (new-small a xs ys w m c)
+
+  least : 8 ≤ length mid
+  least =
+      let z = ap length (xs-tiled a xs ys w m c) in
+      omega (arith, least-kept (edit-kin a xs ys w m c .0) (omega (arith, lengths xs, m .least)), lengths mid)
+
+  kept : Kept xs result
+  kept =
+      record {
+        accepted = edit-meets a xs ys w m c (omega (arith, long, least)) (omega (arith, long, new-length a xs ys w m c, c .small));
+        plain = edit-plain a xs ys w m c;
+        tracks = edit-tracks a xs ys w m c;
+        samples = edit-samples a xs ys w m c;
+        bytes = arranged-bytes a mid (new-bytes a xs ys w m c) (new-tiled a xs ys w m c) (new-small a xs ys w m c);
+      }
+
+  -- an edit of the content and an order of the boxes, chunk offsets following, keep a file: it is accepted and has the same samples
+  pub keeps : Kept xs (settled xs (write (A (boxes ys))))
+  keeps = subst (Kept xs) (sym (settled-is a xs ys w m c)) kept
+
+  -- as long as its content
+  pub keeps-length : length (settled xs (write (A (boxes ys)))) ≡ length ys
+  keeps-length = rw (settled-is a xs ys w m c) (long ∙ new-length a xs ys w m c)
+
+-- the same of an edit that leaves the boxes in their order
+pub keeps-stay : (xs ys : List ℕ) → Bytes xs → Meets xs → Content xs ys → Kept xs (settled xs ys)
+keeps-stay xs ys w m c = subst (λ (zs : List ℕ). Kept xs (settled xs zs)) (tiled ys (c .bytes) (ys-tiled stay xs ys w m c)) (keeps stay xs ys w m c)

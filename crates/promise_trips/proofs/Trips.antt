@@ -1,0 +1,99 @@
+-- The round trips: what is written from what was read is what it was read from, and back. Assumes nothing.
+use Prim.Native.Nat.{ℕ, _≤_, _<_}
+use mathlib.Core.Path.{_≡_, sym, _∙_}
+use mathlib.Core.Bool.{true}
+use mathlib.Core.List.{List}
+use mathlib.Core.Logic.{_⊎_}
+use lib.ListN.{length, take, drop}
+use Rattle.wire.specs.Numbers.{Bytes}
+use Rattle.movie.specs.Movie.{tracks}
+use Rattle.movie.specs.Entries.{Entry, entries}
+use Rattle.entry_records.specs.declared.field.Record.{Record}
+use Rattle.entry_records.specs.declared.field.Record.the-variants.{Broken}
+use Rattle.entry_records.specs.Fields.{fieldsRule}
+use Rattle.entry_records.specs.Texts.{textOf}
+use Rattle.entry_records.specs.Records.{readOf}
+use Rattle.entry_records.proofs.Reading.{written-reads}
+use Rattle.entry_records.proofs.Rewriting.{read-writes}
+use Rattle.rule.specs.declared.Answer.the-variants.{Done, Refused}
+use Rattle.judge.specs.Acceptance.{Meets}
+use Rattle.sheet.specs.Sheet.{SLOTS, sheet}
+use Rattle.sheet.specs.Reader.{sheetOf, sheetAnswer, sheetOut}
+use Rattle.sheet_table.specs.Form.{unsheet, formed}
+use Rattle.sheet_table.specs.Table.{tableOf, tableAnswer, tableOut}
+use Rattle.sheet_table.proofs.RoundTrip as roundTrip
+use Rattle.entry_fields.specs.Numbers.{readAnswer, readOut, writeAnswer, writeOut}
+use Rattle.entry_fields.proofs.Returning.{written-back, read-back}
+use Rattle.promise_trips.specs.Gives.{Gives}
+use Rattle.promise_trips.specs.Stsd.{stsdBytes, stsdPlace}
+use Rattle.promise_trips.proofs.Returned.{own-formed, own-unsheet, table-returns, table-stands}
+use Rattle.promise_trips.proofs.Answered as answered
+
+-- ---- a file that meets the rules
+
+module _ (xs : List ℕ) (v : Bytes xs) (m : Meets xs) where
+  -- its own sheet has the form
+  pub sheet-formed : formed SLOTS (sheetOf xs) ≡ true
+  sheet-formed = own-formed xs m v
+
+  -- the entries that its sheet says are its own
+  pub sheet-entries : unsheet SLOTS (sheetOf xs) ≡ entries xs
+  sheet-entries = own-unsheet xs m v
+
+  module _ (t : ℕ) (h : 1 ≤ t) (k : t ≤ tracks xs) where
+    -- the table of a track, written from its sheet, is the track's `stsd` box, byte for byte
+    pub table-back : tableOf SLOTS (sheetOf xs) t ≡ stsdBytes xs t
+    table-back = table-returns xs m v t h k
+
+    -- those are the bytes that stand in the file at the place of that box
+    pub table-place : take (length (tableOf SLOTS (sheetOf xs) t)) (drop (stsdPlace xs t) xs) ≡ tableOf SLOTS (sheetOf xs) t
+    table-place = table-stands xs m v t h k
+
+    -- the writer answers the length of the box and writes it, or refuses with 25 and writes nothing
+    pub table-answer : (out : List ℕ) → Gives (stsdBytes xs t) out (tableAnswer SLOTS (sheetOf xs) t out) (tableOut SLOTS (sheetOf xs) t out)
+    table-answer out = (answered.answer-returns xs m v t out h k, answered.out-returns xs m v t out h k)
+
+  -- of a track that it has not the writer says so
+  pub table-none : (t : ℕ) → (t ≡ 0) ⊎ (tracks xs < t) → (out : List ℕ) → tableAnswer SLOTS (sheetOf xs) t out ≡ Refused 20 0
+  table-none t h out = answered.answer-none xs m v t out h
+
+-- ---- the sheet reader, and then the table writer, on any bytes
+
+-- what the reader gave, given to the writer, gives back the `stsd` of any track of the file
+pub sheet-table : (xs : List ℕ) → Bytes xs → (out : List ℕ) (n : ℕ) → sheetAnswer xs out ≡ Done n → (t : ℕ) → 1 ≤ t → t ≤ tracks xs → (room : List ℕ)
+    → Gives (stsdBytes xs t) room (tableAnswer SLOTS (take n (sheetOut xs out)) t room) (tableOut SLOTS (take n (sheetOut xs out)) t room)
+sheet-table xs v out n e t h k room = rw (answered.sheet-taken xs out n e) (table-answer xs v (answered.sheet-meets xs out n e) t h k room)
+
+-- ---- sheets
+
+-- the sheet of entries says those entries
+pub unsheet-sheet : (k : ℕ) (es : List Entry) → length es ≤ k → roundTrip.AllSmall es → unsheet k (sheet k es) ≡ es
+unsheet-sheet = roundTrip.unsheet-sheet
+
+-- a sheet of the form is the sheet of what it says
+pub sheet-unsheet : (k : ℕ) (xs : List ℕ) → formed k xs ≡ true → sheet k (unsheet k xs) ≡ xs
+sheet-unsheet = roundTrip.sheet-unsheet
+
+-- ---- records
+
+-- a record that the writer takes reads back as itself
+pub record-back : (most : ℕ) (r : Record) → fieldsRule most r ≡ 1 → readOf most (textOf r) ≡ r
+record-back = written-reads
+
+-- a record that was read is one that the writer takes, and it writes the bytes that it was read from
+pub bytes-back : (most : ℕ) (xs : List ℕ) → Bytes xs → (r : Record) → readOf most xs ≡ r → (r ≡ Broken → ⊥) → (fieldsRule most r ≡ 1) × (textOf r ≡ xs)
+bytes-back most xs v r e b = let a = read-writes most xs v r e b in (a .rule, a .text)
+
+-- numbers that the writer took: the reader gives them back
+pub write-read : (ns out : List ℕ) (n : ℕ) → writeAnswer ns out ≡ Done n → (room : List ℕ)
+    → Gives ns room (readAnswer (take n (writeOut ns out)) room) (readOut (take n (writeOut ns out)) room)
+write-read = written-back
+
+-- bytes that the reader took: the writer gives them back
+pub read-write : (xs : List ℕ) → Bytes xs → (out : List ℕ) (n : ℕ) → readAnswer xs out ≡ Done n → (room : List ℕ)
+    → Gives xs room (writeAnswer (take n (readOut xs out)) room) (writeOut (take n (readOut xs out)) room)
+read-write xs v out n e room = read-back xs out n v e room
+
+-- two results that an exact promise allows are equal
+pub one-answer : {A B : Type 0} {a : A} {b : B} {r s : A} {o p : B} → (r ≡ a) × (o ≡ b) → (s ≡ a) × (p ≡ b) → (r ≡ s) × (o ≡ p)
+one-answer x y = (x .0 ∙ sym (y .0), x .1 ∙ sym (y .1))

@@ -1,0 +1,13 @@
+-- What the tables of an accepted file's track are: the facts that reading them goes by.
+use Prim.Native.Nat.{ℕ, _≤_}
+use mathlib.Core.List.{List}
+use Rattle.wire.specs.Codes.{STTS, STCO}
+use Rattle.sample_tables.specs.Tables.{Table}
+use Rattle.sample_tables.specs.Times.{timed}
+use Rattle.movie.specs.Movie.{table}
+
+-- of the track with payload b
+pub record Readable (b : List ℕ) : Type 0 where
+  pub times : Table 8 (table STTS b)
+  pub few : timed (table STTS b) ≤ 65536
+  pub offsets : Table 4 (table STCO b)

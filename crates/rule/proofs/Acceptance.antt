@@ -1,0 +1,50 @@
+-- Acceptance has no places: a judge finds nothing broken exactly where its rule holds of all. Assumes nothing.
+use Prim.Native.Nat.{ℕ, zero, suc, _+_}
+use mathlib.Core.Path.{_≡_, refl, sym, ap, _∙_}
+use mathlib.Core.Bool.{Bool, true}
+use mathlib.Core.List.{List, [], _∷_}
+use Rattle.wire.proofs.Tests.{through}
+use Rattle.boxes.specs.Box.{Box, size}
+use Rattle.boxes.specs.Boxes.{boxes, after}
+use Rattle.boxes.specs.Containers.{kindIn}
+use Rattle.rule.specs.declared.Verdict.{Verdict}
+use Rattle.rule.specs.declared.Verdict.the-variants.{Fine}
+use Rattle.rule.specs.Verdict.{isFine}
+use Rattle.rule.specs.Judge.{Judge, judgeList, judgeBox, judgeIn}
+use Rattle.rule.specs.Rule.{Rule, allList, allBox, allIn, Says}
+use Rattle.rule.specs.Inner.{within, holds}
+use Rattle.rule.proofs.Places.{fine-is, sooner-fine}
+
+pub list-fine : (j : Box → ℕ → Verdict) (e : ℕ → Verdict) (f : Box → Bool) (t : Bool) → ((x : Box) (p : ℕ) → isFine (j x p) ≡ f x) → ((p : ℕ) → isFine (e p) ≡ t)
+    → (l : List Box) (p : ℕ) → isFine (judgeList j e l p) ≡ allList f t l
+unfolding judgeList allList
+list-fine j e f t h g [] p = g p
+list-fine j e f t h g (x ∷ l) p = sooner-fine (j x p) (judgeList j e l (p + size x)) ∙ rw (h x p, list-fine j e f t h g l (p + size x))
+
+module _ (j : Judge) (r : Rule) (s : Says j r) where
+  box-fine : (d k : ℕ) → ((i : ℕ) (ys : List ℕ) (h q : ℕ) → isFine (judgeIn j d i ys h q) ≡ allIn r d i ys) → (x : Box) (p : ℕ) → isFine (judgeBox j (judgeIn j d) k x p) ≡ allBox r (allIn r d) k x
+  unfolding judgeBox allBox
+  box-fine d k ih x p =
+      through isFine (kindIn k (x .code)) 0 (j .leaf k (x .code) (x .body) p (p + x .head)) (judgeIn j d (kindIn k (x .code)) (x .body) p (p + x .head))
+      ∙ rw (s .leaf k (x .code) (x .body) p (p + x .head), ih (kindIn k (x .code)) (x .body) p (p + x .head))
+
+  pub judge-fine : (d k : ℕ) (xs : List ℕ) (home p : ℕ) → isFine (judgeIn j d k xs home p) ≡ allIn r d k xs
+  unfolding judgeIn allIn
+  judge-fine zero k xs home p = refl
+  judge-fine (suc d) k xs home p =
+      sooner-fine (j .node k xs home p) (judgeList (judgeBox j (judgeIn j d) k) (j .end (after xs)) (boxes xs) p)
+      ∙ rw (s .node k xs home p, list-fine (judgeBox j (judgeIn j d) k) (j .end (after xs)) (allBox r (allIn r d) k) (r .end (after xs)) (box-fine d k (λ i ys h q. judge-fine d i ys h q)) (λ q. s .end (after xs) q) (boxes xs) p)
+
+  -- both ways
+  pub fine-all : (d k : ℕ) (xs : List ℕ) (home p : ℕ) → judgeIn j d k xs home p ≡ Fine → allIn r d k xs ≡ true
+  fine-all d k xs home p e = sym (judge-fine d k xs home p) ∙ ap isFine e
+
+  pub all-fine : (d k : ℕ) (xs : List ℕ) (home p : ℕ) → allIn r d k xs ≡ true → judgeIn j d k xs home p ≡ Fine
+  all-fine d k xs home p e = fine-is _ (judge-fine d k xs home p ∙ e)
+
+-- ---- a box inside
+
+pub within-fine : (c : ℕ) (f : List ℕ → ℕ → ℕ → Verdict) (t : List ℕ → Bool) → ((b : List ℕ) (p q : ℕ) → isFine (f b p q) ≡ t b) → (l : List Box) (p : ℕ) → isFine (within c f l p) ≡ holds c t l
+unfolding within holds
+within-fine c f t h [] p = refl
+within-fine c f t h (x ∷ l) p = through isFine (x .code) c (f (x .body) p (p + x .head)) (within c f l (p + size x)) ∙ rw (h (x .body) p (p + x .head), within-fine c f t h l (p + size x))

@@ -1,0 +1,18 @@
+-- What a container's rule says of a box inside it, with its place.
+use Prim.Native.Nat.{ℕ, _+_}
+use mathlib.Core.Bool.{Bool, true}
+use mathlib.Core.List.{List, [], _∷_}
+use Rattle.wire.specs.Tests.{ifEq}
+use Rattle.boxes.specs.Box.{Box, size}
+use Rattle.rule.specs.declared.Verdict.{Verdict}
+use Rattle.rule.specs.declared.Verdict.the-variants.{Fine}
+
+-- f of the first box of code c: its body, its place and its payload's; nothing is broken where there is none
+unfoldable pub within : ℕ → (List ℕ → ℕ → ℕ → Verdict) → List Box → ℕ → Verdict
+within c f [] p = Fine
+within c f (x ∷ l) p = ifEq (x .code) c (f (x .body) p (p + x .head)) (within c f l (p + size x))
+
+-- the same without places
+unfoldable pub holds : ℕ → (List ℕ → Bool) → List Box → Bool
+holds c t [] = true
+holds c t (x ∷ l) = ifEq (x .code) c (t (x .body)) (holds c t l)

@@ -1,0 +1,15 @@
+use borrow.Author.Needs.{needs}
+use Rattle.rule_lists.proofs.Inner.{payload-room}
+use Rattle.rule_lists.proofs.Totals.{stsd-codes}
+use native.Mathlib.Omega.{arith}
+use Rattle.rule_lists.proofs.total.stsd_at.Statement.{statement}
+use Rattle.rule_lists.proofs.total.stsd_at.Tie as tie
+
+pub stsd-at-spec : {M : Type 1} → statement M
+stsd-at-spec = tie.close (tie.spec
+    (λ c. search needs)
+    (λ c. search needs)
+    (λ c κs. search needs)
+    (λ c. search needs)
+    (λ c κs. let s = c .before .before .before .before .before in (stsd-codes, omega (arith, payload-room _ (s .args .b) (s .pre .0) (s .pre .1) (c .before .body .ensures))))
+    (λ c. rw (c .before .before .body .ensures) at (c .broken .ensures)))

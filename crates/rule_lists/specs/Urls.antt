@@ -1,0 +1,42 @@
+-- Rule 9: each `dref` entry is `url ` with payload 4, version 0 and flags 1.
+use Prim.Native.Nat.{ℕ, _+_}
+use mathlib.Core.Bool.{Bool, true}
+use mathlib.Core.List.{List, [], _∷_}
+use lib.ListN.{length, drop}
+use Rattle.wire.specs.Tests.{ifEq}
+use Rattle.wire.specs.Numbers.{word}
+use Rattle.wire.specs.Clauses.{isEq, every}
+use Rattle.wire.specs.Codes.{DINF, DREF, URL}
+use Rattle.boxes.specs.Box.{Box}
+use Rattle.boxes.specs.Boxes.{boxes, FRONT}
+use Rattle.rule.specs.declared.Verdict.{Verdict}
+use Rattle.rule.specs.declared.Verdict.the-variants.{Fine}
+use Rattle.rule.specs.Verdict.{unless}
+use Rattle.rule.specs.Judge.{judgeList}
+use Rattle.rule.specs.Rule.{allList}
+
+unfoldable pub isUrl : ℕ → List ℕ → Bool
+isUrl c b = every (isEq c URL ∷ isEq (length b) 4 ∷ isEq (word 4 b 0) 1 ∷ [])
+
+-- a box at place p
+abbrev pub urlAt : Box → ℕ → Verdict
+urlAt x p = unless (isUrl (x .code) (x .body)) p
+
+-- boxes from place p on
+abbrev pub urlsFrom : List Box → ℕ → Verdict
+urlsFrom l p = judgeList urlAt (λ q. Fine) l p
+
+-- those of a `dref` whose payload starts at place q
+abbrev pub urlsOf : List ℕ → ℕ → Verdict
+urlsOf b q = urlsFrom (boxes (drop FRONT b)) (q + FRONT)
+
+-- asked of a `dref` in `dinf` alone, by its container's kind and its code
+abbrev pub urlsIn : ℕ → ℕ → List ℕ → ℕ → Verdict
+urlsIn k c b q = ifEq k DINF (ifEq c DREF (urlsOf b q) Fine) Fine
+
+-- the same without places
+unfoldable pub allUrls : List ℕ → Bool
+allUrls b = allList (λ x. isUrl (x .code) (x .body)) true (boxes (drop FRONT b))
+
+unfoldable pub allUrlsIn : ℕ → ℕ → List ℕ → Bool
+allUrlsIn k c b = ifEq k DINF (ifEq c DREF (allUrls b) true) true

@@ -1,0 +1,65 @@
+// Rule 5 of one `stsd` or `dref`.
+use boxes::seek;
+use boxes::seek::Tiling;
+use boxes::walk::FRONT;
+use wire::codes;
+use wire::lend;
+use wire::number;
+ghost use mathlib.Core.Path.{_≡_};
+ghost use lib.ListN.{length};
+ghost use Rattle.wire.specs.Clauses.{isEq, oneIf};
+ghost use Rattle.boxes.specs.Boxes.{after};
+ghost use Rattle.rule_lists.specs.Forms.{listForm, formIn};
+
+// Whether boxes tile a part: 1 or 0.
+fn tiled(part: &[u8]) -> usize
+    ensures { λ r. ⌜ r ≡ oneIf (isEq (length (after (now (part .entry)))) 0) ⌝ }
+{
+    match seek::ends(part) {
+        Tiling::Whole => 1,
+        Tiling::Torn(_) => 0,
+    }
+}
+
+// Whether a payload has the form of rule 5: 1 or 0.
+pub fn list_form(body: &[u8]) -> usize
+    ensures { λ r. ⌜ r ≡ oneIf (listForm (now (body .entry))) ⌝ }
+{
+    let list = lend::rest(body, FRONT);
+    let n = number::word32(body, 4);
+    if body.len() < FRONT {
+        return 0;
+    }
+    if number::word32(body, 0) != 0 {
+        return 0;
+    }
+    if n < 1 {
+        return 0;
+    }
+    if tiled(list) == 0 {
+        return 0;
+    }
+    if seek::count(list, seek::ANY) != n {
+        return 0;
+    }
+    1
+}
+
+// The same of a box in a container of kind k, where it is an `stsd` or a `dref`: 1 or 0.
+pub fn form_in(k: usize, c: usize, body: &[u8]) -> usize
+    ensures { λ r. ⌜ r ≡ oneIf (formIn k c (now (body .entry))) ⌝ }
+{
+    if k == codes::STBL {
+        if c == codes::STSD {
+            return list_form(body);
+        }
+        return 1;
+    }
+    if k == codes::DINF {
+        if c == codes::DREF {
+            return list_form(body);
+        }
+        return 1;
+    }
+    1
+}

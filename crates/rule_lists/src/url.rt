@@ -1,0 +1,80 @@
+// Rule 9: what a `dref` lists.
+use boxes::walk;
+use boxes::walk::BoxAt;
+use boxes::walk::Step;
+use boxes::walk::Walk;
+use rule::Verdict;
+use wire::codes;
+use wire::lend;
+use wire::number;
+ghost use mathlib.Core.Path.{_≡_};
+ghost use Prim.Native.Nat.{_+_, _^_, _≤_, _<_};
+ghost use lib.ListN.{length};
+ghost use Rattle.wire.specs.Clauses.{oneIf};
+ghost use Rattle.boxes.specs.Boxes.{boxes};
+ghost use Rattle.boxes.specs.Walk.{boxAt};
+ghost use Rattle.rule_lists.specs.Urls.{isUrl, urlAt, urlsFrom, urlsIn};
+
+// Whether a box is a `url ` of this file: 1 or 0.
+fn is_url(code: usize, body: &[u8]) -> usize
+    ensures { λ r. ⌜ r ≡ oneIf (isUrl code (now (body .entry))) ⌝ }
+{
+    if code != codes::URL {
+        return 0;
+    }
+    if body.len() != 4 {
+        return 0;
+    }
+    if number::word32(body, 0) != 1 {
+        return 0;
+    }
+    1
+}
+
+// The same of a box that was found in a part that starts at place base.
+fn url_at(part: &[u8], b: BoxAt, base: usize) -> Verdict
+    requires { ⌜ (b .head ≤ b .size) × (b .at + b .size ≤ length (now part)) × (base + length (now part) < 2 ^ 64) ⌝ }
+    ensures { λ r. ⌜ r ≡ urlAt (boxAt (now (part .entry)) b) (base + b .at) ⌝ }
+{
+    if is_url(b.code, walk::body(part, b)) == 0 {
+        return Verdict::Bad(base + b.at);
+    }
+    Verdict::Fine
+}
+
+// The same of every box.
+fn urls_from(part: &[u8], base: usize) -> Verdict
+    requires { ⌜ base + length (now part) < 2 ^ 64 ⌝ }
+    ensures { λ r. ⌜ r ≡ urlsFrom (boxes (now (part .entry))) base ⌝ }
+{
+    let mut w = Walk { at: 0 };
+    let mut found = Verdict::Fine;
+    loop {
+        match w.step(part) {
+            Step::Found(b, next) => {
+                found = rule::sooner(found, url_at(part, b, base));
+                w = next;
+            }
+            Step::End => {
+                return found;
+            }
+            Step::Broken(_) => {
+                return found;
+            }
+        }
+    }
+}
+
+// Rule 9 of a box of code c in a container of kind k, whose payload starts at place q.
+pub fn urls_in(k: usize, c: usize, body: &[u8], q: usize) -> Verdict
+    requires { ⌜ q + length (now body) < 2 ^ 63 ⌝ }
+    ensures { λ r. ⌜ r ≡ urlsIn k c (now (body .entry)) q ⌝ }
+{
+    if k != codes::DINF {
+        return Verdict::Fine;
+    }
+    if c != codes::DREF {
+        return Verdict::Fine;
+    }
+    urls_from(lend::rest(body, walk::FRONT), q + walk::FRONT)
+}

@@ -1,0 +1,133 @@
+// Rule 3 and refusal 23 of one container: which boxes it has to have, or may not have.
+use boxes::containers::FILE;
+use boxes::seek;
+use boxes::walk::Step;
+use boxes::walk::Walk;
+use wire::codes;
+ghost use mathlib.Core.Path.{_≡_};
+ghost use Rattle.wire.specs.Clauses.{oneIf};
+ghost use Rattle.boxes.specs.Boxes.{boxes};
+ghost use Rattle.rule_shape.specs.Shape.{exactly as exactlyOf, needed, barred, first, besides as besidesOf, shape};
+
+// Whether a part has exactly n boxes of each code: 1 or 0.
+fn exactly(n: usize, part: &[u8], list: &[usize]) -> usize
+    ensures { λ r. ⌜ r ≡ oneIf (exactlyOf n (now (list .entry)) (boxes (now (part .entry)))) ⌝ }
+{
+    let mut i = 0;
+    while i < list.len() {
+        if seek::count(part, list[i]) != n {
+            return 0;
+        }
+        i += 1;
+    }
+    1
+}
+
+// Whether a container of kind k has exactly one of each box that it needs: 1 or 0.
+fn one_each(k: usize, part: &[u8]) -> usize
+    ensures { λ r. ⌜ r ≡ oneIf (exactlyOf 1 (needed k) (boxes (now (part .entry)))) ⌝ }
+{
+    if k == FILE {
+        return exactly(1, part, &[codes::FTYP, codes::MOOV]);
+    }
+    if k == codes::MOOV {
+        return exactly(1, part, &[codes::MVHD]);
+    }
+    if k == codes::TRAK {
+        return exactly(1, part, &[codes::TKHD, codes::MDIA]);
+    }
+    if k == codes::MDIA {
+        return exactly(1, part, &[codes::MDHD, codes::HDLR, codes::MINF]);
+    }
+    if k == codes::MINF {
+        return exactly(1, part, &[codes::DINF, codes::STBL]);
+    }
+    if k == codes::DINF {
+        return exactly(1, part, &[codes::DREF]);
+    }
+    if k == codes::STBL {
+        return exactly(
+            1,
+            part,
+            &[
+                codes::STSD,
+                codes::STTS,
+                codes::STSC,
+                codes::STSZ,
+                codes::STCO,
+            ],
+        );
+    }
+    1
+}
+
+// The code of the first box, and 0 where there is none.
+fn first_code(part: &[u8]) -> usize
+    ensures { λ r. ⌜ r ≡ first (boxes (now (part .entry))) ⌝ }
+{
+    let w = Walk { at: 0 };
+    match w.step(part) {
+        Step::Found(b, _) => b.code,
+        Step::End => 0,
+        Step::Broken(_) => 0,
+    }
+}
+
+// Whether the file starts with `ftyp`, and `moov` has 1 to 4 `trak`: 1 or 0.
+fn besides(k: usize, part: &[u8]) -> usize
+    ensures { λ r. ⌜ r ≡ oneIf (besidesOf k (boxes (now (part .entry)))) ⌝ }
+{
+    if k == FILE {
+        if first_code(part) != codes::FTYP {
+            return 0;
+        }
+        return 1;
+    }
+    if k == codes::MOOV {
+        let tracks = seek::count(part, codes::TRAK);
+        if tracks < 1 {
+            return 0;
+        }
+        if 4 < tracks {
+            return 0;
+        }
+        return 1;
+    }
+    1
+}
+
+// Whether a container of kind k has the boxes of rule 3: 1 or 0.
+pub fn shape_of(k: usize, part: &[u8]) -> usize
+    ensures { λ r. ⌜ r ≡ oneIf (shape k (boxes (now (part .entry)))) ⌝ }
+{
+    if one_each(k, part) == 0 {
+        return 0;
+    }
+    if besides(k, part) == 0 {
+        return 0;
+    }
+    1
+}
+
+// Whether a container of kind k has none of the boxes that no edit takes: 1 or 0.
+pub fn plain_of(k: usize, part: &[u8]) -> usize
+    ensures { λ r. ⌜ r ≡ oneIf (exactlyOf 0 (barred k) (boxes (now (part .entry)))) ⌝ }
+{
+    if k == FILE {
+        return exactly(
+            0,
+            part,
+            &[codes::MOOF, codes::MFRA, codes::SIDX, codes::META],
+        );
+    }
+    if k == codes::MOOV {
+        return exactly(0, part, &[codes::META]);
+    }
+    if k == codes::TRAK {
+        return exactly(0, part, &[codes::META]);
+    }
+    if k == codes::STBL {
+        return exactly(0, part, &[codes::CO64, codes::SAIO]);
+    }
+    1
+}

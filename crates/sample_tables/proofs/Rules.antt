@@ -1,0 +1,49 @@
+-- Laws of rules 6 and 7. Assumes nothing.
+use Prim.Native.Nat.{ℕ, _<_}
+use native.Mathlib.Omega.{arith}
+use mathlib.Core.Path.{_≡_, refl, _∙_}
+use mathlib.Core.Bool.{true}
+use mathlib.Core.List.{List}
+use Rattle.wire.proofs.Tests.{eq-nay}
+use Rattle.wire.proofs.Clauses.{eq-is, le-is, clause}
+use Rattle.sample_tables.specs.Tables.{count}
+use Rattle.sample_tables.specs.Sizes.{samples}
+use Rattle.sample_tables.specs.Runs.{runsFine}
+use Rattle.sample_tables.specs.Chunks.{offsetAt, chunkAt, extentOf, extentAt, Walkable}
+use Rattle.sample_tables.specs.Rules.{Six, emptyTogether, seven, Seven}
+use Rattle.sample_tables.proofs.Runs.{rising}
+
+some-runs : (chunks runs n : ℕ) → emptyTogether chunks runs n ≡ true → 0 < chunks → 0 < runs
+unfolding emptyTogether
+some-runs chunks runs n e h = le-is _ _ (eq-nay _ _ _ _ _ (λ z. omega arith) refl ∙ e)
+
+module _ (stts stsc stsz stco : List ℕ) (entries : ℕ) (six : Six stts stsc stsz stco) where
+  -- the clauses that the walk goes by
+  pub walkable : runsFine stsc (count stco) entries (count stsc) ≡ true → emptyTogether (count stco) (count stsc) (samples stsz) ≡ true → Walkable stsc stco
+  walkable e f =
+      record { runs = six .runs; offsets = six .offsets; rising = rising stsc (count stco) entries e; some = some-runs _ _ _ f }
+
+  -- rule 7, as a test and as facts
+  pub seven-is : seven stts stsc stsz stco entries ≡ true → Seven stts stsc stsz stco
+  unfolding seven
+  seven-is e =
+      record {
+        few = le-is _ _ (clause 0 _ e);
+        timely = eq-is _ _ (clause 1 _ e);
+        total = eq-is _ _ (clause 3 _ e);
+        walk = walkable (clause 2 _ e) (clause 4 _ e);
+      }
+
+-- ---- `stco` is read by its count and its offsets alone
+
+pub seven-same : (stts stsc stsz : List ℕ) (entries : ℕ) (o p : List ℕ) → count o ≡ count p → seven stts stsc stsz o entries ≡ seven stts stsc stsz p entries
+unfolding seven
+seven-same stts stsc stsz entries o p e = rw e
+
+pub chunk-same : (stsc : List ℕ) (k : ℕ) (o p : List ℕ) → offsetAt o k ≡ offsetAt p k → chunkAt stsc o k ≡ chunkAt stsc p k
+unfolding chunkAt
+chunk-same stsc k o p e = rw e
+
+pub extent-offset : (stsc stsz stco : List ℕ) (k : ℕ) → extentAt stsc stsz stco k .offset ≡ offsetAt stco k
+unfolding extentOf chunkAt
+extent-offset stsc stsz stco k = refl

@@ -1,0 +1,39 @@
+-- Rule 7 of the runs of `stsc`. Assumes nothing.
+use Prim.Native.Nat.{ℕ, _+_, _-_, _<_}
+use native.Mathlib.Omega.{arith}
+use mathlib.Core.Path.{_≡_, refl, _∙_}
+use mathlib.Core.Bool.{true, false}
+use mathlib.Core.List.{List}
+use Rattle.wire.proofs.Tests.{eq-yea, eq-nay}
+use Rattle.wire.proofs.Sums.{all-none, all-more, all-at, all-fails}
+use Rattle.wire.proofs.Clauses.{eq-is, lt-is, clause}
+use Rattle.sample_tables.specs.Tables.{count}
+use Rattle.sample_tables.specs.Runs.{rises, runFine, runsFine, Rising}
+
+module _ (stsc : List ℕ) (chunks entries : ℕ) where
+  pub runs-none : runsFine stsc chunks entries 0 ≡ true
+  unfolding runsFine
+  runs-none = all-none (runFine stsc chunks entries)
+
+  pub runs-more : (i : ℕ) → runsFine stsc chunks entries i ≡ true → runFine stsc chunks entries i ≡ true → runsFine stsc chunks entries (i + 1) ≡ true
+  unfolding runsFine
+  runs-more = all-more (runFine stsc chunks entries)
+
+  pub runs-fail : (n i : ℕ) → i < n → runFine stsc chunks entries i ≡ false → runsFine stsc chunks entries n ≡ false
+  unfolding runsFine
+  runs-fail = all-fails (runFine stsc chunks entries)
+
+  rises-at : (n : ℕ) → runsFine stsc chunks entries n ≡ true → (i : ℕ) → i < n → rises stsc i ≡ true
+  unfolding runsFine runFine
+  rises-at n e i h = clause 0 _ (all-at (runFine stsc chunks entries) n e i h)
+
+  -- the runs that the rule lets through rise from 1
+  pub rising : runsFine stsc chunks entries (count stsc) ≡ true → Rising stsc
+  unfolding rises
+  rising e =
+      record {
+        one = λ h. eq-is _ _ (eq-yea _ _ _ _ _ refl refl ∙ rises-at (count stsc) e 0 h);
+        rise = λ i h.
+            let s : i + 1 - 1 ≡ i = omega arith in
+            rw s at (lt-is _ _ (eq-nay _ _ _ _ _ (λ z. omega arith) refl ∙ rises-at (count stsc) e (i + 1) h));
+      }

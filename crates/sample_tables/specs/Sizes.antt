@@ -1,0 +1,34 @@
+-- `stsz`: the common size of the samples at 4, their count at 8, and where the common size is 0 a table of sizes.
+use Prim.Native.Nat.{ℕ, _+_, _*_}
+use mathlib.Core.Bool.{Bool}
+use mathlib.Core.List.{List}
+use Rattle.wire.specs.Tests.{ifEq}
+use Rattle.wire.specs.Numbers.{word}
+use Rattle.wire.specs.Sums.{sumTo}
+use Rattle.sample_tables.specs.Tables.{hasForm, Form}
+
+abbrev pub common : List ℕ → ℕ
+common stsz = word 4 stsz 4
+
+-- the sample count
+abbrev pub samples : List ℕ → ℕ
+samples stsz = word 4 stsz 8
+
+-- the sizes in the table
+unfoldable pub listed : List ℕ → ℕ
+listed stsz = ifEq (common stsz) 0 (samples stsz) 0
+
+-- rule 6: "stsz is 12, with 4n more when its common size is 0"
+abbrev pub sizesForm : List ℕ → Bool
+sizesForm stsz = hasForm (12 + 4 * listed stsz) stsz
+
+abbrev pub Sizes : List ℕ → Type 0
+Sizes stsz = Form (12 + 4 * listed stsz) stsz
+
+-- the size of sample j, from 0
+unfoldable pub sizeAt : List ℕ → ℕ → ℕ
+sizeAt stsz j = ifEq (common stsz) 0 (word 4 stsz (12 + 4 * j)) (common stsz)
+
+-- the bytes of n samples from the given one on, laid end to end
+unfoldable pub bytesFrom : List ℕ → ℕ → ℕ → ℕ
+bytesFrom stsz first n = sumTo (λ j. sizeAt stsz (first + j)) n

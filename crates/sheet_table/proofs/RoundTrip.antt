@@ -1,0 +1,84 @@
+-- A sheet that is made of entries says those entries, and a sheet of the right form is made of what it says. Assumes nothing.
+use Prim.Native.Nat.{ℕ, _-_, _*_, _^_, _≤_, _<_}
+use native.Mathlib.Omega.{arith}
+use mathlib.Core.Path.{_≡_, refl, sym, ap, _∙_}
+use mathlib.Core.Bool.{true}
+use mathlib.Core.List.{List, [], _∷_, _++_, append-assoc}
+use lib.ListN.{length, drop, getD, replicate}
+use lib.Seq.{take-append-seam, drop-append-seam, drop-at}
+use Rattle.wire.specs.Numbers.{bytes, word}
+use Rattle.wire.specs.Same.{same}
+use Rattle.wire.proofs.Clauses.{is-eq, is-le, eq-is, holds, done, clause}
+use Rattle.wire.proofs.Numbers.{length-bytes, word-bytes, word-right}
+use Rattle.wire.proofs.Same.{same-refl, same-is}
+use Rattle.movie.specs.Entries.{Entry}
+use Rattle.sheet.specs.Sheet.{SLOT, slot, slots, bodies, front, bodiesAt, sheet}
+use Rattle.sheet_table.specs.Form.{read, unsheet, steps, allMeet, formed}
+use Rattle.sheet_table.proofs.Making.{slot-length, front-length}
+
+-- what an entry says fits its slot
+pub record Small (e : Entry) : Type 0 where
+  pub place : e .place < 2 ^ 32
+  pub size : length (e .bytes) < 2 ^ 32
+
+pub data AllSmall : List Entry → Type 0 where
+  none : AllSmall []
+  more : {e : Entry} {es : List Entry} → Small e → AllSmall es → AllSmall (e ∷ es)
+
+-- ---- a slot read back
+
+module _ (kind track place size : ℕ) (zs : List ℕ) where
+  slot-track : getD (slot kind track place size ++ zs) 1 0 ≡ track
+  unfolding slot
+  slot-track = refl
+
+  slot-place : place < 2 ^ 32 → word 4 (slot kind track place size ++ zs) 4 ≡ place
+  unfolding slot
+  slot-place h =
+      ap (λ (xs : List ℕ). word 4 xs 4) (append-assoc (kind ∷ track ∷ 0 ∷ 0 ∷ [] ++ bytes 4 place) (bytes 4 size) zs)
+      ∙ word-right 4 (kind ∷ track ∷ 0 ∷ 0 ∷ []) (bytes 4 place ++ (bytes 4 size ++ zs)) 4 0 refl
+      ∙ word-bytes 4 place (bytes 4 size ++ zs) h
+
+  slot-size : size < 2 ^ 32 → word 4 (slot kind track place size ++ zs) 8 ≡ size
+  unfolding slot
+  slot-size h =
+      ap (λ (xs : List ℕ). word 4 xs 8) (append-assoc (kind ∷ track ∷ 0 ∷ 0 ∷ [] ++ bytes 4 place) (bytes 4 size) zs)
+      ∙ word-right 4 (kind ∷ track ∷ 0 ∷ 0 ∷ [] ++ bytes 4 place) (bytes 4 size ++ zs) 8 0 (rw (length-bytes 4 place))
+      ∙ word-bytes 4 size zs h
+
+  slot-past : drop SLOT (slot kind track place size ++ zs) ≡ zs
+  slot-past = drop-at (slot kind track place size) zs SLOT (slot-length kind track place size)
+
+-- ---- there and back
+
+back : (es : List Entry) (zs : List ℕ) → AllSmall es → read (length es) (slots es ++ zs) (bodies es) ≡ es
+unfolding read slots bodies
+back [] zs none = refl
+back (e ∷ es) zs (more s a) =
+    rw (append-assoc, slot-track, slot-place _ _ _ _ _ (s .place), slot-size _ _ _ _ _ (s .size), slot-past, take-append-seam, drop-append-seam)
+    (ap (λ (t : List Entry). e ∷ t) (back es zs a))
+
+pub unsheet-sheet : (k : ℕ) (es : List Entry) → length es ≤ k → AllSmall es → unsheet k (sheet k es) ≡ es
+unfolding unsheet sheet front
+unsheet-sheet k es h a =
+    rw (drop-at (front k es) (bodies es) (bodiesAt k) (front-length k es h), append-assoc)
+    (back es (replicate (SLOT * (k - length es)) 0 ++ bodies es) a)
+
+count-sheet : (k : ℕ) (es : List Entry) → getD (sheet k es) 1 0 ≡ length es
+unfolding sheet front
+count-sheet k es = refl
+
+-- such a sheet has the form where its tracks and its bodies have
+pub formed-sheet : (k : ℕ) (es : List Entry) → 1 ≤ length es → length es ≤ k → AllSmall es → steps 0 es ≡ true → allMeet es ≡ true → formed k (sheet k es) ≡ true
+unfolding formed
+formed-sheet k es m h a s b =
+    let n : getD (sheet k es) 1 0 ≡ length es = count-sheet k es in
+    sym (rw (unsheet-sheet k es h a, n)
+    (holds _ _ (is-le _ _ m) (holds _ _ (is-le _ _ h) (holds _ _ (is-eq _ _ (same-refl (sheet k es))) (holds _ _ s (holds _ _ b done))))))
+
+-- and back: a sheet of the form is the sheet of its own entries
+pub sheet-unsheet : (k : ℕ) (xs : List ℕ) → formed k xs ≡ true → sheet k (unsheet k xs) ≡ xs
+unfolding formed
+sheet-unsheet k xs f =
+    let e : same xs (sheet k (unsheet k xs)) ≡ 1 = eq-is _ _ (clause 2 _ f) in
+    sym (same-is xs (sheet k (unsheet k xs)) (λ z. omega arith))

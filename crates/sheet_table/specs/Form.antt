@@ -1,0 +1,54 @@
+-- The form of a sheet of k slots, judged from its bytes alone.
+use Prim.Native.Nat.{ℕ, zero, suc, _+_}
+use mathlib.Core.Bool.{Bool, true, false}
+use mathlib.Core.List.{List, [], _∷_}
+use lib.ListN.{take, drop, getD}
+use Rattle.wire.specs.Tests.{pick}
+use Rattle.wire.specs.Clauses.{isEq, isLe, every}
+use Rattle.wire.specs.Numbers.{word}
+use Rattle.wire.specs.Same.{same}
+use Rattle.movie.specs.Entries.{Entry}
+use Rattle.entry_rules.specs.declared.entry.Around.the-variants.{Alone}
+use Rattle.entry_rules.specs.Entries.{FRAMES, entryRule}
+use Rattle.sheet.specs.Sheet.{SLOT, bodiesAt, sheet}
+
+-- "at most 4" tracks
+abbrev pub TRACKS : ℕ
+TRACKS = 4
+
+-- the entry that the first of slots xs says, of bodies ys
+abbrev pub firstOf : List ℕ → List ℕ → Entry
+firstOf xs ys = record { track = getD xs 1 0; place = word 4 xs 4; bytes = take (word 4 xs 8) ys }
+
+-- the n entries that slots xs and bodies ys say
+unfoldable pub read : ℕ → List ℕ → List ℕ → List Entry
+read zero xs ys = []
+read (suc n) xs ys = firstOf xs ys ∷ read n (drop SLOT xs) (drop (word 4 xs 8) ys)
+
+-- the entries of a sheet
+unfoldable pub unsheet : ℕ → List ℕ → List Entry
+unsheet k xs = read (getD xs 1 0) (drop 4 xs) (drop (bodiesAt k) xs)
+
+-- "track numbers that start at 1 and never fall or skip, at most 4": one of track u after one of track t
+unfoldable pub follows : ℕ → ℕ → Bool
+follows t u = every (isLe t u ∷ isLe u (t + 1) ∷ isLe 1 u ∷ isLe u TRACKS ∷ [])
+
+unfoldable pub steps : ℕ → List Entry → Bool
+steps t [] = true
+steps t (e ∷ es) = pick (follows t (e .track)) (steps (e .track) es) false
+
+-- "each body must be a box of its kind that meets its entry rule, apart from TimeScale, data reference and handler"
+unfoldable pub allMeet : List Entry → Bool
+allMeet [] = true
+allMeet (e ∷ es) = pick (isEq (entryRule Alone FRAMES (e .bytes)) 1) (allMeet es) false
+
+-- "A sheet must have the form above": it is the sheet that its own entries make, whatever their places
+unfoldable pub formed : ℕ → List ℕ → Bool
+formed k xs =
+    every
+    (isLe 1 (getD xs 1 0)
+    ∷ isLe (getD xs 1 0) k
+    ∷ isEq (same xs (sheet k (unsheet k xs))) 1
+    ∷ steps 0 (unsheet k xs)
+    ∷ allMeet (unsheet k xs)
+    ∷ [])

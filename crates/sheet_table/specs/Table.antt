@@ -1,0 +1,51 @@
+-- The table writer: "takes a sheet and a track and gives one stsd box".
+use Prim.Native.Nat.{ℕ, _+_, max}
+use mathlib.Core.Bool.{Bool}
+use mathlib.Core.List.{List, [], _∷_, _++_}
+use lib.ListN.{length}
+use Rattle.wire.specs.Tests.{pick, ifEq, ifLt}
+use Rattle.wire.specs.Clauses.{isLe, every}
+use Rattle.wire.specs.Numbers.{bytes}
+use Rattle.wire.specs.Codes.{STSD}
+use Rattle.boxes.specs.Containers.{LONGEST}
+use Rattle.movie.specs.Entries.{Entry}
+use Rattle.rule.specs.declared.Answer.{Answer}
+use Rattle.rule.specs.declared.Answer.the-variants.{Refused}
+use Rattle.rule.specs.Answers.{inRoom, outBy}
+use Rattle.sheet.specs.Sheet.{bodies}
+use Rattle.sheet_table.specs.Form.{unsheet, formed}
+
+-- the entries of track t
+unfoldable pub own : ℕ → List Entry → List Entry
+own t [] = []
+own t (e ∷ es) = ifEq (e .track) t (e ∷ own t es) (own t es)
+
+-- "the sheet's highest" track
+unfoldable pub highest : List Entry → ℕ
+highest [] = 0
+highest (e ∷ es) = max (e .track) (highest es)
+
+-- not "track 0 or above the sheet's highest"
+unfoldable pub hasTrack : ℕ → List Entry → Bool
+hasTrack t es = every (isLe 1 t ∷ isLe t (highest es) ∷ [])
+
+-- "16 bytes, then that track's bodies": size, `stsd`, version and flags, count
+unfoldable pub table : List Entry → List ℕ
+table es = bytes 4 (16 + length (bodies es)) ++ bytes 4 STSD ++ bytes 4 0 ++ bytes 4 (length es) ++ bodies es
+
+unfoldable pub tableOf : ℕ → List ℕ → ℕ → List ℕ
+tableOf k xs t = table (own t (unsheet k xs))
+
+-- 24, 25, of the entries of one track
+unfoldable pub ownAnswer : List Entry → List ℕ → Answer
+ownAnswer es out = ifLt LONGEST (length (table es)) (Refused 24 0) (inRoom (table es) out)
+
+-- "30, then 20 (track 0 or above the sheet's highest), then 24, then 25"
+unfoldable pub tableAnswer : ℕ → List ℕ → ℕ → List ℕ → Answer
+tableAnswer k xs t out =
+    pick (formed k xs)
+    (pick (hasTrack t (unsheet k xs)) (ownAnswer (own t (unsheet k xs)) out) (Refused 20 0))
+    (Refused 30 0)
+
+abbrev pub tableOut : ℕ → List ℕ → ℕ → List ℕ → List ℕ
+tableOut k xs t out = outBy (tableAnswer k xs t out) (tableOf k xs t) out

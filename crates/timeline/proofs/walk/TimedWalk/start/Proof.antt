@@ -1,9 +1,0 @@
-use borrow.Author.Needs.{needs}
-use Rattle.timeline.proofs.walk.TimedWalk.start.Statement.{statement}
-use Rattle.timeline.proofs.walk.TimedWalk.start.Tie as tie
-
-pub start-spec : {M : Type 1} → statement M
-start-spec = tie.close (tie.spec
-    (λ c κs. search needs)
-    (λ c κs. search needs)
-    (λ c. cc))
