@@ -1,5 +1,4 @@
 // The containers, and only on the paths of the format.
-use wire::codes;
 ghost use mathlib.Core.Path.{_≡_};
 ghost use Rattle.boxes.specs.Containers.{parent as parentOf, kindIn};
 

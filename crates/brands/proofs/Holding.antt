@@ -6,7 +6,7 @@ use mathlib.Core.Bool.{true, false}
 use mathlib.Core.List.{List, [], _∷_, _++_}
 use Rattle.wire.specs.Numbers.{word}
 use Rattle.wire.specs.Clauses.{isEq, oneIf}
-use Rattle.wire.specs.Codes.{MOOV, STSD, AVC1}
+use Rattle.codes.specs.Codes.{MOOV, STSD, AVC1}
 use Rattle.wire.proofs.Clauses.{is-lt, not-lt}
 use Rattle.boxes.specs.Box.{Box}
 use Rattle.boxes.specs.Boxes.{boxes}

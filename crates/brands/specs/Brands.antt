@@ -7,7 +7,7 @@ use Rattle.wire.specs.Tests.{ifEq}
 use Rattle.wire.specs.Numbers.{word}
 use Rattle.wire.specs.Clauses.{isEq, isLt, isLe, every, oneIf}
 use Rattle.wire.specs.Sums.{sumTo, allTo}
-use Rattle.wire.specs.Codes.{FTYP, MOOV, STSD, AVC1, VIDE, SOUN, TEXT, ISOM, GP4, GP5, GP6, GR6}
+use Rattle.codes.specs.Codes.{FTYP, MOOV, STSD, AVC1, VIDE, SOUN, TEXT, ISOM, GP4, GP5, GP6, GR6}
 use Rattle.boxes.specs.Box.{Box}
 use Rattle.boxes.specs.Boxes.{boxes}
 use Rattle.boxes.specs.Seek.{count, find}

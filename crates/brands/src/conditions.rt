@@ -2,7 +2,6 @@
 use crate::compatible;
 use boxes::seek;
 use boxes::seek::Seen;
-use wire::codes;
 use wire::number;
 ghost use mathlib.Core.Path.{_≡_};
 ghost use Rattle.wire.specs.Clauses.{oneIf};

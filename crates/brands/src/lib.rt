@@ -4,7 +4,6 @@ mod conditions;
 
 use judge::Judgement;
 use rule::Answer;
-use wire::codes;
 ghost use mathlib.Core.Path.{_≡_};
 ghost use Rattle.wire.specs.Clauses.{oneIf};
 ghost use Rattle.brands.specs.Brands.{own as ownOf, brandHolds};

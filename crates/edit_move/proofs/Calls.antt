@@ -7,7 +7,7 @@ use lib.ListN.{length}
 use Rattle.wire.specs.Tests.{pick}
 use Rattle.wire.specs.Numbers.{Bytes}
 use Rattle.wire.specs.Clauses.{oneIf}
-use Rattle.wire.specs.Codes.{MOOV}
+use Rattle.codes.specs.Codes.{MOOV}
 use Rattle.wire.specs.Writing.{Wrote}
 use Rattle.wire.proofs.Clauses.{was-nay, was-yea}
 use Rattle.boxes.specs.declared.walk.BoxAt.{BoxAt}

@@ -2,7 +2,7 @@
 use Prim.Native.Nat.{ℕ}
 use mathlib.Core.Path.{_≡_, refl, sym}
 use mathlib.Core.List.{List, [], _∷_, map, map-append}
-use Rattle.wire.specs.Codes.{MOOV}
+use Rattle.codes.specs.Codes.{MOOV}
 use Rattle.wire.proofs.Tests.{through}
 use Rattle.boxes.specs.Box.{Box}
 use Rattle.boxes.specs.Rewrite.{Bodies, over}

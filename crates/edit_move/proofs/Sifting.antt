@@ -6,7 +6,7 @@ use mathlib.Core.List.{List, [], _∷_, _++_}
 use lib.Dec.{eqb}
 use borrow.Author.Tests.{eqb-true, eqb-false}
 use Rattle.wire.specs.Tests.{pick, ifEq}
-use Rattle.wire.specs.Codes.{MOOV}
+use Rattle.codes.specs.Codes.{MOOV}
 use Rattle.wire.proofs.Tests.{eq-any}
 use Rattle.boxes.specs.Box.{Box}
 use Rattle.boxes.proofs.Reading.{All}

@@ -4,7 +4,7 @@ use native.Mathlib.Omega.{arith}
 use mathlib.Core.Path.{_≡_, refl, sym, ap, _∙_}
 use mathlib.Core.List.{List, [], _∷_, _++_, append-nil}
 use Rattle.wire.specs.Numbers.{Bytes}
-use Rattle.wire.specs.Codes.{MOOV}
+use Rattle.codes.specs.Codes.{MOOV}
 use Rattle.boxes.specs.Box.{Box, write}
 use Rattle.boxes.specs.Boxes.{boxes}
 use Rattle.boxes.specs.Seek.{count}

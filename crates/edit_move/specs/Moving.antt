@@ -2,7 +2,7 @@
 use Prim.Native.Nat.{ℕ}
 use mathlib.Core.List.{List, [], _∷_, _++_}
 use Rattle.wire.specs.Tests.{pick, ifEq}
-use Rattle.wire.specs.Codes.{MOOV}
+use Rattle.codes.specs.Codes.{MOOV}
 use Rattle.boxes.specs.Box.{Box, write}
 use Rattle.boxes.specs.Boxes.{boxes}
 use Rattle.rule.specs.declared.Answer.{Answer}

@@ -5,7 +5,6 @@ use boxes::walk::BoxAt;
 use boxes::words::By;
 use judge::Judgement;
 use rule::Answer;
-use wire::codes;
 use wire::pen;
 ghost use mathlib.Core.Path.{_≡_};
 ghost use Prim.Native.Nat.{_+_, _≤_};

@@ -4,7 +4,7 @@ use mathlib.Core.Path.{_≡_, refl, sym, ap, _∙_}
 use mathlib.Core.Bool.{true}
 use mathlib.Core.List.{List, [], _∷_}
 use Rattle.wire.specs.Tests.{ifEq}
-use Rattle.wire.specs.Codes.{FTYP, MOOV}
+use Rattle.codes.specs.Codes.{FTYP, MOOV}
 use Rattle.wire.proofs.Lists.{nil-is}
 use Rattle.wire.proofs.Clauses.{eq-is}
 use Rattle.boxes.specs.Box.{Box}

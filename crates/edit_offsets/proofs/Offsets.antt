@@ -10,7 +10,7 @@ use Rattle.wire.specs.Tests.{pick, ifEq}
 use Rattle.wire.specs.Numbers.{word}
 use Rattle.wire.specs.Sums.{allTo}
 use Rattle.wire.specs.Clauses.{isEq}
-use Rattle.wire.specs.Codes.{STBL, STCO}
+use Rattle.codes.specs.Codes.{STBL, STCO}
 use Rattle.wire.proofs.Clauses.{eq-is}
 use Rattle.wire.proofs.Sums.{all-at}
 use Rattle.wire.proofs.Numbers.{word-left, word-drop}

@@ -5,7 +5,7 @@ use mathlib.Core.Path.{_≡_, refl}
 use mathlib.Core.Bool.{true}
 use mathlib.Core.List.{List}
 use Rattle.wire.specs.Tests.{ifEq}
-use Rattle.wire.specs.Codes.{STBL, STSC, STSZ, STCO}
+use Rattle.codes.specs.Codes.{STBL, STSC, STSZ, STCO}
 use Rattle.wire.proofs.Clauses.{is-eq}
 use Rattle.wire.proofs.Sums.{all-of}
 use Rattle.boxes.specs.Box.{Box}

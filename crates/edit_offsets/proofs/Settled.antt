@@ -9,7 +9,7 @@ use lib.ListN.{length, take, drop, take-append-drop}
 use lib.Seq.{drop-drop}
 use Rattle.wire.specs.Tests.{pick, ifEq}
 use Rattle.wire.specs.Numbers.{Bytes, bytes, word}
-use Rattle.wire.specs.Codes.{STBL, STCO}
+use Rattle.codes.specs.Codes.{STBL, STCO}
 use Rattle.wire.proofs.Numbers.{bytes-word, bytes-drop, bytes-take}
 use Rattle.boxes.specs.Box.{Box}
 use Rattle.boxes.specs.Boxes.{boxes}

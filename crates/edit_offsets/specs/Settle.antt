@@ -1,7 +1,7 @@
 -- "In every edit a chunk offset changes by as much as its mdat moved."
 use Prim.Native.Nat.{ℕ}
 use mathlib.Core.List.{List}
-use Rattle.wire.specs.Codes.{STBL, STCO}
+use Rattle.codes.specs.Codes.{STBL, STCO}
 use Rattle.boxes.specs.declared.words.Target.{Target}
 use Rattle.boxes.specs.Boxes.{boxes}
 use Rattle.boxes.specs.Containers.{FILE, DEPTH, LONGEST}

@@ -3,7 +3,6 @@ use boxes::containers;
 use boxes::words;
 use boxes::words::By;
 use boxes::words::Target;
-use wire::codes;
 ghost use mathlib.Core.Path.{_≡_};
 ghost use mathlib.Core.List.{_++_};
 ghost use Prim.Native.Nat.{_≤_};

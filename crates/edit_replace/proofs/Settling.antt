@@ -7,7 +7,7 @@ use mathlib.Core.List.{List, _∷_, _++_}
 use mathlib.Core.Logic.{⊎-elim}
 use lib.ListN.{length, length-append}
 use Rattle.wire.specs.Tests.{ifLt}
-use Rattle.wire.specs.Codes.{MOOV, TRAK, MDIA, MINF, STBL, STSD}
+use Rattle.codes.specs.Codes.{MOOV, TRAK, MDIA, MINF, STBL, STSD}
 use Rattle.wire.specs.Numbers.{Bytes}
 use Rattle.boxes.specs.declared.walk.BoxAt.{BoxAt}
 use Rattle.boxes.specs.declared.words.By.{By}

@@ -7,7 +7,7 @@ use lib.ListN.{length}
 use Rattle.wire.specs.Tests.{pick, ifEq, ifLt}
 use Rattle.wire.specs.Clauses.{isEq, isLt, every}
 use Rattle.wire.specs.Numbers.{word}
-use Rattle.wire.specs.Codes.{MOOV, TRAK, MDIA, MINF, STBL, STSD, DAMR, D263}
+use Rattle.codes.specs.Codes.{MOOV, TRAK, MDIA, MINF, STBL, STSD, DAMR, D263}
 use Rattle.boxes.specs.declared.way.Turn.{Turn}
 use Rattle.boxes.specs.Boxes.{HEAD, FRONT}
 use Rattle.boxes.specs.Seek.{ANY}

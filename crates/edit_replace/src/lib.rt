@@ -12,7 +12,6 @@ use judge::Judgement;
 use movie::entry;
 use movie::entry::Spot;
 use rule::Answer;
-use wire::codes;
 ghost use mathlib.Core.Path.{_≡_};
 ghost use Prim.Native.Nat.{_≤_};
 ghost use lib.ListN.{length};

@@ -2,7 +2,6 @@
 use entry_heads::kind;
 use movie::entry;
 use movie::entry::Named;
-use wire::codes;
 use wire::number;
 ghost use mathlib.Core.Path.{_≡_};
 ghost use Prim.Native.Nat.{_≤_, _+_};

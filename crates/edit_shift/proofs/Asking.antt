@@ -4,7 +4,7 @@ use native.Mathlib.Omega.{arith}
 use mathlib.Core.Path.{_≡_}
 use mathlib.Core.Bool.{Bool, true}
 use mathlib.Core.List.{List}
-use Rattle.wire.specs.Codes.{MVHD, MOOV}
+use Rattle.codes.specs.Codes.{MVHD, MOOV}
 use Rattle.wire.specs.Sums.{allTo}
 use Rattle.wire.specs.Clauses.{oneIf}
 use Rattle.wire.proofs.Sums.{all-none, all-more, all-fails}

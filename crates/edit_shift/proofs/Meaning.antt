@@ -9,7 +9,7 @@ use lib.IntN.{ℤ}
 use lib.ListN.{length}
 use borrow.Author.Tests.{eqb-true, eqb-false}
 use Rattle.wire.specs.Tests.{pick, ifEq}
-use Rattle.wire.specs.Codes.{MOOV, MVHD, TRAK, TKHD, MDIA, MDHD}
+use Rattle.codes.specs.Codes.{MOOV, MVHD, TRAK, TKHD, MDIA, MDHD}
 use Rattle.wire.specs.Numbers.{Bytes}
 use Rattle.boxes.specs.Boxes.{boxes}
 use Rattle.boxes.specs.Kin.{All2}

@@ -8,7 +8,7 @@ use Rattle.wire.specs.Tests.{pick}
 use Rattle.wire.specs.Clauses.{every}
 use Rattle.wire.specs.Numbers.{word}
 use Rattle.wire.specs.Sums.{allTo}
-use Rattle.wire.specs.Codes.{MOOV, MVHD, TRAK, TKHD, MDIA, MDHD}
+use Rattle.codes.specs.Codes.{MOOV, MVHD, TRAK, TKHD, MDIA, MDHD}
 use Rattle.boxes.specs.declared.words.Target.{Target}
 use Rattle.boxes.specs.Boxes.{boxes}
 use Rattle.boxes.specs.Containers.{FILE, DEPTH}

@@ -7,7 +7,6 @@ use clocks::Zone;
 use clocks::Zoned;
 use judge::Judgement;
 use rule::Answer;
-use wire::codes;
 use wire::number;
 use wire::pen;
 ghost use mathlib.Core.Path.{_≡_};

@@ -6,7 +6,7 @@ use mathlib.Core.Logic.{⊎-elim}
 use lib.Dec.{eqb}
 use borrow.Author.Tests.{eqb-true}
 use Rattle.wire.specs.Tests.{ifEq}
-use Rattle.wire.specs.Codes.{MP4V, MP4A, SAMR, SAWB, S263, AVC1}
+use Rattle.codes.specs.Codes.{MP4V, MP4A, SAMR, SAWB, S263, AVC1}
 use Rattle.wire.specs.Sums.{allTo}
 use Rattle.wire.proofs.Tests.{eq-ways}
 use Rattle.wire.proofs.Sums.{all-at}

@@ -5,7 +5,7 @@ use mathlib.Core.Path.{_≡_, refl, sym, ap, _∙_}
 use mathlib.Core.List.{List, _++_, append-assoc}
 use lib.ListN.{length, take, drop, length-append, length-take, length-drop}
 use Rattle.wire.specs.Numbers.{Bytes, bytesOn, bytes, word}
-use Rattle.wire.specs.Codes.{SOUN, VIDE}
+use Rattle.codes.specs.Codes.{SOUN, VIDE}
 use Rattle.wire.proofs.Tests.{eq-yea, eq-nay}
 use Rattle.wire.proofs.Putting.{grow}
 use Rattle.wire.proofs.Same.{same-refl, same-is, same-not}

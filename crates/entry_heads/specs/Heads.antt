@@ -4,7 +4,7 @@ use mathlib.Core.List.{List, _++_}
 use lib.ListN.{length, take, drop}
 use Rattle.wire.specs.Tests.{ifEq}
 use Rattle.wire.specs.Numbers.{bytes, word}
-use Rattle.wire.specs.Codes.{SOUN, VIDE}
+use Rattle.codes.specs.Codes.{SOUN, VIDE}
 use Rattle.wire.specs.Same.{same}
 use Rattle.entry_heads.specs.Kinds.{handlerOf}
 

@@ -1,7 +1,7 @@
 -- The kinds of sample entry: 0 other, 1 `mp4v`, 2 `mp4a`, 3 `samr`, 4 `sawb`, 5 `s263`, 6 `avc1`.
 use Prim.Native.Nat.{ℕ}
 use Rattle.wire.specs.Tests.{ifEq}
-use Rattle.wire.specs.Codes.{MP4V, MP4A, SAMR, SAWB, S263, AVC1, SOUN, VIDE}
+use Rattle.codes.specs.Codes.{MP4V, MP4A, SAMR, SAWB, S263, AVC1, SOUN, VIDE}
 
 -- the kind of a code
 unfoldable pub kindOf : ℕ → ℕ

@@ -1,7 +1,6 @@
 // The heads of sample entries: written, and told from other bytes.
 use crate::kind;
 use crate::put;
-use wire::codes;
 use wire::compare;
 use wire::lend;
 use wire::number;

@@ -1,5 +1,4 @@
 // The kinds of sample entry.
-use wire::codes;
 use wire::test;
 ghost use mathlib.Core.Path.{_≡_};
 ghost use Rattle.entry_heads.specs.Kinds.{kindOf, codeOf, handlerOf};

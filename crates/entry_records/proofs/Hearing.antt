@@ -7,7 +7,7 @@ use mathlib.Core.Logic.{⊎-elim}
 use lib.ListN.{take}
 use lib.Seq.{take-all}
 use Rattle.wire.specs.Numbers.{Bytes, word}
-use Rattle.wire.specs.Codes.{DAMR}
+use Rattle.codes.specs.Codes.{DAMR}
 use Rattle.wire.proofs.Numbers.{word-fits}
 use Rattle.wire.proofs.Putting.{grow}
 use Rattle.entry_heads.specs.Kinds.{kindOf, codeOf}

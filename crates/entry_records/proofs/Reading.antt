@@ -6,7 +6,7 @@ use mathlib.Core.List.{List}
 use mathlib.Core.Logic.{inl, inr, ⊎-elim}
 use Rattle.wire.specs.Tests.{ifEq}
 use Rattle.wire.specs.Numbers.{word}
-use Rattle.wire.specs.Codes.{S263}
+use Rattle.codes.specs.Codes.{S263}
 use Rattle.wire.proofs.Tests.{eq-yea, eq-nay, eq-ways, eq-met}
 use Rattle.entry_heads.specs.Kinds.{kindOf}
 use Rattle.entry_heads.proofs.Coding.{code-kind}

@@ -7,7 +7,7 @@ use lib.ListN.{take}
 use lib.Seq.{take-all}
 use Rattle.wire.specs.Tests.{ifEq}
 use Rattle.wire.specs.Numbers.{Bytes, word}
-use Rattle.wire.specs.Codes.{S263, D263, BITR}
+use Rattle.codes.specs.Codes.{S263, D263, BITR}
 use Rattle.wire.proofs.Tests.{eq-yea, eq-nay}
 use Rattle.wire.proofs.Numbers.{word-fits, word-out}
 use Rattle.wire.proofs.Putting.{grow}

@@ -6,7 +6,7 @@ use lib.ListN.{length, take}
 use lib.Seq.{take-all}
 use Rattle.wire.specs.Tests.{ifEq, ifLe}
 use Rattle.wire.specs.Numbers.{bytesOn, bytes, word}
-use Rattle.wire.specs.Codes.{S263, BITR}
+use Rattle.codes.specs.Codes.{S263, BITR}
 use Rattle.wire.proofs.Tests.{eq-yea, eq-nay}
 use Rattle.wire.proofs.Numbers.{word-bytes, word-out}
 use Rattle.entry_heads.specs.Heads.{boxHeader, commonHead, visualStart, visualHead}

@@ -7,7 +7,7 @@ use mathlib.Core.Logic.{⊎-elim}
 use lib.ListN.{take}
 use Rattle.wire.specs.Tests.{ifEq, ifLe}
 use Rattle.wire.specs.Numbers.{bytesOn, bytes, word}
-use Rattle.wire.specs.Codes.{DAMR}
+use Rattle.codes.specs.Codes.{DAMR}
 use Rattle.wire.proofs.Numbers.{word-bytes}
 use Rattle.entry_heads.specs.Kinds.{codeOf}
 use Rattle.entry_heads.specs.Heads.{boxHeader, commonHead, audioHead}

@@ -7,7 +7,7 @@ use lib.ListN.{length, take}
 use lib.Seq.{take-take}
 use Rattle.wire.specs.Tests.{ifLe}
 use Rattle.wire.specs.Numbers.{bytesOn, bytes, word}
-use Rattle.wire.specs.Codes.{S263, D263}
+use Rattle.codes.specs.Codes.{S263, D263}
 use Rattle.wire.proofs.Numbers.{word-bytes, word-take}
 use Rattle.entry_heads.specs.Heads.{boxHeader, commonHead, visualStart, visualHead}
 use Rattle.entry_rules.proofs.Picture.{PictureAt}

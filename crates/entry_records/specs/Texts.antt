@@ -3,7 +3,7 @@ use Prim.Native.Nat.{ℕ}
 use mathlib.Core.List.{List, [], _++_}
 use Rattle.wire.specs.Tests.{ifEq}
 use Rattle.wire.specs.Numbers.{bytes}
-use Rattle.wire.specs.Codes.{S263, DAMR, D263, BITR}
+use Rattle.codes.specs.Codes.{S263, DAMR, D263, BITR}
 use Rattle.entry_heads.specs.Kinds.{codeOf}
 use Rattle.entry_heads.specs.Heads.{boxHeader, audioHead, visualHead}
 use Rattle.entry_records.specs.declared.field.Amr.{Amr}

@@ -5,7 +5,6 @@ use crate::field::Record;
 use entry_heads::head;
 use entry_heads::kind;
 use entry_heads::put;
-use wire::codes;
 use wire::pen;
 use wire::test;
 ghost use mathlib.Core.Path.{_≡_};

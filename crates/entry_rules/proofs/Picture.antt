@@ -7,7 +7,7 @@ use mathlib.Core.Logic.{_⊎_, inl, inr, ⊎-elim}
 use lib.ListN.{length, take, drop, length-drop}
 use Rattle.wire.specs.Tests.{ifEq}
 use Rattle.wire.specs.Numbers.{bytes, word}
-use Rattle.wire.specs.Codes.{VIDE, D263, BITR}
+use Rattle.codes.specs.Codes.{VIDE, D263, BITR}
 use Rattle.wire.proofs.Tests.{eq-yea, eq-nay, eq-ways, eq-met}
 use Rattle.wire.proofs.Numbers.{length-bytes, word-drop}
 use Rattle.entry_heads.specs.Kinds.{handlerOf}

@@ -7,7 +7,7 @@ use mathlib.Core.Logic.{_⊎_, ⊎-elim}
 use lib.ListN.{length, take, drop, length-drop}
 use Rattle.wire.specs.Tests.{ifEq}
 use Rattle.wire.specs.Numbers.{word}
-use Rattle.wire.specs.Codes.{SOUN, DAMR}
+use Rattle.codes.specs.Codes.{SOUN, DAMR}
 use Rattle.wire.proofs.Tests.{eq-yea, eq-nay, eq-met}
 use Rattle.wire.proofs.Numbers.{word-drop}
 use Rattle.entry_heads.specs.Kinds.{handlerOf}

@@ -4,7 +4,7 @@ use mathlib.Core.List.{List}
 use lib.ListN.{length, drop}
 use Rattle.wire.specs.Tests.{ifEq, ifLt}
 use Rattle.wire.specs.Numbers.{word}
-use Rattle.wire.specs.Codes.{DAMR, D263, BITR}
+use Rattle.codes.specs.Codes.{DAMR, D263, BITR}
 
 -- xs is one whole box of a code: its size field is its length
 unfoldable pub boxRule : ℕ → List ℕ → ℕ

@@ -4,7 +4,7 @@ use mathlib.Core.List.{List, _++_}
 use lib.ListN.{length, take, drop}
 use Rattle.wire.specs.Tests.{ifEq, ifLt}
 use Rattle.wire.specs.Numbers.{bytes, word}
-use Rattle.wire.specs.Codes.{ESDS, AVCC, SOUN}
+use Rattle.codes.specs.Codes.{ESDS, AVCC, SOUN}
 use Rattle.boxes.specs.Boxes.{boxes}
 use Rattle.boxes.specs.Seek.{tilingOf, count}
 use Rattle.boxes.specs.declared.seek.Tiling.{Tiling}

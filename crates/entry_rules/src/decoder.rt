@@ -1,5 +1,4 @@
 // Decoder records: the `damr` and `d263` boxes of an entry.
-use wire::codes;
 use wire::lend;
 use wire::number;
 use wire::test;

@@ -4,7 +4,6 @@ use boxes::seek;
 use boxes::seek::Tiling;
 use entry_heads::head;
 use entry_heads::kind;
-use wire::codes;
 use wire::lend;
 use wire::number;
 use wire::test;

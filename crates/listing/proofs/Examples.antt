@@ -3,7 +3,7 @@ use mathlib.Core.Path.{_≡_, refl}
 use Rattle.wire.specs.Tests.{ifEq, ifLt}
 use Rattle.wire.specs.Numbers.{bytes, bytesOn}
 use Rattle.wire.specs.Text.{text}
-use Rattle.wire.specs.Codes.{SAMR, SOUN, GP4, GP6}
+use Rattle.codes.specs.Codes.{SAMR, SOUN, GP4, GP6}
 use Rattle.entry_heads.specs.Kinds.{kindOf}
 use Rattle.listing.specs.Decimal.{decimal, labelled}
 use Rattle.listing.specs.Lines.{handlerText, codeText, trackLine, entryNamed, entryPlaced, yesText, brandLine, refusedLine}

@@ -9,7 +9,7 @@ use lib.Seq.{drop-drop}
 use Rattle.wire.specs.Writing.{Put}
 use Rattle.wire.specs.Numbers.{word}
 use Rattle.wire.specs.Clauses.{oneIf}
-use Rattle.wire.specs.Codes.{STTS}
+use Rattle.codes.specs.Codes.{STTS}
 use Rattle.wire.proofs.Writing.{pen-none, pen-then, pen-is}
 use Rattle.sample_tables.specs.Times.{mediaTicks}
 use Rattle.movie.specs.declared.entry.EntryAt.{EntryAt}

@@ -5,7 +5,7 @@ use lib.ListN.{length}
 use Rattle.wire.specs.Tests.{ifEq}
 use Rattle.wire.specs.Numbers.{bytes, word}
 use Rattle.wire.specs.Text.{text}
-use Rattle.wire.specs.Codes.{VIDE, SOUN, TEXT}
+use Rattle.codes.specs.Codes.{VIDE, SOUN, TEXT}
 use Rattle.movie.specs.Entries.{Entry}
 use Rattle.entry_heads.specs.Kinds.{kindOf}
 use Rattle.listing.specs.Decimal.{labelled}

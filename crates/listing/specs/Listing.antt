@@ -3,7 +3,7 @@ use Prim.Native.Nat.{ℕ, zero, suc, _+_}
 use mathlib.Core.List.{List, [], _∷_, _++_}
 use Rattle.wire.specs.Text.{text}
 use Rattle.wire.specs.Clauses.{oneIf}
-use Rattle.wire.specs.Codes.{STTS, GP4, GP5, GP6, GR6}
+use Rattle.codes.specs.Codes.{STTS, GP4, GP5, GP6, GR6}
 use Rattle.sample_tables.specs.Times.{mediaTicks}
 use Rattle.movie.specs.Movie.{tracks, track, table, handler, scale}
 use Rattle.movie.specs.Entries.{Entry, entries}

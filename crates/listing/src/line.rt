@@ -1,5 +1,4 @@
 // Writers of one line and its parts. Each answers the place past its text, fit or not.
-use wire::codes;
 use wire::pen;
 ghost use Prim.Native.Nat.{_+_, _^_, _≤_, _<_};
 ghost use lib.ListN.{length};

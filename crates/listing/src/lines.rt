@@ -2,7 +2,6 @@
 use crate::line;
 use movie::entry;
 use movie::entry::Named;
-use wire::codes;
 use wire::number;
 use wire::pen;
 ghost use Prim.Native.Nat.{_+_, _^_, _≤_, _<_};

@@ -4,7 +4,7 @@ use native.Mathlib.Omega.{arith}
 use mathlib.Core.Path.{_≡_, sym}
 use mathlib.Core.Bool.{true}
 use mathlib.Core.List.{List, [], _∷_, _++_}
-use Rattle.wire.specs.Codes.{MDAT}
+use Rattle.codes.specs.Codes.{MDAT}
 use Rattle.wire.proofs.Tests.{lt-or}
 use Rattle.boxes.specs.Box.{Box, size}
 use Rattle.boxes.specs.Boxes.{total}

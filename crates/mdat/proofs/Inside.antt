@@ -6,7 +6,7 @@ use mathlib.Core.Bool.{false}
 use mathlib.Core.List.{List, [], _∷_}
 use lib.ListN.{length, drop}
 use Rattle.wire.specs.Clauses.{isLe}
-use Rattle.wire.specs.Codes.{MDAT}
+use Rattle.codes.specs.Codes.{MDAT}
 use Rattle.wire.proofs.Clauses.{is-eq, not-eq, is-le, not-le, fails, done, holds as and}
 use Rattle.wire.proofs.Tests.{lt-or}
 use Rattle.boxes.specs.Box.{Box, size}

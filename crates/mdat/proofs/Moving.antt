@@ -5,7 +5,7 @@ use mathlib.Core.Path.{_≡_, refl, sym, _∙_}
 use mathlib.Core.Bool.{true}
 use mathlib.Core.List.{List, _∷_, _++_}
 use lib.ListN.{length}
-use Rattle.wire.specs.Codes.{MDAT}
+use Rattle.codes.specs.Codes.{MDAT}
 use Rattle.wire.proofs.Tests.{lt-or}
 use Rattle.boxes.specs.Box.{Box, size}
 use Rattle.boxes.specs.Boxes.{total}

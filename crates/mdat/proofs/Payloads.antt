@@ -2,7 +2,7 @@
 use Prim.Native.Nat.{ℕ, _+_, _-_, _≤_, _<_}
 use mathlib.Core.Path.{_≡_, refl, sym}
 use mathlib.Core.List.{List, _∷_}
-use Rattle.wire.specs.Codes.{MDAT}
+use Rattle.codes.specs.Codes.{MDAT}
 use Rattle.wire.proofs.Tests.{eq-yea, eq-nay, lt-yea, lt-nay, eq-or}
 use Rattle.boxes.specs.Box.{Box, size}
 use Rattle.mdat.specs.Payloads.{mdats, nowhere, spot, within, past, resolve, placeOf}

@@ -4,7 +4,7 @@ use native.Mathlib.Omega.{arith}
 use mathlib.Core.Path.{_≡_, sym, _∙_}
 use mathlib.Core.List.{List, [], _∷_}
 use lib.ListN.{length, getD}
-use Rattle.wire.specs.Codes.{MDAT}
+use Rattle.codes.specs.Codes.{MDAT}
 use Rattle.wire.proofs.Tests.{lt-or}
 use Rattle.boxes.specs.Box.{Box, size}
 use Rattle.mdat.specs.Payloads.{mdats, spot, within, resolve, placeOf}

@@ -2,7 +2,6 @@
 use boxes::walk::BoxAt;
 use boxes::walk::Step;
 use boxes::walk::Walk;
-use wire::codes;
 ghost use mathlib.Core.Path.{_≡_};
 ghost use Prim.Native.Nat.{_+_, _^_, _≤_, _<_};
 ghost use Rattle.wire.specs.Clauses.{oneIf};

@@ -4,7 +4,7 @@ use native.Mathlib.Omega.{arith}
 use mathlib.Core.Path.{_≡_, refl, sym, ap, _∙_}
 use mathlib.Core.List.{List, [], _∷_}
 use lib.ListN.{length, drop, length-append}
-use Rattle.wire.specs.Codes.{MOOV, TRAK}
+use Rattle.codes.specs.Codes.{MOOV, TRAK}
 use Rattle.boxes.specs.declared.walk.Walk.{Walk}
 use Rattle.boxes.specs.declared.walk.BoxAt.{BoxAt}
 use Rattle.boxes.specs.Box.{Box, size}

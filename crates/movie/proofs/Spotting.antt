@@ -5,7 +5,7 @@ use mathlib.Core.Path.{_≡_, refl, sym, ap, _∙_}
 use mathlib.Core.List.{List, [], _∷_, _++_}
 use lib.ListN.{length, drop, length-drop}
 use lib.Seq.{drop-nil, drop-append-le}
-use Rattle.wire.specs.Codes.{TRAK}
+use Rattle.codes.specs.Codes.{TRAK}
 use Rattle.wire.specs.Numbers.{Bytes}
 use Rattle.wire.proofs.Lists.{drop-past}
 use Rattle.boxes.specs.declared.walk.Walk.{Walk}

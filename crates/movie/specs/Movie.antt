@@ -1,7 +1,7 @@
 -- The movie of a file: its tracks, in file order and from 0, and what each of them says.
 use Prim.Native.Nat.{ℕ}
 use mathlib.Core.List.{List}
-use Rattle.wire.specs.Codes.{MOOV, TRAK, TKHD, MDIA, MDHD, HDLR, MINF, STBL}
+use Rattle.codes.specs.Codes.{MOOV, TRAK, TKHD, MDIA, MDHD, HDLR, MINF, STBL}
 use Rattle.wire.specs.Numbers.{word}
 use Rattle.boxes.specs.Box.{Box}
 use Rattle.boxes.specs.Boxes.{boxes}

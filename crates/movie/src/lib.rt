@@ -2,7 +2,6 @@
 pub mod entry;
 
 use boxes::seek;
-use wire::codes;
 use wire::number;
 ghost use mathlib.Core.Path.{_≡_};
 ghost use Prim.Native.Nat.{_^_, _≤_, _<_};

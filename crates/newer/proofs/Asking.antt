@@ -4,7 +4,7 @@ use native.Mathlib.Omega.{arith}
 use mathlib.Core.Path.{_≡_, refl, sym, _∙_}
 use mathlib.Core.List.{List, [], _∷_}
 use lib.ListN.{length, take, drop, length-take, length-drop, drop-of-length-le}
-use Rattle.wire.specs.Codes.{MOOV, MVHD}
+use Rattle.codes.specs.Codes.{MOOV, MVHD}
 use Rattle.wire.specs.Numbers.{word}
 use Rattle.wire.proofs.Tests.{eq-yea, eq-nay}
 use Rattle.boxes.specs.Boxes.{boxes}

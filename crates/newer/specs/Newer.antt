@@ -7,7 +7,7 @@ use lib.ListN.{length, take, drop}
 use Rattle.wire.specs.Tests.{pick, ifEq}
 use Rattle.wire.specs.Clauses.{every}
 use Rattle.wire.specs.Numbers.{word}
-use Rattle.wire.specs.Codes.{MVHD}
+use Rattle.codes.specs.Codes.{MVHD}
 use Rattle.boxes.specs.Seek.{find, byNumber}
 use Rattle.clocks.specs.declared.Order.{Order}
 use Rattle.clocks.specs.declared.Order.the-variants.{Earlier, Same, Later}

@@ -6,7 +6,6 @@ use clocks::Zoned;
 use judge::Judgement;
 use movie::entry;
 use movie::entry::Named;
-use wire::codes;
 use wire::lend;
 use wire::number;
 ghost use mathlib.Core.Path.{_≡_};

@@ -7,7 +7,7 @@ use mathlib.Core.List.{List, [], _∷_}
 use mathlib.Core.Logic.{⊎-elim}
 use lib.IntN.{ℤ}
 use lib.ListN.{length}
-use Rattle.wire.specs.Codes.{TRAK}
+use Rattle.codes.specs.Codes.{TRAK}
 use Rattle.wire.specs.Numbers.{Bytes}
 use Rattle.wire.proofs.Tests.{lt-yea, lt-nay, lt-or}
 use Rattle.boxes.specs.Box.{Box}

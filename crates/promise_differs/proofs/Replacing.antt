@@ -6,7 +6,7 @@ use mathlib.Core.List.{List}
 use mathlib.Core.Logic.{inl, inr, ⊎-elim}
 use lib.ListN.{length}
 use Rattle.wire.specs.Numbers.{Bytes}
-use Rattle.wire.specs.Codes.{STBL, STSD}
+use Rattle.codes.specs.Codes.{STBL, STSD}
 use Rattle.boxes.specs.Containers.{FILE, DEPTH}
 use Rattle.boxes.specs.Kin.{Kin}
 use Rattle.boxes.specs.Way.{editWay}

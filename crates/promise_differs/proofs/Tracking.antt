@@ -4,7 +4,7 @@ use native.Mathlib.Omega.{arith}
 use mathlib.Core.Path.{_≡_, refl}
 use mathlib.Core.List.{List, []}
 use Rattle.wire.specs.Tests.{ifEq}
-use Rattle.wire.specs.Codes.{MOOV, TRAK, STBL, STSD}
+use Rattle.codes.specs.Codes.{MOOV, TRAK, STBL, STSD}
 use Rattle.boxes.specs.Boxes.{boxes}
 use Rattle.boxes.specs.Containers.{FILE, DEPTH, parent, kindIn}
 use Rattle.boxes.specs.Seek.{nth, find}

@@ -3,7 +3,7 @@ use Prim.Native.Nat.{ℕ}
 use mathlib.Core.Path.{_≡_, refl}
 use mathlib.Core.List.{List, map}
 use lib.ListN.{length}
-use Rattle.wire.specs.Codes.{MOOV}
+use Rattle.codes.specs.Codes.{MOOV}
 use Rattle.boxes.specs.Box.{Box, write}
 use Rattle.boxes.specs.Seek.{count, find}
 use Rattle.boxes.specs.Rewrite.{Bodies, over}

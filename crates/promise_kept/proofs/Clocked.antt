@@ -5,7 +5,7 @@ use mathlib.Core.Path.{_≡_, refl, sym, ap, _∙_}
 use mathlib.Core.List.{List}
 use lib.ListN.{length, getD}
 use Rattle.wire.specs.Numbers.{word}
-use Rattle.wire.specs.Codes.{MOOV, MVHD, TRAK, TKHD, MDIA, MDHD, DINF, DREF, STBL, STSD, STTS, STSC, STSZ, STCO}
+use Rattle.codes.specs.Codes.{MOOV, MVHD, TRAK, TKHD, MDIA, MDHD, DINF, DREF, STBL, STSD, STTS, STSC, STSZ, STCO}
 use Rattle.rule_headers.specs.Forms.{brandsForm, headForm, handlerForm, form}
 use Rattle.promise_kept.proofs.Sound.{Sound}
 

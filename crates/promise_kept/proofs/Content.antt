@@ -4,7 +4,7 @@ use mathlib.Core.Path.{_≡_, refl, _∙_}
 use mathlib.Core.List.{List}
 use lib.ListN.{length}
 use Rattle.wire.specs.Numbers.{Bytes}
-use Rattle.wire.specs.Codes.{STBL, STCO}
+use Rattle.codes.specs.Codes.{STBL, STCO}
 use Rattle.boxes.specs.Containers.{FILE, DEPTH, LONGEST}
 use Rattle.boxes.specs.Kin.{Leaf, Kin}
 use Rattle.boxes.proofs.Kin.{Then, kin-refl, kin-then}

@@ -4,7 +4,7 @@ use native.Mathlib.Omega.{arith}
 use mathlib.Core.Path.{_≡_, sym, _∙_}
 use mathlib.Core.List.{List}
 use Rattle.wire.specs.Numbers.{Bytes}
-use Rattle.wire.specs.Codes.{STBL, STCO}
+use Rattle.codes.specs.Codes.{STBL, STCO}
 use Rattle.boxes.specs.Box.{Box, write}
 use Rattle.boxes.specs.Boxes.{boxes}
 use Rattle.boxes.proofs.Whole.{Good}

@@ -3,7 +3,7 @@ use Prim.Native.Nat.{ℕ}
 use mathlib.Core.Path.{_≡_, sym, ap, subst, _∙_}
 use mathlib.Core.Bool.{Bool, true}
 use mathlib.Core.List.{List}
-use Rattle.wire.specs.Codes.{STBL, STTS, STSC, STSZ, STCO}
+use Rattle.codes.specs.Codes.{STBL, STTS, STSC, STSZ, STCO}
 use Rattle.wire.proofs.Tests.{eq-kept}
 use Rattle.boxes.specs.Kin.{Leaf}
 use Rattle.sample_tables.specs.Tables.{tableForm}

@@ -4,7 +4,7 @@ use native.Mathlib.Omega.{arith}
 use mathlib.Core.Path.{_≡_, refl, sym, ap, _∙_}
 use mathlib.Core.List.{List, _∷_, _++_}
 use lib.ListN.{length, drop, length-append, length-drop}
-use Rattle.wire.specs.Codes.{STSD}
+use Rattle.codes.specs.Codes.{STSD}
 use Rattle.wire.specs.Numbers.{Bytes, word}
 use Rattle.wire.proofs.Tests.{eq-nay}
 use Rattle.boxes.specs.Box.{Box, header, write}

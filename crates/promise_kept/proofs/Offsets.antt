@@ -9,7 +9,7 @@ use lib.ListN.{length}
 use borrow.Author.Tests.{eqb-true}
 use Rattle.wire.specs.Tests.{pick, ifEq}
 use Rattle.wire.specs.Numbers.{Bytes}
-use Rattle.wire.specs.Codes.{STBL, STCO}
+use Rattle.codes.specs.Codes.{STBL, STCO}
 use Rattle.wire.proofs.Clauses.{le-is}
 use Rattle.wire.proofs.Numbers.{word-fits}
 use Rattle.boxes.specs.Box.{Box}

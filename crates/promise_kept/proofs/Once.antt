@@ -8,7 +8,7 @@ use mathlib.Core.Logic.{⊎-elim}
 use lib.ListN.{length, drop}
 use Rattle.wire.specs.Tests.{ifEq}
 use Rattle.wire.specs.Numbers.{Bytes, word}
-use Rattle.wire.specs.Codes.{TRAK, TKHD, MDIA, MDHD, HDLR, DINF, DREF, STBL, STSD, STTS, STSC, STSZ, STCO, MDAT}
+use Rattle.codes.specs.Codes.{TRAK, TKHD, MDIA, MDHD, HDLR, DINF, DREF, STBL, STSD, STTS, STSC, STSZ, STCO, MDAT}
 use Rattle.boxes.specs.Containers.{FILE, DEPTH, LONGEST}
 use Rattle.boxes.specs.Kin.{Kin}
 use Rattle.boxes.specs.Boxes.{FRONT}

@@ -5,7 +5,7 @@ use mathlib.Core.Path.{_≡_, refl, sym, ap, subst, _∙_}
 use mathlib.Core.List.{List, _++_}
 use lib.ListN.{length, take, drop, length-append}
 use lib.Seq.{take-at, drop-at, length-take-le}
-use Rattle.wire.specs.Codes.{STBL, STSD}
+use Rattle.codes.specs.Codes.{STBL, STSD}
 use Rattle.wire.specs.Numbers.{Bytes}
 use Rattle.boxes.specs.Boxes.{HEAD, FRONT}
 use Rattle.boxes.specs.Containers.{FILE, DEPTH, LONGEST}

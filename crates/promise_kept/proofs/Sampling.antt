@@ -6,7 +6,7 @@ use mathlib.Core.Bool.{true}
 use mathlib.Core.List.{List, []}
 use Rattle.wire.specs.Tests.{ifEq, ifLe}
 use Rattle.wire.specs.Numbers.{Bytes, word}
-use Rattle.wire.specs.Codes.{MOOV, TRAK, STBL, STSC, STSZ, STCO}
+use Rattle.codes.specs.Codes.{MOOV, TRAK, STBL, STSC, STSZ, STCO}
 use Rattle.boxes.specs.Box.{Box, write}
 use Rattle.boxes.specs.Boxes.{boxes}
 use Rattle.boxes.specs.Containers.{FILE, parent, kindIn}

@@ -4,7 +4,7 @@ use native.Mathlib.Omega.{arith}
 use mathlib.Core.Path.{_≡_, refl}
 use mathlib.Core.List.{List, [], _∷_}
 use Rattle.wire.specs.Tests.{ifEq}
-use Rattle.wire.specs.Codes.{MOOV, MDAT}
+use Rattle.codes.specs.Codes.{MOOV, MDAT}
 use Rattle.boxes.specs.Box.{Box}
 use Rattle.boxes.specs.Seek.{count, nth, find}
 use Rattle.boxes.proofs.Meaning.{meant-no}

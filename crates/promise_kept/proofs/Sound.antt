@@ -4,7 +4,7 @@ use mathlib.Core.Path.{_≡_, _∙_}
 use mathlib.Core.Bool.{true}
 use mathlib.Core.List.{List}
 use Rattle.wire.specs.Numbers.{word}
-use Rattle.wire.specs.Codes.{TRAK, TKHD, DINF, DREF, STBL, STSD, MDAT}
+use Rattle.codes.specs.Codes.{TRAK, TKHD, DINF, DREF, STBL, STSD, MDAT}
 use Rattle.boxes.specs.Containers.{FILE, kindIn}
 use Rattle.boxes.specs.Kin.{Leaf}
 use Rattle.boxes.proofs.Kin.{Then}

@@ -4,7 +4,7 @@ use native.Mathlib.Omega.{arith}
 use mathlib.Core.Path.{_≡_, refl, sym, ap, _∙_}
 use mathlib.Core.List.{List, [], _∷_}
 use lib.ListN.{drop}
-use Rattle.wire.specs.Codes.{MOOV, TRAK, STSD}
+use Rattle.codes.specs.Codes.{MOOV, TRAK, STSD}
 use Rattle.wire.proofs.Tests.{lt-yea, lt-nay, lt-or}
 use Rattle.boxes.specs.Box.{Box, size}
 use Rattle.boxes.specs.Boxes.{boxes, FRONT}

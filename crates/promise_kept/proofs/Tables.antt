@@ -5,7 +5,7 @@ use mathlib.Core.Bool.{true}
 use mathlib.Core.List.{List, []}
 use Rattle.wire.specs.Tests.{ifLe}
 use Rattle.wire.specs.Numbers.{word}
-use Rattle.wire.specs.Codes.{TRAK, STSC, STSZ, STCO}
+use Rattle.codes.specs.Codes.{TRAK, STSC, STSZ, STCO}
 use Rattle.wire.proofs.Tests.{lt-or}
 use Rattle.boxes.specs.Box.{Box}
 use Rattle.boxes.specs.Boxes.{boxes}

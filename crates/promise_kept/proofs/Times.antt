@@ -9,7 +9,7 @@ use lib.ListN.{length}
 use borrow.Author.Tests.{eqb-true}
 use Rattle.wire.specs.Tests.{pick, ifEq}
 use Rattle.wire.specs.Numbers.{Bytes}
-use Rattle.wire.specs.Codes.{MOOV, MVHD, TRAK, TKHD, MDIA, MDHD, STBL, STCO}
+use Rattle.codes.specs.Codes.{MOOV, MVHD, TRAK, TKHD, MDIA, MDHD, STBL, STCO}
 use Rattle.boxes.specs.Containers.{FILE, DEPTH, LONGEST}
 use Rattle.boxes.specs.Words.{reword, rewordLeaf}
 use Rattle.boxes.proofs.Kin.{Made, kin-edit}

@@ -3,7 +3,7 @@ use Prim.Native.Nat.{ℕ}
 use native.Mathlib.Omega.{arith}
 use mathlib.Core.List.{List, []}
 use Rattle.wire.specs.Tests.{ifEq}
-use Rattle.wire.specs.Codes.{MOOV, TRAK, MDIA, MINF, STBL}
+use Rattle.codes.specs.Codes.{MOOV, TRAK, MDIA, MINF, STBL}
 use Rattle.boxes.specs.Boxes.{boxes}
 use Rattle.boxes.specs.Containers.{FILE, DEPTH, parent, kindIn}
 use Rattle.boxes.specs.Seek.{nth}

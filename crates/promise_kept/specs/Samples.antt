@@ -1,7 +1,7 @@
 -- The samples of a track of a file.
 use Prim.Native.Nat.{ℕ}
 use mathlib.Core.List.{List}
-use Rattle.wire.specs.Codes.{STSC, STSZ, STCO}
+use Rattle.codes.specs.Codes.{STSC, STSZ, STCO}
 use Rattle.mdat.specs.Samples.{samplesOf}
 use Rattle.movie.specs.Movie.{track, table}
 

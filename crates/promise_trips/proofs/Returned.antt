@@ -6,7 +6,7 @@ use mathlib.Core.Bool.{true}
 use mathlib.Core.List.{List, []}
 use mathlib.Core.Logic.{_⊎_, ⊎-elim}
 use lib.ListN.{length, take, drop}
-use Rattle.wire.specs.Codes.{MOOV, TRAK, STSD}
+use Rattle.codes.specs.Codes.{MOOV, TRAK, STSD}
 use Rattle.wire.specs.Numbers.{Bytes}
 use Rattle.boxes.specs.Boxes.{boxes}
 use Rattle.boxes.specs.Seek.{find, startIn}

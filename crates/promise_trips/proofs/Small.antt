@@ -3,7 +3,7 @@ use Prim.Native.Nat.{ℕ, _+_, _^_, _<_}
 use native.Mathlib.Omega.{arith}
 use mathlib.Core.List.{List, _++_}
 use lib.ListN.{length, drop, length-append, length-drop}
-use Rattle.wire.specs.Codes.{STSD}
+use Rattle.codes.specs.Codes.{STSD}
 use Rattle.wire.specs.Numbers.{Bytes}
 use Rattle.wire.proofs.Numbers.{bytes-drop}
 use Rattle.boxes.specs.Box.{Box, size, header}

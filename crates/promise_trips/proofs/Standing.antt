@@ -4,7 +4,7 @@ use native.Mathlib.Omega.{arith}
 use mathlib.Core.Path.{refl}
 use mathlib.Core.List.{List}
 use Rattle.wire.specs.Tests.{ifEq}
-use Rattle.wire.specs.Codes.{STBL, STSD}
+use Rattle.codes.specs.Codes.{STBL, STSD}
 use Rattle.wire.specs.Numbers.{Bytes}
 use Rattle.boxes.specs.Seek.{find, count}
 use Rattle.boxes.specs.Way.{boxBy}

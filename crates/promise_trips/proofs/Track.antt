@@ -4,7 +4,7 @@ use mathlib.Core.Path.{_≡_}
 use mathlib.Core.Bool.{true}
 use mathlib.Core.List.{List}
 use Rattle.wire.specs.Tests.{ifEq}
-use Rattle.wire.specs.Codes.{TRAK, STSD}
+use Rattle.codes.specs.Codes.{TRAK, STSD}
 use Rattle.boxes.specs.Boxes.{boxes}
 use Rattle.movie.specs.Movie.{mdia, table}
 use Rattle.movie.specs.Entries.{entriesFrom}

@@ -5,7 +5,7 @@ use mathlib.Core.Path.{_≡_, refl, sym}
 use mathlib.Core.Bool.{true}
 use mathlib.Core.List.{List, [], _∷_, _++_}
 use lib.ListN.{length, length-append}
-use Rattle.wire.specs.Codes.{TRAK}
+use Rattle.codes.specs.Codes.{TRAK}
 use Rattle.wire.proofs.Clauses.{is-le, holds, done}
 use Rattle.boxes.specs.Box.{Box, size}
 use Rattle.boxes.specs.Boxes.{boxes}

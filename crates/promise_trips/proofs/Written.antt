@@ -5,7 +5,7 @@ use mathlib.Core.Path.{_≡_, refl, sym, ap, _∙_}
 use mathlib.Core.List.{List, [], _∷_, _++_, append-nil, append-assoc}
 use lib.ListN.{length, take, drop, length-drop, take-append-drop}
 use lib.Seq.{take-add}
-use Rattle.wire.specs.Codes.{STSD}
+use Rattle.codes.specs.Codes.{STSD}
 use Rattle.wire.specs.Numbers.{Bytes, bytes, word}
 use Rattle.wire.proofs.Lists.{nil-is}
 use Rattle.wire.proofs.Numbers.{bytes-drop, bytes-word}

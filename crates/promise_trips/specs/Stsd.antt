@@ -1,7 +1,7 @@
 -- The `stsd` box of a track, from 1, as it stands in its file.
 use Prim.Native.Nat.{ℕ, _+_, _-_}
 use mathlib.Core.List.{List, _++_}
-use Rattle.wire.specs.Codes.{MOOV, TRAK, MDIA, MINF, STBL, STSD}
+use Rattle.codes.specs.Codes.{MOOV, TRAK, MDIA, MINF, STBL, STSD}
 use Rattle.boxes.specs.Box.{Box, header}
 use Rattle.boxes.specs.Boxes.{HEAD, boxes}
 use Rattle.boxes.specs.Seek.{startIn, placeIn}

@@ -3,7 +3,7 @@ use Prim.Native.Nat.{ℕ, _+_}
 use mathlib.Core.List.{List, [], _∷_, _++_}
 use lib.ListN.{length}
 use Rattle.wire.specs.Numbers.{bytes}
-use Rattle.wire.specs.Codes.{FTYP, MOOV, MVHD, TRAK, TKHD, MDIA, MDHD, HDLR, MINF, DINF, DREF, URL, STBL, STSD, STTS, STSC, STSZ, STCO, MDAT, MP4V, MP4A, SAMR, SAWB, S263, AVC1, DAMR, D263, BITR, ESDS, AVCC, VIDE, SOUN, TEXT, ISOM, GP6, four}
+use Rattle.codes.specs.Codes.{FTYP, MOOV, MVHD, TRAK, TKHD, MDIA, MDHD, HDLR, MINF, DINF, DREF, URL, STBL, STSD, STTS, STSC, STSZ, STCO, MDAT, MP4V, MP4A, SAMR, SAWB, S263, AVC1, DAMR, D263, BITR, ESDS, AVCC, VIDE, SOUN, TEXT, ISOM, GP6, four}
 use Rattle.boxes.specs.Box.{Box, write}
 use Rattle.entry_heads.specs.Heads.{audioHead, visualHead, commonHead}
 use Rattle.judge.specs.Judgement.{number, judged}

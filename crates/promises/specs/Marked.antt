@@ -5,7 +5,7 @@ use mathlib.Core.List.{List, [], _∷_, _++_, map}
 use lib.Dec.{eqb}
 use lib.IntN.{ℤ, pos}
 use Rattle.wire.specs.Numbers.{bytes}
-use Rattle.wire.specs.Codes.{SAMR, SAWB, SOUN}
+use Rattle.codes.specs.Codes.{SAMR, SAWB, SOUN}
 use Rattle.entry_rules.specs.declared.entry.Around.the-variants.{Track, Alone}
 use Rattle.entry_rules.specs.Entries.{entryRule}
 use Rattle.rule.specs.Answers as answer

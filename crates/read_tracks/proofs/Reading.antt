@@ -7,7 +7,7 @@ use mathlib.Core.List.{List, [], _∷_, _++_}
 use lib.ListN.{length, getD, drop, set, length-append}
 use lib.Seq.{drop-cons, set-at, sets-eq, append-snoc}
 use Rattle.wire.specs.Writing.{Wrote}
-use Rattle.wire.specs.Codes.{STTS, STCO}
+use Rattle.codes.specs.Codes.{STTS, STCO}
 use Rattle.sample_tables.specs.Tables.{Table, count, field}
 use Rattle.sample_tables.specs.Times.{timed, mediaTicks}
 use Rattle.movie.specs.Movie.{table, handler, scale, movieTicks}

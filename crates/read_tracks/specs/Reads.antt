@@ -2,7 +2,7 @@
 use Prim.Native.Nat.{ℕ, zero, suc, _-_}
 use mathlib.Core.List.{List, [], _∷_, _++_}
 use Rattle.wire.specs.Tests.{ifEq, ifLt}
-use Rattle.wire.specs.Codes.{STTS, STCO}
+use Rattle.codes.specs.Codes.{STTS, STCO}
 use Rattle.sample_tables.specs.Tables.{count, field}
 use Rattle.sample_tables.specs.Times.{mediaTicks}
 use Rattle.movie.specs.Movie.{tracks, track, table, handler, scale, movieTicks}

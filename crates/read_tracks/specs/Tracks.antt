@@ -1,7 +1,7 @@
 -- What the tables of an accepted file's track are: the facts that reading them goes by.
 use Prim.Native.Nat.{ℕ, _≤_}
 use mathlib.Core.List.{List}
-use Rattle.wire.specs.Codes.{STTS, STCO}
+use Rattle.codes.specs.Codes.{STTS, STCO}
 use Rattle.sample_tables.specs.Tables.{Table}
 use Rattle.sample_tables.specs.Times.{timed}
 use Rattle.movie.specs.Movie.{table}

@@ -3,7 +3,6 @@ mod numbers;
 
 use judge::Judgement;
 use rule::Answer;
-use wire::codes;
 ghost use mathlib.Core.Path.{_≡_};
 ghost use Rattle.rule.specs.Answers.{inRoom, outBy};
 ghost use Rattle.judge.specs.Acceptance.{Meets};

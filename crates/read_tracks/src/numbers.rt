@@ -1,5 +1,4 @@
 // The numbers of a track, into a list that is lent.
-use wire::codes;
 ghost use Prim.Native.Nat.{_≤_};
 ghost use lib.ListN.{length};
 ghost use Rattle.wire.specs.Writing.{Wrote};

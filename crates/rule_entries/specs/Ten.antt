@@ -6,7 +6,7 @@ use lib.ListN.{take, drop}
 use Rattle.wire.specs.Tests.{ifEq}
 use Rattle.wire.specs.Numbers.{word}
 use Rattle.wire.specs.Clauses.{isEq}
-use Rattle.wire.specs.Codes.{MDIA, MDHD, HDLR, MINF, DINF, DREF, STBL, STSD}
+use Rattle.codes.specs.Codes.{MDIA, MDHD, HDLR, MINF, DINF, DREF, STBL, STSD}
 use Rattle.boxes.specs.declared.walk.BoxAt.{BoxAt}
 use Rattle.boxes.specs.Box.{Box, header}
 use Rattle.boxes.specs.Boxes.{FRONT, boxes}

@@ -8,7 +8,7 @@ use lib.Dec.{eqb}
 use borrow.Author.Tests.{eqb-true, eq-eqb}
 use Rattle.wire.specs.Tests.{pick, ifEq}
 use Rattle.wire.specs.Clauses.{oneIf}
-use Rattle.wire.specs.Codes.{FTYP, MOOV, MVHD, TRAK, TKHD, MDIA, MDHD, HDLR}
+use Rattle.codes.specs.Codes.{FTYP, MOOV, MVHD, TRAK, TKHD, MDIA, MDHD, HDLR}
 use Rattle.wire.proofs.Clauses.{yea}
 use Rattle.boxes.specs.Containers.{FILE}
 use Rattle.rule_headers.specs.Forms.{ifBox, brandsForm, headForm, handlerForm, form}

@@ -7,7 +7,7 @@ use mathlib.Core.List.{List}
 use Rattle.wire.specs.Numbers.{word}
 use Rattle.wire.specs.Clauses.{isEq, oneIf}
 use Rattle.wire.specs.Sums.{allTo}
-use Rattle.wire.specs.Codes.{TRAK, TKHD}
+use Rattle.codes.specs.Codes.{TRAK, TKHD}
 use Rattle.wire.proofs.Clauses.{is-eq, not-eq, was-nay, was-yea}
 use Rattle.wire.proofs.Sums.{all-none, all-more, all-fails}
 use Rattle.boxes.specs.Box.{Box}

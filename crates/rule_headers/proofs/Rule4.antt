@@ -6,7 +6,7 @@ use mathlib.Core.Bool.{true}
 use mathlib.Core.List.{List}
 use Rattle.wire.specs.Tests.{ifEq}
 use Rattle.wire.specs.Numbers.{word}
-use Rattle.wire.specs.Codes.{MOOV, TRAK, TKHD}
+use Rattle.codes.specs.Codes.{MOOV, TRAK, TKHD}
 use Rattle.wire.proofs.Sums.{all-of, all-at}
 use Rattle.wire.proofs.Tests.{through}
 use Rattle.boxes.specs.Boxes.{boxes}

@@ -3,7 +3,7 @@ use Prim.Native.Nat.{ℕ}
 use mathlib.Core.Bool.{Bool, true}
 use mathlib.Core.List.{List}
 use Rattle.wire.specs.Tests.{ifEq}
-use Rattle.wire.specs.Codes.{MOOV, TRAK}
+use Rattle.codes.specs.Codes.{MOOV, TRAK}
 use Rattle.boxes.specs.Boxes.{boxes}
 use Rattle.boxes.specs.Seek.{count}
 use Rattle.rule.specs.declared.Verdict.{Verdict}

@@ -5,7 +5,7 @@ use mathlib.Core.List.{List}
 use Rattle.wire.specs.Numbers.{word}
 use Rattle.wire.specs.Clauses.{isEq}
 use Rattle.wire.specs.Sums.{allTo}
-use Rattle.wire.specs.Codes.{TRAK, TKHD}
+use Rattle.codes.specs.Codes.{TRAK, TKHD}
 use Rattle.boxes.specs.Box.{Box}
 use Rattle.boxes.specs.Boxes.{boxes}
 use Rattle.boxes.specs.Seek.{count, nth, find, placeIn, startIn}

@@ -1,6 +1,5 @@
 // Rule 4 of one box: each answer is 1 or 0.
 use boxes::containers::FILE;
-use wire::codes;
 use wire::number;
 ghost use mathlib.Core.Path.{_≡_};
 ghost use Rattle.wire.specs.Clauses.{oneIf};

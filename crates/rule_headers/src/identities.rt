@@ -1,13 +1,12 @@
 // Rule 4 of many boxes: track IDs are different.
 use boxes::seek;
 use rule::Verdict;
-use wire::codes;
 use wire::number;
 ghost use mathlib.Core.Path.{_≡_};
 ghost use Prim.Native.Nat.{_+_, _^_, _<_};
 ghost use lib.ListN.{length};
 ghost use Rattle.wire.specs.Clauses.{oneIf};
-ghost use Rattle.wire.specs.Codes.{TRAK};
+ghost use Rattle.codes.specs.Codes.{TRAK};
 ghost use Rattle.boxes.specs.Boxes.{boxes};
 ghost use Rattle.boxes.specs.Seek.{count};
 ghost use Rattle.rule.specs.Verdict.{unless};

@@ -5,7 +5,7 @@ use mathlib.Core.Path.{_≡_, refl, sym, ap, subst, _∙_}
 use mathlib.Core.Bool.{true}
 use mathlib.Core.List.{List, [], _∷_}
 use Rattle.wire.specs.Tests.{ifEq}
-use Rattle.wire.specs.Codes.{MOOV, TRAK, MDIA, MINF, STBL, STSD, DINF, DREF}
+use Rattle.codes.specs.Codes.{MOOV, TRAK, MDIA, MINF, STBL, STSD, DINF, DREF}
 use Rattle.wire.proofs.Tests.{eq-kept, eq-same}
 use Rattle.boxes.specs.Box.{Box}
 use Rattle.boxes.specs.Boxes.{boxes}

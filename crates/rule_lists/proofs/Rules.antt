@@ -9,7 +9,7 @@ use lib.Dec.{eqb, leb}
 use borrow.Author.Tests.{leb-true, leb-false}
 use Rattle.wire.specs.Tests.{pick, ifEq, ifLe}
 use Rattle.wire.specs.Clauses.{isLe}
-use Rattle.wire.specs.Codes.{TRAK, MOOV, DINF, DREF}
+use Rattle.codes.specs.Codes.{TRAK, MOOV, DINF, DREF}
 use Rattle.wire.proofs.Numbers.{word-out}
 use Rattle.wire.proofs.Clauses.{is-le, not-le}
 use Rattle.wire.proofs.Tests.{through}

@@ -6,7 +6,7 @@ use mathlib.Core.Path.{_≡_, refl, sym, _∙_}
 use mathlib.Core.List.{List, []}
 use lib.ListN.{length, getD, drop, drop-of-length-le}
 use lib.Seq.{drop-cons}
-use Rattle.wire.specs.Codes.{MDIA, MINF, STBL, STSD}
+use Rattle.codes.specs.Codes.{MDIA, MINF, STBL, STSD}
 use Rattle.wire.specs.Numbers.{Bytes}
 use Rattle.wire.proofs.Tests.{le-yea, le-nay}
 use Rattle.boxes.specs.declared.walk.Walk.{Walk}

@@ -7,7 +7,7 @@ use lib.ListN.{length, drop}
 use Rattle.wire.specs.Tests.{ifEq}
 use Rattle.wire.specs.Numbers.{word}
 use Rattle.wire.specs.Clauses.{isEq, isLe, every}
-use Rattle.wire.specs.Codes.{STBL, STSD, DINF, DREF}
+use Rattle.codes.specs.Codes.{STBL, STSD, DINF, DREF}
 use Rattle.boxes.specs.Boxes.{FRONT, boxes, after}
 use Rattle.boxes.specs.Seek.{ANY, count}
 

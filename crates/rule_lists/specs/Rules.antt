@@ -2,7 +2,7 @@
 use mathlib.Core.Bool.{true}
 use Rattle.wire.specs.Tests.{ifEq}
 use Rattle.wire.specs.Clauses.{isLe}
-use Rattle.wire.specs.Codes.{MOOV}
+use Rattle.codes.specs.Codes.{MOOV}
 use Rattle.boxes.specs.Boxes.{boxes}
 use Rattle.rule.specs.declared.Verdict.the-variants.{Fine}
 use Rattle.rule.specs.Verdict.{unless}

@@ -6,7 +6,7 @@ use lib.ListN.{length, drop}
 use Rattle.wire.specs.Tests.{ifEq}
 use Rattle.wire.specs.Numbers.{word}
 use Rattle.wire.specs.Clauses.{isEq, every}
-use Rattle.wire.specs.Codes.{DINF, DREF, URL}
+use Rattle.codes.specs.Codes.{DINF, DREF, URL}
 use Rattle.boxes.specs.Box.{Box}
 use Rattle.boxes.specs.Boxes.{boxes, FRONT}
 use Rattle.rule.specs.declared.Verdict.{Verdict}

@@ -2,7 +2,6 @@
 use boxes::seek;
 use boxes::seek::Tiling;
 use boxes::walk::FRONT;
-use wire::codes;
 use wire::lend;
 use wire::number;
 ghost use mathlib.Core.Path.{_≡_};

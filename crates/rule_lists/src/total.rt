@@ -6,7 +6,6 @@ use boxes::walk::BoxAt;
 use boxes::walk::Step;
 use boxes::walk::Walk;
 use rule::Verdict;
-use wire::codes;
 use wire::number;
 ghost use mathlib.Core.Path.{_≡_};
 ghost use Prim.Native.Nat.{_+_, _^_, _≤_, _<_};

@@ -4,7 +4,6 @@ use boxes::walk::BoxAt;
 use boxes::walk::Step;
 use boxes::walk::Walk;
 use rule::Verdict;
-use wire::codes;
 use wire::lend;
 use wire::number;
 ghost use mathlib.Core.Path.{_≡_};

@@ -8,7 +8,7 @@ use lib.Dec.{eqb, ltb}
 use borrow.Author.Tests.{ne-eqb, ltb-true}
 use Rattle.wire.specs.Tests.{pick, ifEq}
 use Rattle.wire.specs.Clauses.{isEq}
-use Rattle.wire.specs.Codes.{FTYP, MOOV, TRAK}
+use Rattle.codes.specs.Codes.{FTYP, MOOV, TRAK}
 use Rattle.wire.proofs.Tests.{both, eq-or}
 use Rattle.wire.proofs.Clauses.{eq-is, le-is, clause}
 use Rattle.boxes.specs.Box.{Box}

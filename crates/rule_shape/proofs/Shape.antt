@@ -8,7 +8,7 @@ use mathlib.Core.List.{List, []}
 use lib.ListN.{length, getD, drop}
 use lib.Seq.{drop-cons, drop-length}
 use Rattle.wire.specs.Clauses.{oneIf}
-use Rattle.wire.specs.Codes.{MOOV, TRAK, MDIA, MINF, DINF, STBL}
+use Rattle.codes.specs.Codes.{MOOV, TRAK, MDIA, MINF, DINF, STBL}
 use Rattle.wire.proofs.Tests.{eq-nay}
 use Rattle.wire.proofs.Clauses.{is-eq, not-eq}
 use Rattle.boxes.specs.declared.walk.Walk.{Walk}

@@ -4,7 +4,7 @@ use mathlib.Core.Bool.{Bool, true, false}
 use mathlib.Core.List.{List, [], _∷_}
 use Rattle.wire.specs.Tests.{pick, ifEq}
 use Rattle.wire.specs.Clauses.{isEq, isLe, every}
-use Rattle.wire.specs.Codes.{FTYP, MOOV, MVHD, TRAK, TKHD, MDIA, MDHD, HDLR, MINF, DINF, DREF, STBL, STSD, STTS, STSC, STSZ, STCO, MOOF, MFRA, SIDX, META, CO64, SAIO}
+use Rattle.codes.specs.Codes.{FTYP, MOOV, MVHD, TRAK, TKHD, MDIA, MDHD, HDLR, MINF, DINF, DREF, STBL, STSD, STTS, STSC, STSZ, STCO, MOOF, MFRA, SIDX, META, CO64, SAIO}
 use Rattle.boxes.specs.Box.{Box}
 use Rattle.boxes.specs.Containers.{FILE}
 use Rattle.boxes.specs.Seek.{count}

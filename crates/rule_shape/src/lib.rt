@@ -3,7 +3,6 @@ use boxes::containers::FILE;
 use boxes::seek;
 use boxes::walk::Step;
 use boxes::walk::Walk;
-use wire::codes;
 ghost use mathlib.Core.Path.{_≡_};
 ghost use Rattle.wire.specs.Clauses.{oneIf};
 ghost use Rattle.boxes.specs.Boxes.{boxes};

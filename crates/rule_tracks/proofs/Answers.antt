@@ -7,7 +7,7 @@ use borrow.Author.Tests.{eq-eqb, ne-eqb}
 use Rattle.wire.specs.Tests.{ifEq}
 use Rattle.wire.specs.Numbers.{word}
 use Rattle.wire.specs.Clauses.{oneIf}
-use Rattle.wire.specs.Codes.{STSD, STTS, STSC, STSZ, STCO}
+use Rattle.codes.specs.Codes.{STSD, STTS, STSC, STSZ, STCO}
 use Rattle.wire.proofs.Clauses.{clause, was-nay, was-yea, yea}
 use Rattle.boxes.specs.Box.{Box}
 use Rattle.boxes.specs.Seek.{find}

@@ -5,7 +5,7 @@ use mathlib.Core.Bool.{true}
 use mathlib.Core.List.{List}
 use Rattle.wire.specs.Tests.{ifEq}
 use Rattle.wire.specs.Numbers.{word}
-use Rattle.wire.specs.Codes.{STBL, STSD, STTS, STSC, STSZ, STCO}
+use Rattle.codes.specs.Codes.{STBL, STSD, STTS, STSC, STSZ, STCO}
 use Rattle.wire.proofs.Clauses.{holds, done}
 use Rattle.boxes.specs.Box.{Box}
 use Rattle.boxes.specs.Boxes.{boxes}

@@ -6,7 +6,7 @@ use mathlib.Core.Bool.{true, false}
 use mathlib.Core.List.{List}
 use Rattle.wire.specs.Numbers.{word}
 use Rattle.wire.specs.Clauses.{oneIf}
-use Rattle.wire.specs.Codes.{STBL, STSD, STTS, STSC, STSZ, STCO}
+use Rattle.codes.specs.Codes.{STBL, STSD, STTS, STSC, STSZ, STCO}
 use Rattle.wire.proofs.Clauses.{yea, was-nay, was-yea}
 use Rattle.wire.proofs.Tests.{eq-yea, eq-nay}
 use Rattle.boxes.specs.Box.{Box}

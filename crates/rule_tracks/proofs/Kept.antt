@@ -6,7 +6,7 @@ use mathlib.Core.Bool.{Bool, true}
 use mathlib.Core.List.{List}
 use Rattle.wire.specs.Tests.{pick, ifEq}
 use Rattle.wire.specs.Numbers.{word}
-use Rattle.wire.specs.Codes.{STBL, STSD, STTS, STSC, STSZ, STCO}
+use Rattle.codes.specs.Codes.{STBL, STSD, STTS, STSC, STSZ, STCO}
 use Rattle.boxes.specs.Boxes.{boxes}
 use Rattle.boxes.specs.Seek.{find}
 use Rattle.boxes.specs.Containers.{kindIn, parent}

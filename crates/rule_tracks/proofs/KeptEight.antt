@@ -5,7 +5,7 @@ use mathlib.Core.Path.{_≡_, refl, _∙_}
 use mathlib.Core.Bool.{Bool, true, false}
 use mathlib.Core.List.{List}
 use Rattle.wire.specs.Tests.{pick, ifEq}
-use Rattle.wire.specs.Codes.{STBL, STSC, STSZ, STCO}
+use Rattle.codes.specs.Codes.{STBL, STSC, STSZ, STCO}
 use Rattle.wire.proofs.Tests.{through}
 use Rattle.boxes.specs.Box.{Box}
 use Rattle.boxes.specs.Boxes.{boxes}

@@ -3,7 +3,7 @@ use Prim.Native.Nat.{ℕ, _+_}
 use mathlib.Core.Bool.{Bool, true}
 use mathlib.Core.List.{List}
 use Rattle.wire.specs.Tests.{pick, ifEq}
-use Rattle.wire.specs.Codes.{STBL, STSC, STSZ, STCO}
+use Rattle.codes.specs.Codes.{STBL, STSC, STSZ, STCO}
 use Rattle.boxes.specs.Box.{Box}
 use Rattle.boxes.specs.Boxes.{boxes}
 use Rattle.boxes.specs.Seek.{find, placeIn}

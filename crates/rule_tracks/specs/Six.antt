@@ -4,7 +4,7 @@ use mathlib.Core.Bool.{Bool, true}
 use mathlib.Core.List.{List, [], _∷_}
 use Rattle.wire.specs.Tests.{ifEq}
 use Rattle.wire.specs.Clauses.{every}
-use Rattle.wire.specs.Codes.{STBL, STTS, STSC, STSZ, STCO}
+use Rattle.codes.specs.Codes.{STBL, STTS, STSC, STSZ, STCO}
 use Rattle.boxes.specs.Box.{Box}
 use Rattle.boxes.specs.Seek.{find}
 use Rattle.sample_tables.specs.Tables.{tableForm}

@@ -5,7 +5,6 @@ use rule::Verdict;
 use sample_tables::agree;
 use sample_tables::size;
 use sample_tables::table;
-use wire::codes;
 use wire::number;
 ghost use mathlib.Core.Path.{_≡_};
 ghost use Prim.Native.Nat.{_+_, _^_, _<_};

@@ -3,7 +3,7 @@ use Prim.Native.Nat.{ℕ}
 use mathlib.Core.Path.{_≡_, refl}
 use mathlib.Core.List.{List}
 use Rattle.wire.specs.Tests.{ifEq}
-use Rattle.wire.specs.Codes.{MOOV, TRAK, STSD}
+use Rattle.codes.specs.Codes.{MOOV, TRAK, STSD}
 use Rattle.wire.proofs.Tests.{eq-same}
 use Rattle.wire.proofs.Clauses.{le-is}
 use Rattle.boxes.specs.Box.{Box}

@@ -6,7 +6,7 @@ use mathlib.Core.Bool.{true}
 use mathlib.Core.List.{List}
 use lib.ListN.{length, length-append}
 use Rattle.wire.specs.Clauses.{oneIf}
-use Rattle.wire.specs.Codes.{STSD}
+use Rattle.codes.specs.Codes.{STSD}
 use Rattle.wire.specs.Numbers.{bytes}
 use Rattle.wire.specs.Writing.{Put}
 use Rattle.wire.proofs.Tests.{lt-yea, lt-nay}

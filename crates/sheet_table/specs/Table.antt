@@ -6,7 +6,7 @@ use lib.ListN.{length}
 use Rattle.wire.specs.Tests.{pick, ifEq, ifLt}
 use Rattle.wire.specs.Clauses.{isLe, every}
 use Rattle.wire.specs.Numbers.{bytes}
-use Rattle.wire.specs.Codes.{STSD}
+use Rattle.codes.specs.Codes.{STSD}
 use Rattle.boxes.specs.Containers.{LONGEST}
 use Rattle.movie.specs.Entries.{Entry}
 use Rattle.rule.specs.declared.Answer.{Answer}

@@ -1,7 +1,6 @@
 // The table writer: from a sheet and a track the `stsd` box of that track.
 use boxes::containers;
 use rule::Answer;
-use wire::codes;
 use wire::lend;
 use wire::number;
 use wire::pen;

@@ -3,6 +3,5 @@ pub mod Numbers
 pub mod Sums
 pub mod Writing
 pub mod Text
-pub mod Codes
 pub mod Same
 pub mod Clauses

@@ -1,5 +1,4 @@
 // Bytes and big-endian numbers in lent parts: nothing here knows of files.
-pub mod codes;
 pub mod compare;
 pub mod lend;
 pub mod number;

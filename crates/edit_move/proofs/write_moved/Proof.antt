@@ -1,5 +1,5 @@
 use borrow.Author.Needs.{needs}
-use Rattle.wire.specs.Codes.{MOOV}
+use Rattle.codes.specs.Codes.{MOOV}
 use Rattle.boxes.proofs.Cutting.{cut-as, none-as}
 use Rattle.edit_move.proofs.Calls.{move-none, move-from, move-done}
 use Rattle.edit_move.proofs.write_moved.Statement.{statement}

@@ -3,7 +3,7 @@ use Rattle.rule_shape.proofs.Shape.{ones-at, ones-none}
 use Rattle.rule_shape.specs.Shape.{needed}
 use Rattle.wire.proofs.Clauses.{yea}
 use Rattle.boxes.specs.Containers.{FILE}
-use Rattle.wire.specs.Codes.{MOOV, TRAK, MDIA, MINF, DINF, STBL}
+use Rattle.codes.specs.Codes.{MOOV, TRAK, MDIA, MINF, DINF, STBL}
 use Rattle.wire.specs.Tests.{ifEq}
 use Rattle.rule_shape.proofs.one_each.Statement.{statement}
 use Rattle.rule_shape.proofs.one_each.Tie as tie

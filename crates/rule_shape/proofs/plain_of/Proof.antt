@@ -3,7 +3,7 @@ use Rattle.rule_shape.proofs.Shape.{barred-at, barred-none}
 use Rattle.rule_shape.specs.Shape.{barred}
 use Rattle.wire.proofs.Clauses.{yea}
 use Rattle.boxes.specs.Containers.{FILE}
-use Rattle.wire.specs.Codes.{MOOV, TRAK, STBL}
+use Rattle.codes.specs.Codes.{MOOV, TRAK, STBL}
 use Rattle.wire.specs.Tests.{ifEq}
 use Rattle.rule_shape.proofs.plain_of.Statement.{statement}
 use Rattle.rule_shape.proofs.plain_of.Tie as tie

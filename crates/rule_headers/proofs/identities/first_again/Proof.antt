@@ -6,7 +6,7 @@ use Rattle.boxes.specs.Seek.{count}
 use Rattle.rule_headers.proofs.Fresh.{fresh-start, fresh-next}
 use Rattle.rule_headers.specs.Identities.{freshTo}
 use Rattle.rule.specs.Verdict.{sooner}
-use Rattle.wire.specs.Codes.{TRAK}
+use Rattle.codes.specs.Codes.{TRAK}
 use mathlib.Core.Path.{_≡_, ap, _∙_}
 use native.Mathlib.Omega.{arith}
 use Rattle.rule_headers.proofs.identities.first_again.Statement.{statement}
