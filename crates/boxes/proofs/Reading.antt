@@ -10,7 +10,7 @@ use Rattle.wire.specs.Tests.{pick}
 use Rattle.wire.specs.Numbers.{Bytes}
 use Rattle.wire.proofs.Numbers.{bytes-drop, bytes-take, word-fits}
 use Rattle.boxes.specs.Box.{Box, header, write}
-use Rattle.boxes.specs.Boxes.{HEAD, sizeOf, whole, front, boxesBy, boxes, total, after}
+use Rattle.boxes.specs.Boxes.{HEAD, sizeOf, whole, frontBox, boxesBy, boxes, total, after}
 use Rattle.boxes.proofs.Whole.{whole-true, short-not, length-header, size-front, rebox, Good}
 
 -- ---- the bytes of boxes
@@ -40,15 +40,15 @@ enough (suc n) zero xs h k = by-stop (suc n) xs (short-not xs (omega arith))
 enough (suc n) (suc m) xs h k = go (whole xs) refl (enough n m (drop (sizeOf xs) xs))
   where
     go : (t : Bool) → whole xs ≡ t → (length (drop (sizeOf xs) xs) ≤ n → length (drop (sizeOf xs) xs) ≤ m → boxesBy n (drop (sizeOf xs) xs) ≡ boxesBy m (drop (sizeOf xs) xs))
-        → pick t (front xs ∷ boxesBy n (drop (sizeOf xs) xs)) [] ≡ pick t (front xs ∷ boxesBy m (drop (sizeOf xs) xs)) []
-    go true e ih = let w = whole-true xs e in ap (λ (l : List Box). front xs ∷ l) (ih (rw length-drop (omega arith)) (rw length-drop (omega arith)))
+        → pick t (frontBox xs ∷ boxesBy n (drop (sizeOf xs) xs)) [] ≡ pick t (frontBox xs ∷ boxesBy m (drop (sizeOf xs) xs)) []
+    go true e ih = let w = whole-true xs e in ap (λ (l : List Box). frontBox xs ∷ l) (ih (rw length-drop (omega arith)) (rw length-drop (omega arith)))
     go false e ih = refl
 
 pub boxes-stop : (xs : List ℕ) → whole xs ≡ false → boxes xs ≡ []
 unfolding boxes
 boxes-stop xs e = by-stop (length xs) xs e
 
-pub boxes-next : (xs : List ℕ) → whole xs ≡ true → boxes xs ≡ front xs ∷ boxes (drop (sizeOf xs) xs)
+pub boxes-next : (xs : List ℕ) → whole xs ≡ true → boxes xs ≡ frontBox xs ∷ boxes (drop (sizeOf xs) xs)
 unfolding boxes
 boxes-next [] e = absurd (omega (arith, whole-true [] e))
 boxes-next (x ∷ xs) e =
@@ -78,7 +78,7 @@ lengths-by (suc n) xs l = go (whole xs) refl (lengths-by n (drop (sizeOf xs) xs)
     go true e ih =
         let w = whole-true xs e in
         let d = length-drop (sizeOf xs) xs in
-        rw (boxes-next xs e, after-next xs e) (omega (arith, length-cons (front xs) (boxes (drop (sizeOf xs) xs)), size-front xs e, ih (omega arith)))
+        rw (boxes-next xs e, after-next xs e) (omega (arith, length-cons (frontBox xs) (boxes (drop (sizeOf xs) xs)), size-front xs e, ih (omega arith)))
     go false e ih = lengths-none xs e
 
 pub lengths : (xs : List ℕ) → length (write (boxes xs)) + length (after xs) ≡ length xs
@@ -111,7 +111,7 @@ parts-more xs h e p =
     record {
       good = rw (boxes-next xs e) (some (record { head = refl; code = word-fits 4 xs 4 h }) (p .good));
       filled = rw (boxes-next xs e) (some (bytes-take (sizeOf xs - HEAD) (drop HEAD xs) (bytes-drop HEAD xs h)) (p .filled));
-      again = rw (boxes-next xs e, after-next xs e) (write-cons (front xs) (boxes (drop (sizeOf xs) xs)) (after (drop (sizeOf xs) xs)) ∙ rw (p .again) (rebox xs h e));
+      again = rw (boxes-next xs e, after-next xs e) (write-cons (frontBox xs) (boxes (drop (sizeOf xs) xs)) (after (drop (sizeOf xs) xs)) ∙ rw (p .again) (rebox xs h e));
       rest = rw (after-next xs e) (p .rest);
     }
 

@@ -13,7 +13,7 @@ use Rattle.wire.specs.Numbers.{Bytes, bytes, word}
 use Rattle.wire.proofs.Tests.{both}
 use Rattle.wire.proofs.Numbers.{length-bytes, word-bytes, bytes-word, word-right}
 use Rattle.boxes.specs.Box.{Box, size, header}
-use Rattle.boxes.specs.Boxes.{HEAD, sizeOf, whole, front}
+use Rattle.boxes.specs.Boxes.{HEAD, sizeOf, whole, frontBox}
 
 -- ---- as facts
 
@@ -50,17 +50,17 @@ pub length-header : (x : Box) → length (header x) ≡ 8
 unfolding header
 length-header x = length-append (bytes 4 (size x)) (bytes 4 (x .code)) ∙ omega (arith, length-bytes 4 (size x), length-bytes 4 (x .code))
 
-pub size-front : (xs : List ℕ) → whole xs ≡ true → size (front xs) ≡ sizeOf xs
+pub size-front : (xs : List ℕ) → whole xs ≡ true → size (frontBox xs) ≡ sizeOf xs
 size-front xs e = let w = whole-true xs e in rw (length-take, length-drop) (omega arith)
 
 -- the box at the front, written again
-pub rebox : (xs : List ℕ) → Bytes xs → whole xs ≡ true → header (front xs) ++ (front xs .body ++ drop (sizeOf xs) xs) ≡ xs
+pub rebox : (xs : List ℕ) → Bytes xs → whole xs ≡ true → header (frontBox xs) ++ (frontBox xs .body ++ drop (sizeOf xs) xs) ≡ xs
 unfolding header
 rebox xs h e =
     let w = whole-true xs e in
     let s : HEAD + (sizeOf xs - HEAD) ≡ sizeOf xs = omega arith in
-    let b : front xs .body ++ drop (sizeOf xs) xs ≡ drop HEAD xs =
-    ap (λ (t : List ℕ). front xs .body ++ t) (ap (λ (n : ℕ). drop n xs) (sym s) ∙ sym (drop-drop (sizeOf xs - HEAD) HEAD xs)) ∙ take-append-drop (sizeOf xs - HEAD) (drop HEAD xs) in
+    let b : frontBox xs .body ++ drop (sizeOf xs) xs ≡ drop HEAD xs =
+    ap (λ (t : List ℕ). frontBox xs .body ++ t) (ap (λ (n : ℕ). drop n xs) (sym s) ∙ sym (drop-drop (sizeOf xs - HEAD) HEAD xs)) ∙ take-append-drop (sizeOf xs - HEAD) (drop HEAD xs) in
     rw (size-front xs e, bytes-word 4 xs 0 h (omega arith), bytes-word 4 xs 4 h (omega arith), b, ← take-add 4 4 xs) (take-append-drop 8 xs)
 
 -- ---- of a box that was written
@@ -82,7 +82,7 @@ module _ (x : Box) (r : List ℕ) (g : Good x) (s : size x < 4294967296) where
   body-box : take (size x - HEAD) (drop HEAD (header x ++ (x .body ++ r))) ≡ x .body
   body-box = rw (drop-at (header x) (x .body ++ r) 8 (length-header x)) (take-at (x .body) r (size x - HEAD) (omega (arith, g .head)))
 
-  pub front-box : front (header x ++ (x .body ++ r)) ≡ x
+  pub front-box : frontBox (header x ++ (x .body ++ r)) ≡ x
   front-box = rw (size-box, code-box, body-box) (ap (λ (n : ℕ). record { head = n; code = x .code; body = x .body }) (sym (g .head)))
 
   pub rest-box : drop (size x) (header x ++ (x .body ++ r)) ≡ r

@@ -5,6 +5,7 @@ use mathlib.Core.List.{List, [], _∷_}
 use lib.ListN.{length, take, drop}
 use Rattle.wire.specs.Tests.{pick, ifLe}
 use Rattle.wire.specs.Numbers.{word}
+use Rattle.wire.specs.Clauses.{isEq}
 use Rattle.boxes.specs.Box.{Box, size}
 
 -- the length of a header
@@ -24,12 +25,12 @@ unfoldable pub whole : List ℕ → Bool
 whole xs = ifLe HEAD (sizeOf xs) (ifLe (sizeOf xs) (length xs) true false) false
 
 -- the box at the front, where it is whole
-abbrev pub front : List ℕ → Box
-front xs = record { head = HEAD; code = word 4 xs 4; body = take (sizeOf xs - HEAD) (drop HEAD xs) }
+abbrev pub frontBox : List ℕ → Box
+frontBox xs = record { head = HEAD; code = word 4 xs 4; body = take (sizeOf xs - HEAD) (drop HEAD xs) }
 
 abbrev pub boxesBy : ℕ → List ℕ → List Box
 boxesBy zero xs = []
-boxesBy (suc n) xs = pick (whole xs) (front xs ∷ boxesBy n (drop (sizeOf xs) xs)) []
+boxesBy (suc n) xs = pick (whole xs) (frontBox xs ∷ boxesBy n (drop (sizeOf xs) xs)) []
 
 -- the whole boxes that stand one after the other from the front on
 unfoldable pub boxes : List ℕ → List Box
@@ -42,3 +43,7 @@ total (x ∷ l) = size x + total l
 -- the bytes past the last of them: none where boxes tile the part
 unfoldable pub after : List ℕ → List ℕ
 after xs = drop (total (boxes xs)) xs
+
+-- boxes tile the part: nothing stands past the last whole one
+abbrev pub tiles : List ℕ → Bool
+tiles xs = isEq (length (after xs)) 0

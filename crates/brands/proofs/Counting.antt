@@ -10,7 +10,7 @@ use Rattle.wire.specs.Clauses.{isEq, oneIf}
 use Rattle.wire.proofs.Sums.{sum-none, sum-more, all-none, all-more, all-fails}
 use Rattle.movie.specs.Movie.{track, handler}
 use Rattle.rule_tracks.proofs.Answers.{found-nay, found-yea}
-use Rattle.brands.specs.Brands.{timesTo, times, handledTo, single, singleTo, plain, plainTo}
+use Rattle.brands.specs.Brands.{timesTo, timesListed, handledTo, single, singleTo, noAvc1, noAvc1To}
 
 module _ (c : ℕ) (ftyp : List ℕ) where
   pub times-none : 0 ≡ timesTo c ftyp 0
@@ -22,7 +22,7 @@ module _ (c : ℕ) (ftyp : List ℕ) where
   times-more i p q e = rw (e, q, p) (sym (sum-more (λ i. oneIf (isEq (word 4 ftyp (8 + 4 * i)) c)) i))
 
   -- too short for a list
-  pub times-short : length ftyp < 8 → 0 ≡ times c ftyp
+  pub times-short : length ftyp < 8 → 0 ≡ timesListed c ftyp
   times-short h = let e : (length ftyp - 8) / 4 ≡ 0 = omega arith in rw e times-none
 
 module _ (h : ℕ) (xs : List ℕ) where
@@ -41,9 +41,9 @@ module _ (xs : List ℕ) where
   unfolding singleTo
   single-none = all-none (λ t. single (track xs t))
 
-  pub plain-none : plainTo xs 0 ≡ true
-  unfolding plainTo
-  plain-none = all-none (λ t. plain (track xs t))
+  pub plain-none : noAvc1To xs 0 ≡ true
+  unfolding noAvc1To
+  plain-none = all-none (λ t. noAvc1 (track xs t))
 
   module _ (t : ℕ) {b : List ℕ} {r : ℕ} (f : b ≡ track xs t) where
     pub single-more : r ≡ oneIf (single b) → (r ≡ 0 → ⊥) → singleTo xs t ≡ true → singleTo xs (t + 1) ≡ true
@@ -54,10 +54,10 @@ module _ (xs : List ℕ) where
     unfolding singleTo
     single-fails n h e z = sym (all-fails (λ t. single (track xs t)) n t h (found-nay single e (track xs t) f z))
 
-    pub plain-more : r ≡ oneIf (plain b) → (r ≡ 0 → ⊥) → plainTo xs t ≡ true → plainTo xs (t + 1) ≡ true
-    unfolding plainTo
-    plain-more e z h = all-more (λ t. plain (track xs t)) t h (found-yea plain e (track xs t) f z)
+    pub plain-more : r ≡ oneIf (noAvc1 b) → (r ≡ 0 → ⊥) → noAvc1To xs t ≡ true → noAvc1To xs (t + 1) ≡ true
+    unfolding noAvc1To
+    plain-more e z h = all-more (λ t. noAvc1 (track xs t)) t h (found-yea noAvc1 e (track xs t) f z)
 
-    pub plain-fails : (n : ℕ) → t < n → r ≡ oneIf (plain b) → r ≡ 0 → false ≡ plainTo xs n
-    unfolding plainTo
-    plain-fails n h e z = sym (all-fails (λ t. plain (track xs t)) n t h (found-nay plain e (track xs t) f z))
+    pub plain-fails : (n : ℕ) → t < n → r ≡ oneIf (noAvc1 b) → r ≡ 0 → false ≡ noAvc1To xs n
+    unfolding noAvc1To
+    plain-fails n h e z = sym (all-fails (λ t. noAvc1 (track xs t)) n t h (found-nay noAvc1 e (track xs t) f z))

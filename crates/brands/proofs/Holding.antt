@@ -12,29 +12,29 @@ use Rattle.boxes.specs.Box.{Box}
 use Rattle.boxes.specs.Boxes.{boxes}
 use Rattle.boxes.specs.Seek.{ANY, count}
 use Rattle.boxes.proofs.Numbered.{count-any}
-use Rattle.movie.specs.Movie.{table}
+use Rattle.movie.specs.Movie.{sampleTable}
 use Rattle.movie.specs.Named.{listIn}
-use Rattle.brands.specs.Brands.{times, listed, oneEntry, plain, second, ready}
+use Rattle.brands.specs.Brands.{timesListed, brandListed, oneEntry, noAvc1, second, ready}
 
 -- ---- a brand that is listed, and one that isn't
 
-module _ (c : ℕ) (ftyp : List ℕ) {b : List ℕ} {r : ℕ} (f : b ≡ ftyp) (e : r ≡ times c b) where
-  pub listed-yea : (r ≡ 0 → ⊥) → listed c ftyp ≡ true
-  unfolding listed
+module _ (c : ℕ) (ftyp : List ℕ) {b : List ℕ} {r : ℕ} (f : b ≡ ftyp) (e : r ≡ timesListed c b) where
+  pub listed-yea : (r ≡ 0 → ⊥) → brandListed c ftyp ≡ true
+  unfolding brandListed
   listed-yea z = rw (← f) (is-lt _ _ (omega arith))
 
-  pub listed-nay : r ≡ 0 → listed c ftyp ≡ false
-  unfolding listed
+  pub listed-nay : r ≡ 0 → brandListed c ftyp ≡ false
+  unfolding brandListed
   listed-nay z = rw (← f) (not-lt _ _ (omega arith))
 
 -- ---- a track's entries
 
-pub one-is : (b : List ℕ) {stsd : List ℕ} {n r : ℕ} → stsd ≡ table STSD b → n ≡ word 4 stsd 4 → r ≡ oneIf (isEq n 1) → r ≡ oneIf (oneEntry b)
+pub one-is : (b : List ℕ) {stsd : List ℕ} {n r : ℕ} → stsd ≡ sampleTable STSD b → n ≡ word 4 stsd 4 → r ≡ oneIf (isEq n 1) → r ≡ oneIf (oneEntry b)
 unfolding oneEntry
 one-is b f g e = e ∙ rw (g, f)
 
-pub plain-is : (b : List ℕ) {list : List ℕ} {n r : ℕ} → list ≡ listIn b → n ≡ count AVC1 (boxes list) → r ≡ oneIf (isEq n 0) → r ≡ oneIf (plain b)
-unfolding plain
+pub plain-is : (b : List ℕ) {list : List ℕ} {n r : ℕ} → list ≡ listIn b → n ≡ count AVC1 (boxes list) → r ≡ oneIf (isEq n 0) → r ≡ oneIf (noAvc1 b)
+unfolding noAvc1
 plain-is b f g e = e ∙ rw (g, f)
 
 -- ---- the second box

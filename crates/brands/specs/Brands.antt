@@ -11,7 +11,7 @@ use Rattle.codes.specs.Codes.{FTYP, MOOV, STSD, AVC1, VIDE, SOUN, TEXT, ISOM, G
 use Rattle.boxes.specs.Box.{Box}
 use Rattle.boxes.specs.Boxes.{boxes}
 use Rattle.boxes.specs.Seek.{count, find}
-use Rattle.movie.specs.Movie.{tracks, track, table, handler}
+use Rattle.movie.specs.Movie.{tracks, track, sampleTable, handler}
 use Rattle.movie.specs.Named.{listIn}
 
 -- ---- the compatible list of an `ftyp` payload: after the major brand and the minor version
@@ -20,11 +20,11 @@ use Rattle.movie.specs.Named.{listIn}
 unfoldable pub timesTo : ℕ → List ℕ → ℕ → ℕ
 timesTo c ftyp n = sumTo (λ i. oneIf (isEq (word 4 ftyp (8 + 4 * i)) c)) n
 
-abbrev pub times : ℕ → List ℕ → ℕ
-times c ftyp = timesTo c ftyp ((length ftyp - 8) / 4)
+abbrev pub timesListed : ℕ → List ℕ → ℕ
+timesListed c ftyp = timesTo c ftyp ((length ftyp - 8) / 4)
 
-unfoldable pub listed : ℕ → List ℕ → Bool
-listed c ftyp = isLt 0 (times c ftyp)
+unfoldable pub brandListed : ℕ → List ℕ → Bool
+brandListed c ftyp = isLt 0 (timesListed c ftyp)
 
 -- ---- the tracks of a file
 
@@ -37,7 +37,7 @@ handled h xs = handledTo h xs (tracks xs)
 
 -- the count that a track's `stsd` stores is 1: rule 5 makes it the number of its sample entries
 unfoldable pub oneEntry : List ℕ → Bool
-oneEntry b = isEq (word 4 (table STSD b) 4) 1
+oneEntry b = isEq (word 4 (sampleTable STSD b) 4) 1
 
 -- "one sample entry in each vide and soun track"
 unfoldable pub single : List ℕ → Bool
@@ -47,11 +47,11 @@ unfoldable pub singleTo : List ℕ → ℕ → Bool
 singleTo xs n = allTo (λ t. single (track xs t)) n
 
 -- "no avc1 entry"
-unfoldable pub plain : List ℕ → Bool
-plain b = isEq (count AVC1 (boxes (listIn b))) 0
+unfoldable pub noAvc1 : List ℕ → Bool
+noAvc1 b = isEq (count AVC1 (boxes (listIn b))) 0
 
-unfoldable pub plainTo : List ℕ → ℕ → Bool
-plainTo xs n = allTo (λ t. plain (track xs t)) n
+unfoldable pub noAvc1To : List ℕ → ℕ → Bool
+noAvc1To xs n = allTo (λ t. noAvc1 (track xs t)) n
 
 -- ---- the brands' own conditions
 
@@ -61,7 +61,7 @@ few xs = every (isLe (handled VIDE xs) 1 ∷ isLe (handled SOUN xs) 1 ∷ isLe (
 
 -- "3gp4 and 3gp5 also need no avc1 entry"
 unfoldable pub early : List ℕ → Bool
-early xs = every (few xs ∷ plainTo xs (tracks xs) ∷ [])
+early xs = every (few xs ∷ noAvc1To xs (tracks xs) ∷ [])
 
 -- the code of the second box, 0 where there is none
 unfoldable pub second : List Box → ℕ
@@ -74,8 +74,8 @@ unfoldable pub ready : List ℕ → Bool
 ready xs = isEq (second (boxes xs)) MOOV
 
 -- no other code is a brand
-unfoldable pub own : ℕ → List ℕ → Bool
-own code xs = ifEq code GP4 (early xs) (ifEq code GP5 (early xs) (ifEq code GP6 (few xs) (ifEq code GR6 (ready xs) false)))
+unfoldable pub ownConditions : ℕ → List ℕ → Bool
+ownConditions code xs = ifEq code GP4 (early xs) (ifEq code GP5 (early xs) (ifEq code GP6 (few xs) (ifEq code GR6 (ready xs) false)))
 
 unfoldable pub brandHolds : ℕ → List ℕ → Bool
-brandHolds code xs = every (listed code (find FTYP (boxes xs)) ∷ listed ISOM (find FTYP (boxes xs)) ∷ own code xs ∷ [])
+brandHolds code xs = every (brandListed code (find FTYP (boxes xs)) ∷ brandListed ISOM (find FTYP (boxes xs)) ∷ ownConditions code xs ∷ [])

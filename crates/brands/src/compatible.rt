@@ -3,7 +3,7 @@ use wire::number;
 ghost use mathlib.Core.Path.{_≡_};
 ghost use Prim.Native.Nat.{_≤_};
 ghost use Rattle.wire.specs.Clauses.{isEq, oneIf};
-ghost use Rattle.brands.specs.Brands.{times as timesOf};
+ghost use Rattle.brands.specs.Brands.{timesListed};
 
 // 1 where two numbers are the same, else 0.
 pub fn equal(m: usize, n: usize) -> usize
@@ -17,7 +17,7 @@ pub fn equal(m: usize, n: usize) -> usize
 
 // How many of the brands are c. The major brand and the minor version come before them.
 pub fn times(ftyp: &[u8], c: usize) -> usize
-    ensures { λ r. ⌜ r ≡ timesOf c (now (ftyp .entry)) ⌝ }
+    ensures { λ r. ⌜ r ≡ timesListed c (now (ftyp .entry)) ⌝ }
 {
     if ftyp.len() < 8 {
         return 0;

@@ -7,7 +7,7 @@ ghost use mathlib.Core.Path.{_≡_};
 ghost use Rattle.wire.specs.Clauses.{oneIf};
 ghost use Rattle.boxes.specs.Boxes.{boxes};
 ghost use Rattle.movie.specs.Movie.{tracks};
-ghost use Rattle.brands.specs.Brands.{handled as handledOf, oneEntry, single as singleOf, singleTo, plain as plainOf, plainTo, few as fewOf, early as earlyOf, second as secondOf, ready as readyOf};
+ghost use Rattle.brands.specs.Brands.{handled as handledOf, oneEntry, single as singleOf, singleTo, noAvc1, noAvc1To, few as fewOf, early as earlyOf, second as secondOf, ready as readyOf};
 
 // How many tracks have handler h.
 fn handled(file: &[u8], h: usize) -> usize
@@ -59,19 +59,19 @@ fn all_single(file: &[u8]) -> usize
 }
 
 // Whether a track has no `avc1` entry.
-fn plain(track: &[u8]) -> usize
-    ensures { λ r. ⌜ r ≡ oneIf (plainOf (now (track .entry))) ⌝ }
+fn no_avc1(track: &[u8]) -> usize
+    ensures { λ r. ⌜ r ≡ oneIf (noAvc1 (now (track .entry))) ⌝ }
 {
     compatible::equal(seek::count(movie::entry::list(track), codes::AVC1), 0)
 }
 
-fn all_plain(file: &[u8]) -> usize
-    ensures { λ r. ⌜ r ≡ oneIf (plainTo (now (file .entry)) (tracks (now (file .entry)))) ⌝ }
+fn no_avc1_in(file: &[u8]) -> usize
+    ensures { λ r. ⌜ r ≡ oneIf (noAvc1To (now (file .entry)) (tracks (now (file .entry)))) ⌝ }
 {
     let n = movie::tracks(file);
     let mut t = 0;
     while t < n {
-        if plain(movie::track(file, t)) == 0 {
+        if no_avc1(movie::track(file, t)) == 0 {
             return 0;
         }
         t += 1;
@@ -102,7 +102,7 @@ pub fn early(file: &[u8]) -> usize
     if few(file) == 0 {
         return 0;
     }
-    all_plain(file)
+    no_avc1_in(file)
 }
 
 // The code of the second box, 0 where there is none.

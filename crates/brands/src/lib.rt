@@ -6,12 +6,12 @@ use judge::Judgement;
 use rule::Answer;
 ghost use mathlib.Core.Path.{_≡_};
 ghost use Rattle.wire.specs.Clauses.{oneIf};
-ghost use Rattle.brands.specs.Brands.{own as ownOf, brandHolds};
+ghost use Rattle.brands.specs.Brands.{ownConditions, brandHolds};
 ghost use Rattle.brands.specs.Calls.{brandAnswer};
 
 // Whether a brand's own conditions hold: 1 or 0, and 0 for any other code.
 fn own(file: &[u8], code: usize) -> usize
-    ensures { λ r. ⌜ r ≡ oneIf (ownOf code (now (file .entry))) ⌝ }
+    ensures { λ r. ⌜ r ≡ oneIf (ownConditions code (now (file .entry))) ⌝ }
 {
     if code == codes::GP4 {
         return conditions::early(file);

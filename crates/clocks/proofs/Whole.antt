@@ -13,7 +13,7 @@ use Rattle.wire.specs.Tests.{pick, ifEq}
 use Rattle.wire.proofs.Tests.{lt-yea, lt-nay, eq-yea, eq-nay, lt-or}
 use Rattle.wire.proofs.Clauses.{is-le, not-le, is-lt, not-lt}
 use Rattle.clocks.specs.declared.Order.the-variants.{Earlier, Same, Later}
-use Rattle.clocks.specs.Clocks.{less, isTime, stored, shiftTime, mayShift, inOrder, order, zoneOf}
+use Rattle.clocks.specs.Clocks.{less, isTime, natural, shiftTime, mayShift, inOrder, order, zoneOf}
 use Rattle.clocks.specs.Zones.{leaves, compared}
 
 -- ---- a time less its zone is a difference of natural numbers
@@ -31,10 +31,10 @@ less-is t (negsuc n) = rw (negℤ-negℤ, sub-none)
 
 -- ---- the shift
 
-sub-stored : (a b : ℕ) → stored (subℕ a b) ≡ a - b
+sub-stored : (a b : ℕ) → natural (subℕ a b) ≡ a - b
 sub-stored a b = go (ltb a b) refl
   where
-    go : (s : Bool) → ltb a b ≡ s → stored (cond s (negsuc (b - suc a)) (pos (a - b))) ≡ a - b
+    go : (s : Bool) → ltb a b ≡ s → natural (cond s (negsuc (b - suc a)) (pos (a - b))) ≡ a - b
     go true e = omega (arith, ltb-true a b e)
     go false e = refl
 

@@ -27,13 +27,13 @@ abbrev pub isTime : ℤ → Bool
 isTime (pos n) = every (isLe 1 n ∷ isLe n 4294967295 ∷ [])
 isTime (negsuc n) = false
 
-abbrev pub stored : ℤ → ℕ
-stored (pos n) = n
-stored (negsuc n) = 0
+abbrev pub natural : ℤ → ℕ
+natural (pos n) = n
+natural (negsuc n) = 0
 
 -- "60z is taken from each non-zero creation and modification time .. Zero stays zero."
 unfoldable pub shiftTime : ℤ → ℕ → ℕ
-shiftTime z t = ifEq t 0 0 (stored (less t z))
+shiftTime z t = ifEq t 0 0 (natural (less t z))
 
 -- and whether it may be
 unfoldable pub mayShift : ℤ → ℕ → Bool

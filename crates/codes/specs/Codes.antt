@@ -5,151 +5,151 @@ use Rattle.wire.specs.Numbers.{numberOn}
 use Rattle.wire.specs.Text.{text}
 
 -- the number of a code
-abbrev pub four : String → ℕ
-four s = numberOn 0 (text s)
+abbrev pub coded : String → ℕ
+coded s = numberOn 0 (text s)
 
 -- ---- the boxes of rule 3, and `mdat`
 
 abbrev pub FTYP : ℕ
-FTYP = four "ftyp"
+FTYP = coded "ftyp"
 
 abbrev pub MOOV : ℕ
-MOOV = four "moov"
+MOOV = coded "moov"
 
 abbrev pub MVHD : ℕ
-MVHD = four "mvhd"
+MVHD = coded "mvhd"
 
 abbrev pub TRAK : ℕ
-TRAK = four "trak"
+TRAK = coded "trak"
 
 abbrev pub TKHD : ℕ
-TKHD = four "tkhd"
+TKHD = coded "tkhd"
 
 abbrev pub MDIA : ℕ
-MDIA = four "mdia"
+MDIA = coded "mdia"
 
 abbrev pub MDHD : ℕ
-MDHD = four "mdhd"
+MDHD = coded "mdhd"
 
 abbrev pub HDLR : ℕ
-HDLR = four "hdlr"
+HDLR = coded "hdlr"
 
 abbrev pub MINF : ℕ
-MINF = four "minf"
+MINF = coded "minf"
 
 abbrev pub DINF : ℕ
-DINF = four "dinf"
+DINF = coded "dinf"
 
 abbrev pub DREF : ℕ
-DREF = four "dref"
+DREF = coded "dref"
 
 abbrev pub STBL : ℕ
-STBL = four "stbl"
+STBL = coded "stbl"
 
 abbrev pub STSD : ℕ
-STSD = four "stsd"
+STSD = coded "stsd"
 
 abbrev pub STTS : ℕ
-STTS = four "stts"
+STTS = coded "stts"
 
 abbrev pub STSC : ℕ
-STSC = four "stsc"
+STSC = coded "stsc"
 
 abbrev pub STSZ : ℕ
-STSZ = four "stsz"
+STSZ = coded "stsz"
 
 abbrev pub STCO : ℕ
-STCO = four "stco"
+STCO = coded "stco"
 
 abbrev pub MDAT : ℕ
-MDAT = four "mdat"
+MDAT = coded "mdat"
 
 -- ---- the one kind of data reference
 
 abbrev pub URL : ℕ
-URL = four "url "
+URL = coded "url "
 
 -- ---- the kinds of sample entry that have a rule of their own
 
 abbrev pub MP4V : ℕ
-MP4V = four "mp4v"
+MP4V = coded "mp4v"
 
 abbrev pub MP4A : ℕ
-MP4A = four "mp4a"
+MP4A = coded "mp4a"
 
 abbrev pub SAMR : ℕ
-SAMR = four "samr"
+SAMR = coded "samr"
 
 abbrev pub SAWB : ℕ
-SAWB = four "sawb"
+SAWB = coded "sawb"
 
 abbrev pub S263 : ℕ
-S263 = four "s263"
+S263 = coded "s263"
 
 abbrev pub AVC1 : ℕ
-AVC1 = four "avc1"
+AVC1 = coded "avc1"
 
 -- ---- what stands in them
 
 abbrev pub ESDS : ℕ
-ESDS = four "esds"
+ESDS = coded "esds"
 
 abbrev pub DAMR : ℕ
-DAMR = four "damr"
+DAMR = coded "damr"
 
 abbrev pub D263 : ℕ
-D263 = four "d263"
+D263 = coded "d263"
 
 abbrev pub BITR : ℕ
-BITR = four "bitr"
+BITR = coded "bitr"
 
 abbrev pub AVCC : ℕ
-AVCC = four "avcC"
+AVCC = coded "avcC"
 
 -- ---- handlers
 
 abbrev pub VIDE : ℕ
-VIDE = four "vide"
+VIDE = coded "vide"
 
 abbrev pub SOUN : ℕ
-SOUN = four "soun"
+SOUN = coded "soun"
 
 abbrev pub TEXT : ℕ
-TEXT = four "text"
+TEXT = coded "text"
 
 -- ---- brands
 
 abbrev pub ISOM : ℕ
-ISOM = four "isom"
+ISOM = coded "isom"
 
 abbrev pub GP4 : ℕ
-GP4 = four "3gp4"
+GP4 = coded "3gp4"
 
 abbrev pub GP5 : ℕ
-GP5 = four "3gp5"
+GP5 = coded "3gp5"
 
 abbrev pub GP6 : ℕ
-GP6 = four "3gp6"
+GP6 = coded "3gp6"
 
 abbrev pub GR6 : ℕ
-GR6 = four "3gr6"
+GR6 = coded "3gr6"
 
 -- ---- boxes of files that no edit takes
 
 abbrev pub MOOF : ℕ
-MOOF = four "moof"
+MOOF = coded "moof"
 
 abbrev pub MFRA : ℕ
-MFRA = four "mfra"
+MFRA = coded "mfra"
 
 abbrev pub SIDX : ℕ
-SIDX = four "sidx"
+SIDX = coded "sidx"
 
 abbrev pub META : ℕ
-META = four "meta"
+META = coded "meta"
 
 abbrev pub CO64 : ℕ
-CO64 = four "co64"
+CO64 = coded "co64"
 
 abbrev pub SAIO : ℕ
-SAIO = four "saio"
+SAIO = coded "saio"

@@ -22,7 +22,7 @@ use Rattle.rule.proofs.Answers.{answered, room-short, room-fits, out-kept, out-
 use Rattle.judge.specs.declared.Judgement.{Judgement}
 use Rattle.judge.specs.declared.Judgement.the-variants as judgement
 use Rattle.judge.specs.Judgement.{judged}
-use Rattle.judge.specs.Acceptance.{Meets, plain}
+use Rattle.judge.specs.Acceptance.{Meets, editable}
 use Rattle.judge.proofs.Calls.{when-accepted, when-refused}
 use Rattle.edit_offsets.proofs.Settled.{settled-length}
 use Rattle.edit_offsets.proofs.Accepted.{file-tiled, one-moov}
@@ -59,26 +59,26 @@ module _ (xs : List ℕ) (m : Meets xs) where
 
 -- ---- the answers
 
-module _ (xs out : List ℕ) (m : Meets xs) {t : ℕ} (e : t ≡ oneIf (plain xs)) where
+module _ (xs out : List ℕ) (m : Meets xs) {t : ℕ} (e : t ≡ oneIf (editable xs)) where
   abbrev answer : Answer
-  answer = pick (plain xs) (inRoom (moveOf xs) out) (Refused 23 0)
+  answer = pick (editable xs) (inRoom (moveOf xs) out) (Refused 23 0)
 
   pub move-barred : t ≡ 0 → (Refused 23 0 ≡ answer) × (out ≡ outBy (Refused 23 0) (moveOf xs) out)
-  move-barred z = (rw (was-nay (plain xs) t z e), out-kept (moveOf xs) out (Refused 23 0) refl)
+  move-barred z = (rw (was-nay (editable xs) t z e), out-kept (moveOf xs) out (Refused 23 0) refl)
 
   pub move-short : (t ≡ 0 → ⊥) → length out < length xs → (Refused 25 0 ≡ answer) × (out ≡ outBy (Refused 25 0) (moveOf xs) out)
-  move-short z h = (rw (was-yea (plain xs) t z e) (room-short (moveOf xs) out (rw (move-length xs m) h)), out-kept (moveOf xs) out (Refused 25 0) refl)
+  move-short z h = (rw (was-yea (editable xs) t z e) (room-short (moveOf xs) out (rw (move-length xs m) h)), out-kept (moveOf xs) out (Refused 25 0) refl)
 
   pub move-wrote : {n : ℕ} {after : List ℕ} → (t ≡ 0 → ⊥) → length xs ≤ length out → Wrote (moveOf xs) out n after → (Done n ≡ answer) × (after ≡ outBy (Done n) (moveOf xs) out)
-  move-wrote {n} z h w = (rw (was-yea (plain xs) t z e) (room-fits (moveOf xs) out (rw (move-length xs m) h) (w .size)), out-wrote (moveOf xs) out (Done n) refl w)
+  move-wrote {n} z h w = (rw (was-yea (editable xs) t z e) (room-fits (moveOf xs) out (rw (move-length xs m) h) (w .size)), out-wrote (moveOf xs) out (Done n) refl w)
 
 -- ---- the whole
 
 module _ (xs out : List ℕ) {j : Judgement} (e : j ≡ judged xs) where
-  pub move-met : {r : Answer} {after : List ℕ} → j ≡ judgement.Accepted → (r ≡ pick (plain xs) (inRoom (moveOf xs) out) (Refused 23 0)) × (after ≡ outBy r (moveOf xs) out) → (r ≡ moveAnswer xs out) × (after ≡ moveOut xs out)
+  pub move-met : {r : Answer} {after : List ℕ} → j ≡ judgement.Accepted → (r ≡ pick (editable xs) (inRoom (moveOf xs) out) (Refused 23 0)) × (after ≡ outBy r (moveOf xs) out) → (r ≡ moveAnswer xs out) × (after ≡ moveOut xs out)
   unfolding moveAnswer
-  move-met f (a, w) = answered (moveOf xs) out (when-accepted xs e (pick (plain xs) (inRoom (moveOf xs) out) (Refused 23 0)) f a) w
+  move-met f (a, w) = answered (moveOf xs) out (when-accepted xs e (pick (editable xs) (inRoom (moveOf xs) out) (Refused 23 0)) f a) w
 
   pub move-refused : {n p : ℕ} → j ≡ judgement.Refused n p → (Refused n p ≡ moveAnswer xs out) × (out ≡ moveOut xs out)
   unfolding moveAnswer
-  move-refused f = let q = when-refused xs e (pick (plain xs) (inRoom (moveOf xs) out) (Refused 23 0)) f in (q, out-kept (moveOf xs) out _ q)
+  move-refused f = let q = when-refused xs e (pick (editable xs) (inRoom (moveOf xs) out) (Refused 23 0)) f in (q, out-kept (moveOf xs) out _ q)

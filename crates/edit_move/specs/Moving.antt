@@ -9,7 +9,7 @@ use Rattle.rule.specs.declared.Answer.{Answer}
 use Rattle.rule.specs.declared.Answer.the-variants.{Refused}
 use Rattle.rule.specs.Answers.{inRoom, outBy}
 use Rattle.judge.specs.Judgement.{judged, whenAccepted}
-use Rattle.judge.specs.Acceptance.{plain}
+use Rattle.judge.specs.Acceptance.{editable}
 use Rattle.edit_offsets.specs.Settle.{settled}
 
 -- the boxes of a code, and the others
@@ -31,7 +31,7 @@ moveOf xs = settled xs (write (moovSecond (boxes xs)))
 
 -- "move 23, 25"
 unfoldable pub moveAnswer : List ℕ → List ℕ → Answer
-moveAnswer xs out = whenAccepted (judged xs) (pick (plain xs) (inRoom (moveOf xs) out) (Refused 23 0))
+moveAnswer xs out = whenAccepted (judged xs) (pick (editable xs) (inRoom (moveOf xs) out) (Refused 23 0))
 
 abbrev pub moveOut : List ℕ → List ℕ → List ℕ
 moveOut xs out = outBy (moveAnswer xs out) (moveOf xs) out

@@ -14,7 +14,7 @@ ghost use Rattle.wire.specs.Writing.{Wrote, Put};
 ghost use Rattle.boxes.specs.Containers.{LONGEST};
 ghost use Rattle.rule.specs.declared.Answer.the-variants as answer;
 ghost use Rattle.rule.specs.Answers.{inRoom, outBy};
-ghost use Rattle.judge.specs.Acceptance.{Meets, plain};
+ghost use Rattle.judge.specs.Acceptance.{Meets, editable};
 ghost use Rattle.edit_move.specs.Moving.{moveOf, moveAnswer, moveOut};
 ghost use Rattle.edit_move.specs.Arrange.{arranged, shifted};
 
@@ -65,9 +65,9 @@ fn write_moved(out: &mut [u8], file: &[u8]) -> usize
 // The move of a file that was accepted.
 fn move_accepted(file: &[u8], out: &mut [u8]) -> Answer
     requires { ⌜ Meets (now file) ⌝ }
-    ensures { λ r. ⌜ (r ≡ pick (plain (now (file .entry))) (inRoom (moveOf (now (file .entry))) (now (out .entry))) (answer.Refused 23 0)) × (now (out .exit) ≡ outBy r (moveOf (now (file .entry))) (now (out .entry))) ⌝ }
+    ensures { λ r. ⌜ (r ≡ pick (editable (now (file .entry))) (inRoom (moveOf (now (file .entry))) (now (out .entry))) (answer.Refused 23 0)) × (now (out .exit) ≡ outBy r (moveOf (now (file .entry))) (now (out .entry))) ⌝ }
 {
-    if judge::plain(file) == 0 {
+    if judge::editable(file) == 0 {
         return Answer::Refused(23, 0);
     }
     if out.len() < file.len() {

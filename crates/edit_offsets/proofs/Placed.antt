@@ -29,7 +29,7 @@ use Rattle.edit_offsets.proofs.Offsets.{agreeOn}
 -- an `stbl`
 module _ (l : List Box) (d : ℕ) (xs : List ℕ) (s : Chunked l (suc d) STBL xs) where
   -- an offset of its `stco`
-  offset-in : (i : ℕ) → i < table.count (find STCO (boxes xs)) → inAt l (offsetAt (find STCO (boxes xs)) i) (extentAt (find STSC (boxes xs)) (find STSZ (boxes xs)) (find STCO (boxes xs)) i .bytes) ≡ true
+  offset-in : (i : ℕ) → i < table.items (find STCO (boxes xs)) → inAt l (offsetAt (find STCO (boxes xs)) i) (extentAt (find STSC (boxes xs)) (find STSZ (boxes xs)) (find STCO (boxes xs)) i .bytes) ≡ true
   unfolding chunkIn
   offset-in i h = rw (extent-offset (find STSC (boxes xs)) (find STSZ (boxes xs)) (find STCO (boxes xs)) i) at (eight-at l _ _ _ (stbl-eight s) i h)
 

@@ -16,7 +16,7 @@ use Rattle.rule.specs.declared.Answer.{Answer}
 use Rattle.rule.specs.declared.Answer.the-variants.{Done, Refused}
 use Rattle.rule.specs.Answers.{outBy}
 use Rattle.rule.proofs.Answers.{room-short, room-fits}
-use Rattle.judge.specs.Acceptance.{plain}
+use Rattle.judge.specs.Acceptance.{editable}
 use Rattle.edit_offsets.specs.Settle.{settled}
 use Rattle.edit_offsets.proofs.Settled.{settled-length}
 use Rattle.edit_replace.specs.Replace.{kindAt, replaceOf, takes, roomAnswer, settledAnswer, takenAnswer}
@@ -38,7 +38,7 @@ module _ (xs zs out : List ℕ) where
 
 -- ---- 23
 
-module _ (xs new out : List ℕ) {k : ℕ} (e : k ≡ oneIf (plain xs)) where
+module _ (xs new out : List ℕ) {k : ℕ} (e : k ≡ oneIf (editable xs)) where
   pub settled-23 : k ≡ 0 → Refused 23 0 ≡ settledAnswer xs new out
   unfolding settledAnswer
   settled-23 z = sym (ap (λ (p : _). pick p (roomAnswer new out) (Refused 23 0)) (was-nay _ k z e))

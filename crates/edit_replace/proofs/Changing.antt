@@ -16,7 +16,7 @@ use Rattle.boxes.specs.Kin.{Kin}
 use Rattle.boxes.specs.Boxes.{FRONT}
 use Rattle.boxes.proofs.Down.{Down, last, into, Once, endOf, way-bytes, kin-way}
 use Rattle.movie.specs.declared.entry.Spot.the-variants.{In}
-use Rattle.movie.specs.Movie.{track, table}
+use Rattle.movie.specs.Movie.{track, sampleTable}
 use Rattle.edit_replace.specs.Replace.{turn, wayTo, recordAt}
 
 -- ---- the way
@@ -39,8 +39,8 @@ down-stsd t =
     (last 0 STBL STSD 0 (λ z. omega arith) refl)))))
 
 -- where it ends, and where it is parted
-pub stsd-end : (t : ℕ) (xs : List ℕ) → endOf (toStsd t) xs ≡ table STSD (track xs t)
-unfolding endOf table track
+pub stsd-end : (t : ℕ) (xs : List ℕ) → endOf (toStsd t) xs ≡ sampleTable STSD (track xs t)
+unfolding endOf sampleTable track
 stsd-end t xs = refl
 
 pub by-stsd : (t n keep : ℕ) (new xs : List ℕ) → recordAt (In t n) keep new xs ≡ editWay (toStsd t) (editWay (toEntry n) (tailBy keep new)) xs

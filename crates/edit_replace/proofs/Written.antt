@@ -27,7 +27,7 @@ use Rattle.entry_rules.specs.Entries.{FRAMES}
 use Rattle.entry_rules.specs.Decoders.{recordRule}
 use Rattle.edit_offsets.specs.Settle.{offsets, settled}
 use Rattle.edit_offsets.proofs.Settled.{settled-length}
-use Rattle.edit_replace.specs.Replace.{kindAt, recordAt, replaced, replaceOf}
+use Rattle.edit_replace.specs.Replace.{kindAt, recordAt, recordReplaced, replaceOf}
 use Rattle.edit_replace.specs.Fitting.{grown, Fits}
 use Rattle.edit_replace.proofs.Taking.{kind-none, record-short}
 use Rattle.edit_replace.proofs.Settling.{record-settled}
@@ -51,7 +51,7 @@ module _ (xs : List ℕ) (t n keep : ℕ) (new out : List ℕ) (f : Fits xs t n 
 
 module _ (xs : List ℕ) (i : ℕ) (new : List ℕ) {moov : List ℕ} (e : moov ≡ find MOOV (boxes xs)) (r : Spot) (s : SpotAs moov (i - 1) r) (q : r ≡ spotIn 0 (boxes moov) (i - 1)) where
   pub spot-replaced : (t n : ℕ) → r ≡ In t n → {kind size : ℕ} → kind ≡ kindAt xs i → size ≡ headSize kind → settled xs (recordAt (In t n) (size - HEAD) new xs) ≡ replaceOf xs i new
-  unfolding replaceOf replaced
+  unfolding replaceOf recordReplaced
   spot-replaced t n f g h =
       let u : In t n ≡ spotIn 0 (movie xs) (i - 1) = sym f ∙ q ∙ ap (λ (m : List ℕ). spotIn 0 (boxes m) (i - 1)) e in
       rw (← u, ← g, ← h)

@@ -26,7 +26,7 @@ use Rattle.rule.specs.declared.Answer.{Answer}
 use Rattle.rule.specs.declared.Answer.the-variants.{Refused}
 use Rattle.rule.specs.Answers.{inRoom, outBy}
 use Rattle.judge.specs.Judgement.{judged, whenAccepted}
-use Rattle.judge.specs.Acceptance.{plain}
+use Rattle.judge.specs.Acceptance.{editable}
 use Rattle.edit_offsets.specs.Settle.{settled}
 
 -- ---- the entry
@@ -53,11 +53,11 @@ abbrev pub recordAt : Spot → ℕ → List ℕ → List ℕ → List ℕ
 recordAt (In t n) keep new xs = editWay (wayTo t n) (tailBy keep new) xs
 recordAt Past keep new xs = xs
 
-unfoldable pub replaced : List ℕ → ℕ → List ℕ → List ℕ
-replaced xs i new = recordAt (spotIn 0 (movie xs) (i - 1)) (headSize (kindAt xs i) - HEAD) new xs
+unfoldable pub recordReplaced : List ℕ → ℕ → List ℕ → List ℕ
+recordReplaced xs i new = recordAt (spotIn 0 (movie xs) (i - 1)) (headSize (kindAt xs i) - HEAD) new xs
 
 unfoldable pub replaceOf : List ℕ → ℕ → List ℕ → List ℕ
-replaceOf xs i new = settled xs (replaced xs i new)
+replaceOf xs i new = settled xs (recordReplaced xs i new)
 
 -- ---- its answer
 
@@ -71,7 +71,7 @@ roomAnswer new out = ifLt LONGEST (length new) (Refused 24 0) (inRoom new out)
 
 -- 23, 24, 25
 unfoldable pub settledAnswer : List ℕ → List ℕ → List ℕ → Answer
-settledAnswer xs new out = pick (plain xs) (roomAnswer new out) (Refused 23 0)
+settledAnswer xs new out = pick (editable xs) (roomAnswer new out) (Refused 23 0)
 
 -- 20, 21, and then those
 unfoldable pub takenAnswer : List ℕ → ℕ → List ℕ → List ℕ → Answer

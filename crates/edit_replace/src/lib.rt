@@ -7,7 +7,6 @@ use boxes::seek;
 use boxes::walk;
 use entry_heads::head;
 use entry_rules::decoder;
-use entry_rules::entry;
 use judge::Judgement;
 use movie::entry;
 use movie::entry::Spot;
@@ -44,7 +43,7 @@ fn replace_fit(file: &[u8], i: usize, kind: usize, new: &[u8], out: &mut [u8]) -
     requires { ⌜ (Meets (now file)) × (kind ≡ kindAt (now file) i) × (recordRule kind FRAMES (now new) ≡ 1) ⌝ }
     ensures { λ r. ⌜ (r ≡ settledAnswer (now (file .entry)) (replaceOf (now (file .entry)) i (now (new .entry))) (now (out .entry))) × (now (out .exit) ≡ outBy r (replaceOf (now (file .entry)) i (now (new .entry))) (now (out .entry))) ⌝ }
 {
-    if judge::plain(file) == 0 {
+    if judge::editable(file) == 0 {
         return Answer::Refused(23, 0);
     }
     match entry::find_spot(seek::payload(file, codes::MOOV, 0), i - 1) {
@@ -62,7 +61,7 @@ fn replace_accepted(file: &[u8], i: usize, new: &[u8], out: &mut [u8]) -> Answer
     if record::takes(kind, new) == 0 {
         return Answer::Refused(20, 0);
     }
-    if decoder::record_rule(kind, entry::FRAMES, new) != 1 {
+    if decoder::record_rule(kind, entry_rules::entry::FRAMES, new) != 1 {
         return Answer::Refused(21, 0);
     }
     replace_fit(file, i, kind, new, out)

@@ -23,13 +23,13 @@ use Rattle.rule.specs.declared.Answer.{Answer}
 use Rattle.rule.specs.declared.Answer.the-variants.{Done, Refused}
 use Rattle.rule.specs.Answers.{inRoom}
 use Rattle.rule.proofs.Answers.{room-short, room-fits, out-kept, out-wrote}
-use Rattle.judge.specs.Acceptance.{plain}
+use Rattle.judge.specs.Acceptance.{editable}
 use Rattle.judge.specs.declared.Judgement.{Judgement}
 use Rattle.judge.specs.declared.Judgement.the-variants as judgement
 use Rattle.judge.specs.declared.Judgement.the-variants.{Accepted}
 use Rattle.judge.specs.Judgement.{judged}
 use Rattle.judge.proofs.Calls.{when-accepted, when-refused, met}
-use Rattle.edit_shift.specs.Shift.{times, allTimesBy, allTimes, shiftable, acceptedAnswer, shiftAnswer, shiftOut}
+use Rattle.edit_shift.specs.Shift.{timesOf, allTimesBy, allTimes, shiftable, acceptedAnswer, shiftAnswer, shiftOut}
 use Rattle.edit_shift.specs.Amount.{byZone, zoneText, zoneAnswer, zoneOut}
 use Rattle.edit_shift.proofs.Passing.{times-length}
 use Rattle.edit_shift.proofs.Meaning.{leaves-are, shift-text}
@@ -37,7 +37,7 @@ use Rattle.edit_shift.proofs.Meaning.{leaves-are, shift-text}
 pub text-length : (z : Zone) (xs : List ℕ) → length (zoneText z xs) ≡ length xs
 unfolding zoneText allTimesBy
 text-length z xs =
-    times-length (times MDIA MDHD) (moved (byZone z)) _ ∙ times-length (times TRAK TKHD) (moved (byZone z)) _ ∙ times-length (times MOOV MVHD) (moved (byZone z)) xs
+    times-length (timesOf MDIA MDHD) (moved (byZone z)) _ ∙ times-length (timesOf TRAK TKHD) (moved (byZone z)) _ ∙ times-length (timesOf MOOV MVHD) (moved (byZone z)) xs
 
 -- ---- by a zone
 
@@ -46,7 +46,7 @@ module _ (z : Zone) (xs out : List ℕ) {i : ℕ} (e : i ≡ oneIf (allTimes (le
   unfolding zoneAnswer
   refuse-22 h = let q : Refused 22 0 ≡ zoneAnswer z xs out = rw (was-nay _ _ h e) in (q, out-kept _ _ _ q)
 
-  module _ (t : i ≡ 0 → ⊥) {j : ℕ} (f : j ≡ oneIf (plain xs)) where
+  module _ (t : i ≡ 0 → ⊥) {j : ℕ} (f : j ≡ oneIf (editable xs)) where
     pub refuse-23 : j ≡ 0 → (Refused 23 0 ≡ zoneAnswer z xs out) × (out ≡ zoneOut z xs out)
     unfolding zoneAnswer
     refuse-23 h = let q : Refused 23 0 ≡ zoneAnswer z xs out = rw (was-yea _ _ t e, was-nay _ _ h f) in (q, out-kept _ _ _ q)

@@ -22,7 +22,7 @@ use Rattle.clocks.specs.Clocks.{zoneOf, shiftTime, mayShift}
 use Rattle.clocks.specs.Zones.{leaves}
 use Rattle.clocks.proofs.Whole.{shift-is, may-is}
 use Rattle.edit_offsets.proofs.Settled.{settled-same}
-use Rattle.edit_shift.specs.Shift.{times, timesBy, allTimesBy, shiftOf}
+use Rattle.edit_shift.specs.Shift.{timesOf, timesBy, allTimesBy, shiftOf}
 use Rattle.edit_shift.specs.Amount.{byZone, zoneText}
 use Rattle.edit_shift.proofs.Passing.{times-length, times-bytes, times-alike}
 
@@ -50,16 +50,16 @@ module _ (f : ℕ → ℕ) (xs : List ℕ) (v : Bytes xs) (h : length xs < 42949
   all-alike : All2 Alike (boxes xs) (boxes (allTimesBy f xs))
   unfolding allTimesBy
   all-alike =
-      let m = times-length (times MOOV MVHD) f xs in
-      let w = times-bytes (times MOOV MVHD) f xs v in
-      let n = times-length (times TRAK TKHD) f (timesBy (times MOOV MVHD) f xs) in
-      let u = times-bytes (times TRAK TKHD) f (timesBy (times MOOV MVHD) f xs) w in
-      alike-then (times-alike (times MOOV MVHD) f xs v h)
-      (alike-then (times-alike (times TRAK TKHD) f _ w (omega arith)) (times-alike (times MDIA MDHD) f _ u (omega arith)))
+      let m = times-length (timesOf MOOV MVHD) f xs in
+      let w = times-bytes (timesOf MOOV MVHD) f xs v in
+      let n = times-length (timesOf TRAK TKHD) f (timesBy (timesOf MOOV MVHD) f xs) in
+      let u = times-bytes (timesOf TRAK TKHD) f (timesBy (timesOf MOOV MVHD) f xs) w in
+      alike-then (times-alike (timesOf MOOV MVHD) f xs v h)
+      (alike-then (times-alike (timesOf TRAK TKHD) f _ w (omega arith)) (times-alike (timesOf MDIA MDHD) f _ u (omega arith)))
 
   all-bytes : Bytes (allTimesBy f xs)
   unfolding allTimesBy
-  all-bytes = times-bytes (times MDIA MDHD) f _ (times-bytes (times TRAK TKHD) f _ (times-bytes (times MOOV MVHD) f xs v))
+  all-bytes = times-bytes (timesOf MDIA MDHD) f _ (times-bytes (timesOf TRAK TKHD) f _ (times-bytes (timesOf MOOV MVHD) f xs v))
 
 pub shift-text : (z : ℤ) (xs : List ℕ) → Bytes xs → length xs < 4294967296 → zoneText (zoneOf z) xs ≡ shiftOf z xs
 unfolding zoneText shiftOf

@@ -19,7 +19,7 @@ use Rattle.boxes.proofs.Rewriting.{boxes-over, length-over}
 use Rattle.boxes.proofs.Wording.{leaf-length, leaf-bytes}
 use Rattle.mdat.specs.Relocate.{Alike}
 use Rattle.mdat.proofs.Staying.{alike-over}
-use Rattle.edit_shift.specs.Shift.{times, timesBy, allTimesBy}
+use Rattle.edit_shift.specs.Shift.{timesOf, timesBy, allTimesBy}
 
 module _ (t : Target) (f : ℕ → ℕ) where
   pub times-length : (xs : List ℕ) → length (timesBy t f xs) ≡ length xs
@@ -42,14 +42,14 @@ module _ (t : Target) (f : ℕ → ℕ) where
 
 -- all three
 pub passes : (f : ℕ → ℕ) (xs : List ℕ) {out o₁ o₂ o₃ o₄ : List ℕ} {n : ℕ} {t₁ t₂ t₃ : Target} → Wrote xs out n o₁
-    → t₁ ≡ times MOOV MVHD → o₂ ≡ timesBy t₁ f (take n o₁) ++ drop n o₁
-    → t₂ ≡ times TRAK TKHD → o₃ ≡ timesBy t₂ f (take n o₂) ++ drop n o₂
-    → t₃ ≡ times MDIA MDHD → o₄ ≡ timesBy t₃ f (take n o₃) ++ drop n o₃
+    → t₁ ≡ timesOf MOOV MVHD → o₂ ≡ timesBy t₁ f (take n o₁) ++ drop n o₁
+    → t₂ ≡ timesOf TRAK TKHD → o₃ ≡ timesBy t₂ f (take n o₂) ++ drop n o₂
+    → t₃ ≡ timesOf MDIA MDHD → o₄ ≡ timesBy t₃ f (take n o₃) ++ drop n o₃
     → o₄ ≡ allTimesBy f xs ++ drop (length xs) out
 unfolding allTimesBy
 passes f xs {out = out} w i p j q k r =
-    let a = pass (times MOOV MVHD) f xs (drop (length xs) out) (w .is ∙ rw (w .size)) (w .size) (rw i at p) in
-    let m = times-length (times MOOV MVHD) f xs in
-    let b = pass (times TRAK TKHD) f (timesBy (times MOOV MVHD) f xs) (drop (length xs) out) a (w .size ∙ sym m) (rw j at q) in
-    let l = times-length (times TRAK TKHD) f (timesBy (times MOOV MVHD) f xs) in
-    pass (times MDIA MDHD) f (timesBy (times TRAK TKHD) f (timesBy (times MOOV MVHD) f xs)) (drop (length xs) out) b (w .size ∙ sym m ∙ sym l) (rw k at r)
+    let a = pass (timesOf MOOV MVHD) f xs (drop (length xs) out) (w .is ∙ rw (w .size)) (w .size) (rw i at p) in
+    let m = times-length (timesOf MOOV MVHD) f xs in
+    let b = pass (timesOf TRAK TKHD) f (timesBy (timesOf MOOV MVHD) f xs) (drop (length xs) out) a (w .size ∙ sym m) (rw j at q) in
+    let l = times-length (timesOf TRAK TKHD) f (timesBy (timesOf MOOV MVHD) f xs) in
+    pass (timesOf MDIA MDHD) f (timesBy (timesOf TRAK TKHD) f (timesBy (timesOf MOOV MVHD) f xs)) (drop (length xs) out) b (w .size ∙ sym m ∙ sym l) (rw k at r)

@@ -9,7 +9,7 @@ use Rattle.clocks.specs.Zones.{leaves}
 use Rattle.rule.specs.declared.Answer.{Answer}
 use Rattle.rule.specs.declared.Answer.the-variants.{Refused}
 use Rattle.rule.specs.Answers.{inRoom, outBy}
-use Rattle.judge.specs.Acceptance.{plain}
+use Rattle.judge.specs.Acceptance.{editable}
 use Rattle.edit_shift.specs.Shift.{allTimes, allTimesBy}
 
 -- a time of 0 is below the limit, and stays
@@ -20,7 +20,7 @@ unfoldable pub zoneText : Zone → List ℕ → List ℕ
 zoneText z xs = allTimesBy (moved (byZone z)) xs
 
 unfoldable pub zoneAnswer : Zone → List ℕ → List ℕ → Answer
-zoneAnswer z xs out = pick (allTimes (leaves z) xs) (pick (plain xs) (inRoom (zoneText z xs) out) (Refused 23 0)) (Refused 22 0)
+zoneAnswer z xs out = pick (allTimes (leaves z) xs) (pick (editable xs) (inRoom (zoneText z xs) out) (Refused 23 0)) (Refused 22 0)
 
 abbrev pub zoneOut : Zone → List ℕ → List ℕ → List ℕ
 zoneOut z xs out = outBy (zoneAnswer z xs out) (zoneText z xs) out

@@ -21,20 +21,20 @@ use Rattle.rule.specs.declared.Answer.{Answer}
 use Rattle.rule.specs.declared.Answer.the-variants.{Refused}
 use Rattle.rule.specs.Answers.{inRoom, outBy}
 use Rattle.judge.specs.Judgement.{judged, whenAccepted}
-use Rattle.judge.specs.Acceptance.{plain}
+use Rattle.judge.specs.Acceptance.{editable}
 use Rattle.edit_offsets.specs.Settle.{settled}
 
 -- ---- its meaning
 
 -- the two times of the boxes of a code in a kind of container: "creation time at 4, modification at 8"
-abbrev pub times : ℕ → ℕ → Target
-times kind code = record { kind = kind; code = code; from = 4; span = 8 }
+abbrev pub timesOf : ℕ → ℕ → Target
+timesOf kind code = record { kind = kind; code = code; from = 4; span = 8 }
 
 abbrev pub timesBy : Target → (ℕ → ℕ) → List ℕ → List ℕ
 timesBy t f xs = editIn (rewordLeaf t f) DEPTH FILE xs
 
 unfoldable pub allTimesBy : (ℕ → ℕ) → List ℕ → List ℕ
-allTimesBy f xs = timesBy (times MDIA MDHD) f (timesBy (times TRAK TKHD) f (timesBy (times MOOV MVHD) f xs))
+allTimesBy f xs = timesBy (timesOf MDIA MDHD) f (timesBy (timesOf TRAK TKHD) f (timesBy (timesOf MOOV MVHD) f xs))
 
 unfoldable pub shiftOf : ℤ → List ℕ → List ℕ
 shiftOf z xs = settled xs (allTimesBy (shiftTime z) xs)
@@ -58,7 +58,7 @@ shiftable z xs = every (zoneFine z ∷ allTimes (mayShift z) xs ∷ [])
 
 -- 22, 23, 25
 unfoldable pub acceptedAnswer : ℤ → List ℕ → List ℕ → Answer
-acceptedAnswer z xs out = pick (shiftable z xs) (pick (plain xs) (inRoom (shiftOf z xs) out) (Refused 23 0)) (Refused 22 0)
+acceptedAnswer z xs out = pick (shiftable z xs) (pick (editable xs) (inRoom (shiftOf z xs) out) (Refused 23 0)) (Refused 22 0)
 
 unfoldable pub shiftAnswer : ℤ → List ℕ → List ℕ → Answer
 shiftAnswer z xs out = whenAccepted (judged xs) (acceptedAnswer z xs out)

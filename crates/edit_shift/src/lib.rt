@@ -17,7 +17,7 @@ ghost use Rattle.wire.specs.Clauses.{oneIf};
 ghost use Rattle.boxes.specs.Words.{moved, Small};
 ghost use Rattle.clocks.specs.Zones.{Near, leaves};
 ghost use Rattle.judge.specs.Acceptance.{Meets};
-ghost use Rattle.edit_shift.specs.Shift.{times as timesOf, both as bothOf, trackTimes, allTimes, allTimesBy, shiftAnswer, shiftOut};
+ghost use Rattle.edit_shift.specs.Shift.{timesOf, both as bothOf, trackTimes, allTimes, allTimesBy, shiftAnswer, shiftOut};
 ghost use Rattle.edit_shift.specs.Amount.{zoneAnswer, zoneOut};
 
 // Whether both times of a header may be shifted: 1 or 0.
@@ -100,7 +100,7 @@ fn shift_by(file: &[u8], zone: Zone, out: &mut [u8]) -> Answer
     if all_times(file, zone) == 0 {
         return Answer::Refused(22, 0);
     }
-    if judge::plain(file) == 0 {
+    if judge::editable(file) == 0 {
         return Answer::Refused(23, 0);
     }
     if out.len() < file.len() {

@@ -14,7 +14,7 @@ use Rattle.rule.specs.declared.Answer.{Answer}
 use Rattle.rule.specs.declared.Answer.the-variants.{Done, Refused}
 use Rattle.rule.specs.Answers.{inRoom}
 use Rattle.rule.proofs.Answers.{Left, answered, room-short, room-fits, out-kept, out-wrote}
-use Rattle.entry_fields.specs.Numbers.{recordOf, whenRead, readAnswer, readOut, answerOf, writeAnswer, writeOut}
+use Rattle.entry_fields.specs.Numbers.{recordOf, whenRead, readAnswer, readOut, writtenAnswer, writeAnswer, writeOut}
 
 -- ---- numbers into a list
 
@@ -42,6 +42,6 @@ module _ (xs out : List ℕ) {r : Record} (e : r ≡ readOf FRAMES xs) where
 -- ---- the writer
 
 pub write-as : (ns out : List ℕ) {r : Record} {w v : Written} {after : List ℕ} → r ≡ recordOf ns → (w ≡ writtenOf FRAMES r out) × (after ≡ outOf FRAMES r out) → w ≡ v
-    → (answerOf v ≡ writeAnswer ns out) × (after ≡ writeOut ns out)
+    → (writtenAnswer v ≡ writeAnswer ns out) × (after ≡ writeOut ns out)
 unfolding writeAnswer
-write-as ns out e (p, q) g = (ap answerOf (sym g ∙ p) ∙ rw e, q ∙ rw e)
+write-as ns out e (p, q) g = (ap writtenAnswer (sym g ∙ p) ∙ rw e, q ∙ rw e)

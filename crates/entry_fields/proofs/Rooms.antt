@@ -20,7 +20,7 @@ use Rattle.rule.specs.declared.Answer.{Answer}
 use Rattle.rule.specs.declared.Answer.the-variants.{Done, Refused}
 use Rattle.rule.specs.Answers.{inRoom, outBy}
 use Rattle.rule.proofs.Answers.{refused-not}
-use Rattle.entry_fields.specs.Numbers.{whenRead, answerOf}
+use Rattle.entry_fields.specs.Numbers.{whenRead, writtenAnswer}
 
 -- ---- the reader
 
@@ -36,12 +36,12 @@ some-read r a n e g = refused-not 21 0 n (sym (ap (λ (s : Record). whenRead s a
 
 module _ (r : Record) where
   -- a record that meets the rule is refused for the room alone
-  pub rule-room : (out : List ℕ) → fieldsRule FRAMES r ≡ 1 → (answerOf (writtenOf FRAMES r out) ≡ inRoom (textOf r) out) × (outOf FRAMES r out ≡ outBy (inRoom (textOf r) out) (textOf r) out)
+  pub rule-room : (out : List ℕ) → fieldsRule FRAMES r ≡ 1 → (writtenAnswer (writtenOf FRAMES r out) ≡ inRoom (textOf r) out) × (outOf FRAMES r out ≡ outBy (inRoom (textOf r) out) (textOf r) out)
   unfolding writtenOf outOf inRoom ifLt outBy
   rule-room out e =
-      (ap answerOf (sym (eq-yea _ _ _ _ _ e refl)) ∙ answers (ltb (length out) (length (textOf r))), sym (eq-yea _ _ _ _ _ e refl) ∙ outs (ltb (length out) (length (textOf r))))
+      (ap writtenAnswer (sym (eq-yea _ _ _ _ _ e refl)) ∙ answers (ltb (length out) (length (textOf r))), sym (eq-yea _ _ _ _ _ e refl) ∙ outs (ltb (length out) (length (textOf r))))
     where
-      answers : (t : Bool) → answerOf (pick t written.TooShort (written.Done (length (textOf r)))) ≡ pick t (Refused 25 0) (Done (length (textOf r)))
+      answers : (t : Bool) → writtenAnswer (pick t written.TooShort (written.Done (length (textOf r)))) ≡ pick t (Refused 25 0) (Done (length (textOf r)))
       answers true = refl
       answers false = refl
 
@@ -49,10 +49,10 @@ module _ (r : Record) where
       outs true = refl
       outs false = refl
 
-  pub rule-done : (out : List ℕ) (n : ℕ) → answerOf (writtenOf FRAMES r out) ≡ Done n → fieldsRule FRAMES r ≡ 1
+  pub rule-done : (out : List ℕ) (n : ℕ) → writtenAnswer (writtenOf FRAMES r out) ≡ Done n → fieldsRule FRAMES r ≡ 1
   unfolding writtenOf
   rule-done out n e =
-      ⊎-elim (λ w. w .0) (λ w. absurd (refused-not 21 0 n (ap answerOf (w .1) ∙ e))) (eq-ways (fieldsRule FRAMES r) 1 _ written.BadFields _ refl)
+      ⊎-elim (λ w. w .0) (λ w. absurd (refused-not 21 0 n (ap writtenAnswer (w .1) ∙ e))) (eq-ways (fieldsRule FRAMES r) 1 _ written.BadFields _ refl)
 
   pub rule-some : fieldsRule FRAMES r ≡ 1 → r ≡ Broken → ⊥
   rule-some e g = absurd (omega (arith, sym e ∙ ap (fieldsRule FRAMES) g))

@@ -74,14 +74,14 @@ readOut xs out = outBy (readAnswer xs out) (fieldsOf (readOf FRAMES xs)) out
 
 -- ---- the writer
 
-abbrev pub answerOf : Written → Answer
-answerOf (written.Done n) = Done n
-answerOf written.BadFields = Refused 21 0
-answerOf written.TooShort = Refused 25 0
+abbrev pub writtenAnswer : Written → Answer
+writtenAnswer (written.Done n) = Done n
+writtenAnswer written.BadFields = Refused 21 0
+writtenAnswer written.TooShort = Refused 25 0
 
 -- 21, 25, or the length of the entry
 unfoldable pub writeAnswer : List ℕ → List ℕ → Answer
-writeAnswer ns out = answerOf (writtenOf FRAMES (recordOf ns) out)
+writeAnswer ns out = writtenAnswer (writtenOf FRAMES (recordOf ns) out)
 
 abbrev pub writeOut : List ℕ → List ℕ → List ℕ
 writeOut ns out = outOf FRAMES (recordOf ns) out

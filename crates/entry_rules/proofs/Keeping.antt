@@ -9,7 +9,7 @@ use Rattle.entry_heads.specs.Heads.{boxHeader, commonHead, audioHead, visualSta
 use Rattle.entry_heads.proofs.Heading.{audio-length, visual-length}
 use Rattle.entry_rules.specs.declared.entry.Around.{Around}
 use Rattle.entry_rules.specs.declared.entry.Around.the-variants.{Track, Alone}
-use Rattle.entry_rules.specs.Entries.{trackRule, aroundRule, replaced}
+use Rattle.entry_rules.specs.Entries.{trackRule, aroundRule, behindHead}
 use Rattle.entry_rules.proofs.Replacing.{new-front, new-size, new-word}
 
 -- what stands around an entry reads only its data reference and its TimeScale
@@ -32,14 +32,14 @@ pub front-inside : (n : ℕ) (xs head : List ℕ) → take n xs ≡ head → len
 front-inside n xs head e l = omega (arith, length-take n xs, ap length e)
 
 module _ (xs ys : List ℕ) where
-  pub audio-kept : take 36 xs ≡ audioIn xs → 36 + length ys < 4294967296 → take 36 (replaced 36 xs ys) ≡ audioIn (replaced 36 xs ys)
+  pub audio-kept : take 36 xs ≡ audioIn xs → 36 + length ys < 4294967296 → take 36 (behindHead 36 xs ys) ≡ audioIn (behindHead 36 xs ys)
   audio-kept e s =
       let i = front-inside 36 xs (audioIn xs) e (audio-length _ _ _ _) in
       let w = new-word 36 xs ys (omega arith) i s in
       new-front 36 xs ys (omega arith) i s
       ∙ rw (e, new-size 36 xs ys (omega arith) i s, w 4 0 (omega arith), w 2 10 (omega arith), w 2 28 (omega arith)) (audio-resized (word 4 xs 0) (36 + length ys) (word 4 xs 4) (word 2 xs 14) (word 2 xs 32))
 
-  pub visual-kept : (name : List ℕ) → length name ≡ 32 → take 86 xs ≡ visualIn name xs → 86 + length ys < 4294967296 → take 86 (replaced 86 xs ys) ≡ visualIn name (replaced 86 xs ys)
+  pub visual-kept : (name : List ℕ) → length name ≡ 32 → take 86 xs ≡ visualIn name xs → 86 + length ys < 4294967296 → take 86 (behindHead 86 xs ys) ≡ visualIn name (behindHead 86 xs ys)
   visual-kept name l e s =
       let i = front-inside 86 xs (visualIn name xs) e (visual-length _ _ _ _ _ name ∙ ap (λ (n : ℕ). 54 + n) l) in
       let w = new-word 86 xs ys (omega arith) i s in

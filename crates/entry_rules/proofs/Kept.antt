@@ -13,7 +13,7 @@ use Rattle.entry_heads.specs.Heads.{headSize, audioIn, visualIn, headRule}
 use Rattle.entry_heads.proofs.Heading.{audio-length, visual-length, name-zero, begins-of, audio-size, audio-rule, visual-size, visual-rule}
 use Rattle.entry_rules.specs.declared.entry.Around.{Around}
 use Rattle.entry_rules.specs.Decoders.{damrRule, d263Rule, recordRule}
-use Rattle.entry_rules.specs.Entries.{ruleAs, entryRule, replaced}
+use Rattle.entry_rules.specs.Entries.{ruleAs, entryRule, behindHead}
 use Rattle.entry_rules.proofs.Judging.{rule-met, rule-is, inside-record}
 use Rattle.entry_rules.proofs.Speech.{Spoken, soun, speech-met}
 use Rattle.entry_rules.proofs.Picture.{vide, picture-met}
@@ -27,34 +27,34 @@ module _ (around : Around) (most kind : ℕ) (xs ys : List ℕ) (k : kindOf (wor
 
   -- a kept head, and the rest
   module _ (head : ℕ) (g : headSize kind ≡ head) (w : 36 ≤ head) (i : head ≤ length xs) (s : head + length ys < 4294967296) where
-    same : (n m : ℕ) → 4 + m + n ≤ head → word n (replaced head xs ys) (4 + m) ≡ word n xs (4 + m)
+    same : (n m : ℕ) → 4 + m + n ≤ head → word n (behindHead head xs ys) (4 + m) ≡ word n xs (4 + m)
     same = new-word head xs ys (omega arith) i s
 
-    kept : 3 ≤ kind → kind ≤ 5 → headRule kind (replaced head xs ys) ≡ 1 → entryRule around most (replaced head xs ys) ≡ 1
+    kept : 3 ≤ kind → kind ≤ 5 → headRule kind (behindHead head xs ys) ≡ 1 → entryRule around most (behindHead head xs ys) ≡ 1
     unfolding entryRule
     kept a b d =
         rw (same 4 0 (omega arith), k)
-        (rule-is kind around most (replaced head xs ys)
+        (rule-is kind around most (behindHead head xs ys)
         (record {
           size = new-size head xs ys (omega arith) i s ∙ sym (new-length head xs ys (omega arith) i s);
           head = d;
-          fits = around-same around kind xs (replaced head xs ys) (same 2 10 (omega arith)) (same 2 28 (omega arith)) ∙ rule-met kind around most xs met .fits;
+          fits = around-same around kind xs (behindHead head xs ys) (same 2 10 (omega arith)) (same 2 28 (omega arith)) ∙ rule-met kind around most xs met .fits;
           inside = rw (g, new-rest head xs ys (omega arith) i s) (inside-record kind most ys a b ∙ r);
         }))
 
-  pub speech-kept : Spoken kind → 36 + length ys < 4294967296 → entryRule around most (replaced 36 xs ys) ≡ 1
+  pub speech-kept : Spoken kind → 36 + length ys < 4294967296 → entryRule around most (behindHead 36 xs ys) ≡ 1
   speech-kept p s =
       let h = soun kind most xs p in
       let f = speech-met kind most xs p around met .front in
-      let new = replaced 36 xs ys in
+      let new = behindHead 36 xs ys in
       kept 36 (audio-size kind xs h) (omega arith) (front-inside 36 xs (audioIn xs) f (audio-length _ _ _ _)) s
       (⊎-elim (λ q. omega arith) (λ q. omega arith) p)
       (⊎-elim (λ q. omega arith) (λ q. omega arith) p)
       (audio-rule kind new h ∙ begins-of (audioIn new) new (rw audio-length (audio-kept xs ys f s)))
 
-pub picture-kept : (around : Around) (most : ℕ) (xs ys : List ℕ) → kindOf (word 4 xs 4) ≡ 5 → entryRule around most xs ≡ 1 → recordRule 5 most ys ≡ 1 → 86 + length ys < 4294967296 → entryRule around most (replaced 86 xs ys) ≡ 1
+pub picture-kept : (around : Around) (most : ℕ) (xs ys : List ℕ) → kindOf (word 4 xs 4) ≡ 5 → entryRule around most xs ≡ 1 → recordRule 5 most ys ≡ 1 → 86 + length ys < 4294967296 → entryRule around most (behindHead 86 xs ys) ≡ 1
 picture-kept around most xs ys k e r s =
-    let new = replaced 86 xs ys in
+    let new = behindHead 86 xs ys in
     let f : take 86 xs ≡ visualIn (bytes 32 0) xs = ⊎-elim (λ p. p .front) (λ p. p .start .front) (picture-met most xs around (met around most 5 xs ys k e r)) in
     let v = visual-kept xs ys (bytes 32 0) (length-bytes 32 0) f s in
     kept around most 5 xs ys k e r 86 (visual-size 5 xs (vide most xs)) (omega arith) (front-inside 86 xs (visualIn (bytes 32 0) xs) f (rw (visual-length, length-bytes))) s (omega arith) (omega arith)
@@ -81,7 +81,7 @@ record-kinds kind most ys e =
     (eq-ways _ _ _ _ _ (u .1)))
     (eq-ways _ _ _ _ _ e)
 
-pub entry-kept : (around : Around) (most kind : ℕ) (xs ys : List ℕ) → kindOf (word 4 xs 4) ≡ kind → entryRule around most xs ≡ 1 → recordRule kind most ys ≡ 1 → entryRule around most (replaced (headSize kind) xs ys) ≡ 1
+pub entry-kept : (around : Around) (most kind : ℕ) (xs ys : List ℕ) → kindOf (word 4 xs 4) ≡ kind → entryRule around most xs ≡ 1 → recordRule kind most ys ≡ 1 → entryRule around most (behindHead (headSize kind) xs ys) ≡ 1
 entry-kept around most kind xs ys k e r =
     let d = record-kinds kind most ys r in
     ⊎-elim (λ p. rw (audio-size kind xs (soun kind most xs p)) (speech-kept around most kind xs ys k e r p (omega (arith, d .1))))

@@ -7,7 +7,7 @@ use lib.ListN.{length, take, drop, length-append, length-drop}
 use lib.Seq.{take-at, drop-at, length-take-le}
 use Rattle.wire.specs.Numbers.{bytes, word}
 use Rattle.wire.proofs.Numbers.{length-bytes, word-bytes, word-drop, word-left, word-right, word-take}
-use Rattle.entry_rules.specs.Entries.{replaced}
+use Rattle.entry_rules.specs.Entries.{behindHead}
 
 module _ (head : ℕ) (xs ys : List ℕ) (h : 4 ≤ head) (l : head ≤ length xs) (s : head + length ys < 4294967296) where
   front : List ℕ
@@ -20,25 +20,25 @@ module _ (head : ℕ) (xs ys : List ℕ) (h : 4 ≤ head) (l : head ≤ length x
   unfolding front
   front-length = rw (length-append, length-bytes, rest-length) (omega arith)
 
-  pub new-length : length (replaced head xs ys) ≡ head + length ys
-  unfolding replaced front
+  pub new-length : length (behindHead head xs ys) ≡ head + length ys
+  unfolding behindHead front
   new-length = length-append front ys ∙ ap (λ (n : ℕ). n + length ys) front-length
 
-  pub new-front : take head (replaced head xs ys) ≡ bytes 4 (head + length ys) ++ drop 4 (take head xs)
-  unfolding replaced front
+  pub new-front : take head (behindHead head xs ys) ≡ bytes 4 (head + length ys) ++ drop 4 (take head xs)
+  unfolding behindHead front
   new-front = take-at front ys head front-length
 
-  pub new-rest : drop head (replaced head xs ys) ≡ ys
-  unfolding replaced front
+  pub new-rest : drop head (behindHead head xs ys) ≡ ys
+  unfolding behindHead front
   new-rest = drop-at front ys head front-length
 
-  pub new-size : word 4 (replaced head xs ys) 0 ≡ head + length ys
-  unfolding replaced
+  pub new-size : word 4 (behindHead head xs ys) 0 ≡ head + length ys
+  unfolding behindHead
   new-size = rw append-assoc (word-bytes 4 (head + length ys) (drop 4 (take head xs) ++ ys) s)
 
   -- what stands behind the size in the head stays
-  pub new-word : (w k : ℕ) → 4 + k + w ≤ head → word w (replaced head xs ys) (4 + k) ≡ word w xs (4 + k)
-  unfolding replaced
+  pub new-word : (w k : ℕ) → 4 + k + w ≤ head → word w (behindHead head xs ys) (4 + k) ≡ word w xs (4 + k)
+  unfolding behindHead
   new-word w k m =
       let n = rest-length in
       rw append-assoc

@@ -72,5 +72,5 @@ entryRule around most xs = ruleAs (kindOf (word 4 xs 4)) around most xs
 -- ---- another decoder record
 
 -- the entry with other bytes behind its head: its size follows
-unfoldable pub replaced : ℕ → List ℕ → List ℕ → List ℕ
-replaced head xs ys = bytes 4 (head + length ys) ++ drop 4 (take head xs) ++ ys
+unfoldable pub behindHead : ℕ → List ℕ → List ℕ → List ℕ
+behindHead head xs ys = bytes 4 (head + length ys) ++ drop 4 (take head xs) ++ ys

@@ -31,13 +31,13 @@ use Rattle.rule_entries.specs.Ten.{tenRule}
 use Rattle.rule_entries.proofs.Kept.{ten-says}
 use Rattle.judge.specs.declared.Judgement.{Judgement}
 use Rattle.judge.specs.declared.Judgement.the-variants.{Accepted, Refused}
-use Rattle.judge.specs.Judgement.{judges, verdictBy, next, judgedFrom, judged}
+use Rattle.judge.specs.Judgement.{judges, verdictBy, unlessBroken, judgedFrom, judged}
 use Rattle.judge.specs.Acceptance.{Holds, Meets}
 
 -- ---- some rules
 
-next-fine : (n : ℕ) (v : Verdict) (j : Judgement) → next n v j ≡ Accepted → (v ≡ Fine) × (j ≡ Accepted)
-unfolding next
+next-fine : (n : ℕ) (v : Verdict) (j : Judgement) → unlessBroken n v j ≡ Accepted → (v ≡ Fine) × (j ≡ Accepted)
+unfolding unlessBroken
 next-fine n Fine j e = (refl, e)
 next-fine n (Bad p) j e = let z : _≡_ {A = ℕ} 0 1 = cc in absurd (omega arith)
 
@@ -59,7 +59,7 @@ all-hold (more {j} {r} {js} s t) n xs e =
     cons (fine-all j r s DEPTH FILE xs 0 0 (a .0)) (all-hold t (n + 1) xs (a .1))
 
 hold-all : {js : List Judge} {rs : List Rule} → Say js rs → (n : ℕ) (xs : List ℕ) → Hold xs rs → judgedFrom n js xs ≡ Accepted
-unfolding judgedFrom next
+unfolding judgedFrom unlessBroken
 hold-all none n xs nil = refl
 hold-all (more {j} {r} s t) n xs (cons h g) = rw (all-fine j r s DEPTH FILE xs 0 0 h, hold-all t (n + 1) xs g)
 

@@ -2,5 +2,5 @@ pub mod Answers
 pub mod Order
 pub mod Exact
 pub mod Calls
-pub mod Editable
+pub mod Edits
 pub mod Tables

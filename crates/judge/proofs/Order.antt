@@ -14,7 +14,7 @@ use Rattle.rule.specs.declared.Verdict.the-variants.{Fine, Bad}
 use Rattle.rule.specs.Verdict.{unless}
 use Rattle.rule.specs.Judge.{Judge}
 use Rattle.judge.specs.declared.Judgement.the-variants.{Accepted, Refused}
-use Rattle.judge.specs.Judgement.{judges, next, judgedFrom, judged}
+use Rattle.judge.specs.Judgement.{judges, unlessBroken, judgedFrom, judged}
 use Rattle.judge.specs.Asked.{leafBy, nodeBy, endBy, judgeBy, verdictOf}
 
 -- k rules from number n on, as code asks them
@@ -36,16 +36,16 @@ pub passed-none : (xs : List ℕ) → Passed xs 2
 passed-none xs = record { most = omega arith; is = ap (λ (js : List Judge). judgedFrom 2 js xs) (by-number (boxes xs)) }
 
 module _ (xs : List ℕ) (n : ℕ) (i : Passed xs n) (h : n < 11) {v : Verdict} (e : v ≡ verdictOf n xs) where
-  open-from : judgedFrom n (asked (11 - n) n (boxes xs)) xs ≡ next n (verdictOf n xs) (judgedFrom (n + 1) (asked (11 - (n + 1)) (n + 1) (boxes xs)) xs)
+  open-from : judgedFrom n (asked (11 - n) n (boxes xs)) xs ≡ unlessBroken n (verdictOf n xs) (judgedFrom (n + 1) (asked (11 - (n + 1)) (n + 1) (boxes xs)) xs)
   unfolding judgedFrom verdictOf
   open-from = let q : 11 - n ≡ suc (11 - (n + 1)) = omega arith in rw q
 
   pub passed-more : v ≡ Fine → Passed xs (n + 1)
-  unfolding next
+  unfolding unlessBroken
   passed-more f = record { most = omega arith; is = i .is ∙ open-from ∙ rw (← e, f) }
 
   pub passed-bad : (p : ℕ) → v ≡ Bad p → 8 ≤ length xs → length xs ≤ LONGEST → Refused n p ≡ judged xs
-  unfolding next judged
+  unfolding unlessBroken judged
   passed-bad p f g l = lt-nay _ _ _ _ _ g (lt-nay _ _ _ _ _ l (sym (i .is ∙ open-from ∙ rw (← e, f))))
 
 pub passed-all : (xs : List ℕ) (n : ℕ) → Passed xs n → 11 ≤ n → 8 ≤ length xs → length xs ≤ LONGEST → Accepted ≡ judged xs

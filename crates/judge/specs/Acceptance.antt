@@ -7,7 +7,7 @@ use lib.ListN.{length}
 use Rattle.boxes.specs.Boxes.{boxes}
 use Rattle.boxes.specs.Containers.{FILE, DEPTH, LONGEST}
 use Rattle.rule.specs.Rule.{Rule, allIn}
-use Rattle.rule_shape.specs.Rules.{twoRule, threeRule, plainRule}
+use Rattle.rule_shape.specs.Rules.{twoRule, threeRule, editableRule}
 use Rattle.rule_lists.specs.Rules.{fiveRule, nineRule}
 use Rattle.rule_headers.specs.Four.{fourRule}
 use Rattle.rule_tracks.specs.Six.{sixRule}
@@ -33,5 +33,5 @@ pub record Meets (xs : List ℕ) : Type 0 where
   pub ten : Holds tenRule xs
 
 -- an edit takes the file: refusal 23 lets it pass
-abbrev pub plain : List ℕ → Bool
-plain xs = allIn plainRule DEPTH FILE xs
+abbrev pub editable : List ℕ → Bool
+editable xs = allIn editableRule DEPTH FILE xs

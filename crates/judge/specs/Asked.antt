@@ -7,7 +7,7 @@ use Rattle.boxes.specs.Boxes.{boxes}
 use Rattle.rule.specs.declared.Verdict.{Verdict}
 use Rattle.rule.specs.declared.Verdict.the-variants.{Fine, Bad}
 use Rattle.rule.specs.Judge.{Judge}
-use Rattle.rule_shape.specs.Rules.{two, three, plain}
+use Rattle.rule_shape.specs.Rules.{two, three, editableJudge}
 use Rattle.rule_lists.specs.Rules.{five, nine}
 use Rattle.rule_headers.specs.Four.{four}
 use Rattle.rule_tracks.specs.Six.{six}
@@ -33,7 +33,7 @@ nodeBy n l k xs home p =
     (ifEq n 7 (seven .node k xs home p)
     (ifEq n 8 (eight l .node k xs home p)
     (ifEq n 10 (ten .node k xs home p)
-    (ifEq n 23 (plain .node k xs home p) Fine))))))
+    (ifEq n 23 (editableJudge .node k xs home p) Fine))))))
 
 -- rule 2 looks at what is past the last whole box
 unfoldable pub endBy : ℕ → List ℕ → ℕ → Verdict

@@ -22,13 +22,13 @@ use Rattle.judge.specs.declared.Judgement.{Judgement}
 use Rattle.judge.specs.declared.Judgement.the-variants.{Accepted, Refused}
 
 -- the refusal number of the paper, 0 where there is none, and its place
-abbrev pub number : Judgement → ℕ
-number Accepted = 0
-number (Refused n p) = n
+abbrev pub judgedNumber : Judgement → ℕ
+judgedNumber Accepted = 0
+judgedNumber (Refused n p) = n
 
-abbrev pub place : Judgement → ℕ
-place Accepted = 0
-place (Refused n p) = p
+abbrev pub judgedPlace : Judgement → ℕ
+judgedPlace Accepted = 0
+judgedPlace (Refused n p) = p
 
 -- rules 2 to 10 in their order; rule 8 is asked in a file with the boxes l
 abbrev pub judges : List Box → List Judge
@@ -39,14 +39,14 @@ abbrev pub verdictBy : Judge → List ℕ → Verdict
 verdictBy j xs = judgeIn j DEPTH FILE xs 0 0
 
 -- the verdict of rule n, and then the rules after it
-unfoldable pub next : ℕ → Verdict → Judgement → Judgement
-next n Fine j = j
-next n (Bad p) j = Refused n p
+unfoldable pub unlessBroken : ℕ → Verdict → Judgement → Judgement
+unlessBroken n Fine j = j
+unlessBroken n (Bad p) j = Refused n p
 
 -- the rules from n on
 unfoldable pub judgedFrom : ℕ → List Judge → List ℕ → Judgement
 judgedFrom n [] xs = Accepted
-judgedFrom n (j ∷ js) xs = next n (verdictBy j xs) (judgedFrom (n + 1) js xs)
+judgedFrom n (j ∷ js) xs = unlessBroken n (verdictBy j xs) (judgedFrom (n + 1) js xs)
 
 -- rule 1: "Length is 8 to 1,048,576. Place 0."; then rules 2 to 10
 unfoldable pub judged : List ℕ → Judgement

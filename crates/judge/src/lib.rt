@@ -8,7 +8,7 @@ ghost use Prim.Native.Nat.{_+_, _≤_};
 ghost use lib.ListN.{length};
 ghost use Rattle.wire.specs.Clauses.{oneIf};
 ghost use Rattle.boxes.specs.Containers.{LONGEST};
-ghost use Rattle.judge.specs.Acceptance.{plain as plainOf};
+ghost use Rattle.judge.specs.Acceptance.{editable};
 ghost use Rattle.judge.specs.Asked.{verdictOf};
 ghost use Rattle.judge.specs.Judgement.{judged};
 
@@ -51,9 +51,9 @@ pub fn judge(file: &[u8]) -> Judgement
 }
 
 // Whether an edit takes a file, which refusal 23 asks: 1 or 0.
-pub fn plain(file: &[u8]) -> usize
+pub fn editable(file: &[u8]) -> usize
     requires { ⌜ length (now file) ≤ LONGEST ⌝ }
-    ensures { λ r. ⌜ r ≡ oneIf (plainOf (now (file .entry))) ⌝ }
+    ensures { λ r. ⌜ r ≡ oneIf (editable (now (file .entry))) ⌝ }
 {
     match verdict_of(23, file) {
         Verdict::Fine => 1,

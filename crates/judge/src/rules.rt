@@ -67,7 +67,7 @@ fn node_by(n: usize, file: &[u8], k: usize, part: &[u8], home: usize, base: usiz
         return rule_entries::ten_at(k, part, base);
     }
     if n == 23 {
-        return unless(rule_shape::plain_of(k, part), home);
+        return unless(rule_shape::editable_of(k, part), home);
     }
     Verdict::Fine
 }

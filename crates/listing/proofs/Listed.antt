@@ -15,7 +15,7 @@ use Rattle.sample_tables.specs.Times.{mediaTicks}
 use Rattle.movie.specs.declared.entry.EntryAt.{EntryAt}
 use Rattle.movie.specs.declared.entry.Named.{Named}
 use Rattle.movie.specs.declared.entry.Named.the-variants.{At, Missing}
-use Rattle.movie.specs.Movie.{tracks, track, table, handler, scale}
+use Rattle.movie.specs.Movie.{tracks, track, sampleTable, handler, scale}
 use Rattle.movie.specs.Entries.{Entry, entries}
 use Rattle.movie.specs.Named.{entryAs, NamedAs}
 use Rattle.movie.proofs.Asking.{named-at, named-none}
@@ -33,7 +33,7 @@ use Rattle.listing.proofs.Pieces.{rest-all, rest-more, rest-none}
 pub track-read : (xs : List ℕ) → Meets xs → (t : ℕ) {b : List ℕ} → t < tracks xs → b ≡ track xs t → Readable b
 track-read xs m t h e = rw e (readable xs m t h)
 
-pub line-of : (t : ℕ) (b : List ℕ) {stts : List ℕ} {h m s : ℕ} → stts ≡ table STTS b → h ≡ handler b → m ≡ mediaTicks stts → s ≡ scale b
+pub line-of : (t : ℕ) (b : List ℕ) {stts : List ℕ} {h m s : ℕ} → stts ≡ sampleTable STTS b → h ≡ handler b → m ≡ mediaTicks stts → s ≡ scale b
     → {out after : List ℕ} {at r : ℕ} → Put (trackLine t h m s) out at r after → Put (lineOf t b) out at r after
 unfolding lineOf
 line-of t b f h m s p = pen-is (rw (h, m, f, s)) p

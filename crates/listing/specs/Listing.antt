@@ -5,7 +5,7 @@ use Rattle.wire.specs.Text.{text}
 use Rattle.wire.specs.Clauses.{oneIf}
 use Rattle.codes.specs.Codes.{STTS, GP4, GP5, GP6, GR6}
 use Rattle.sample_tables.specs.Times.{mediaTicks}
-use Rattle.movie.specs.Movie.{tracks, track, table, handler, scale}
+use Rattle.movie.specs.Movie.{tracks, track, sampleTable, handler, scale}
 use Rattle.movie.specs.Entries.{Entry, entries}
 use Rattle.judge.specs.declared.Judgement.{Judgement}
 use Rattle.judge.specs.declared.Judgement.the-variants.{Accepted, Refused}
@@ -15,7 +15,7 @@ use Rattle.listing.specs.Lines.{trackLine, entryLine, brandLine, refused
 
 -- the line of track t, whose payload is b
 unfoldable pub lineOf : ℕ → List ℕ → List ℕ
-lineOf t b = trackLine t (handler b) (mediaTicks (table STTS b)) (scale b)
+lineOf t b = trackLine t (handler b) (mediaTicks (sampleTable STTS b)) (scale b)
 
 -- those of the first n tracks, which are numbered from 1
 unfoldable pub trackLines : List ℕ → ℕ → List ℕ

@@ -7,23 +7,23 @@ use mathlib.Core.List.{List}
 use Rattle.wire.specs.Clauses.{oneIf}
 use Rattle.wire.proofs.Sums.{all-none, all-more, all-of, all-at, all-fails}
 use Rattle.boxes.specs.Box.{Box}
-use Rattle.sample_tables.specs.Tables.{count}
+use Rattle.sample_tables.specs.Tables.{items}
 use Rattle.sample_tables.specs.Chunks.{chunkAt, extentOf}
 use Rattle.sample_tables.specs.Rules.{Seven}
 use Rattle.sample_tables.specs.declared.chunk.Chunk.{Chunk}
 use Rattle.sample_tables.specs.declared.chunk.Extent.{Extent}
 use Rattle.sample_tables.proofs.Chunks.{first-more, first-mono}
 use Rattle.mdat.specs.Payloads.{inAt}
-use Rattle.mdat.specs.Rules.{chunkIn, chunksIn, eight, Ready}
+use Rattle.mdat.specs.Rules.{chunkIn, chunksIn, chunksLie, Ready}
 
 -- ---- the tables
 
 pub ready : {stts stsc stsz stco : List ℕ} → Seven stts stsc stsz stco → Ready stsc stco
 ready s = record { walk = s .walk; few = rw (s .total) (s .few) }
 
-pub ready-few : {stsc stco : List ℕ} → Ready stsc stco → (k : ℕ) (c : Chunk) → c ≡ chunkAt stsc stco k → k < count stco → c .first + c .samples ≤ 65536
+pub ready-few : {stsc stco : List ℕ} → Ready stsc stco → (k : ℕ) (c : Chunk) → c ≡ chunkAt stsc stco k → k < items stco → c .first + c .samples ≤ 65536
 unfolding chunkAt
-ready-few {stsc} {stco} r k c e h = rw e (omega (arith, r .few, first-more stsc k, first-mono stsc (k + 1) (count stco) (omega arith)))
+ready-few {stsc} {stco} r k c e h = rw e (omega (arith, r .few, first-more stsc k, first-mono stsc (k + 1) (items stco) (omega arith)))
 
 -- ---- the chunks
 
@@ -41,13 +41,13 @@ module _ (l : List Box) (stsc stsz stco : List ℕ) where
   chunks-fail = all-fails (chunkIn l stsc stsz stco)
 
   -- each chunk, from the rule, and the rule from each
-  pub eight-at : eight l stsc stsz stco ≡ true → (k : ℕ) → k < count stco → chunkIn l stsc stsz stco k ≡ true
+  pub eight-at : chunksLie l stsc stsz stco ≡ true → (k : ℕ) → k < items stco → chunkIn l stsc stsz stco k ≡ true
   unfolding chunksIn
-  eight-at = all-at (chunkIn l stsc stsz stco) (count stco)
+  eight-at = all-at (chunkIn l stsc stsz stco) (items stco)
 
-  pub eight-of : ((k : ℕ) → k < count stco → chunkIn l stsc stsz stco k ≡ true) → eight l stsc stsz stco ≡ true
+  pub eight-of : ((k : ℕ) → k < items stco → chunkIn l stsc stsz stco k ≡ true) → chunksLie l stsc stsz stco ≡ true
   unfolding chunksIn
-  eight-of = all-of (chunkIn l stsc stsz stco) (count stco)
+  eight-of = all-of (chunkIn l stsc stsz stco) (items stco)
 
   -- the answer of one chunk
   pub chunk-answer : (k : ℕ) {c : Chunk} {x : Extent} {r : ℕ} → c ≡ chunkAt stsc stco k → x ≡ extentOf stsz c → r ≡ oneIf (inAt l (x .offset) (x .bytes)) → r ≡ oneIf (chunkIn l stsc stsz stco k)

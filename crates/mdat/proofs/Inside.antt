@@ -15,7 +15,7 @@ use Rattle.boxes.specs.Walk.{boxAt, Ran, Over}
 use Rattle.boxes.specs.declared.walk.Walk.{Walk}
 use Rattle.boxes.specs.declared.walk.BoxAt.{BoxAt}
 use Rattle.boxes.proofs.Seeking.{ran-size}
-use Rattle.mdat.specs.Payloads.{mdats, Spot, nowhere, spot, past, resolve, fits, inAt, holds}
+use Rattle.mdat.specs.Payloads.{mdats, Spot, nowhere, spot, past, resolve, fits, inAt, boxHolds}
 use Rattle.mdat.proofs.Payloads.{mdat-or, resolve-here, resolve-past, mdats-hit, within-hit, within-low, within-miss, past-nowhere}
 use Rattle.mdat.proofs.Behind.{behind-some}
 
@@ -26,16 +26,16 @@ unfolding inAt resolve
 in-none o n = refl
 
 module _ (x : Box) (l : List Box) (o n : ℕ) where
-  hit : x .code ≡ MDAT → x .head ≤ o → isLe (o - x .head + n) (length (x .body)) ≡ holds (x .code) (x .head) (size x) o n
-  unfolding holds
+  hit : x .code ≡ MDAT → x .head ≤ o → isLe (o - x .head + n) (length (x .body)) ≡ boxHolds (x .code) (x .head) (size x) o n
+  unfolding boxHolds
   hit c k =
       lt-or (size x) (o + n)
       (λ e. not-le _ _ (omega arith) ∙ fails 2 _ (not-le _ _ e))
       (λ e. is-le _ _ (omega arith) ∙ and _ _ (is-eq _ _ c) (and _ _ (is-le _ _ k) (and _ _ (is-le _ _ e) done)))
 
   -- in the first box, by its own numbers
-  in-here : o ≤ size x → inAt (x ∷ l) o n ≡ holds (x .code) (x .head) (size x) o n
-  unfolding inAt holds
+  in-here : o ≤ size x → inAt (x ∷ l) o n ≡ boxHolds (x .code) (x .head) (size x) o n
+  unfolding inAt boxHolds
   in-here h =
       rw (resolve-here x l o h) (mdat-or x
       (λ c. lt-or o (x .head) (λ k. rw (within-low x c o k) (fails 1 _ (not-le _ _ k))) (λ k. rw (within-hit x c o k, mdats-hit x c l) (hit c k)))
@@ -74,5 +74,5 @@ module _ {xs : List ℕ} {o n at : ℕ} (a : Ahead xs o n at) where
           below = omega arith;
         }
 
-    pub ahead-here : o ≤ b .at + b .size → inAt (boxes xs) o n ≡ holds (b .code) (b .head) (b .size) (o - at) n
+    pub ahead-here : o ≤ b .at + b .size → inAt (boxes xs) o n ≡ boxHolds (b .code) (b .head) (b .size) (o - at) n
     ahead-here h = a .left ∙ rw (s .list) (in-here (boxAt xs b) (boxes (drop (w .at) xs)) (o - at) n (omega (arith, ran-size s, s .start)) ∙ rw (ran-size s))

@@ -11,13 +11,13 @@ use Rattle.boxes.specs.Box.{Box, write}
 use Rattle.boxes.specs.Boxes.{boxes, after}
 use Rattle.boxes.proofs.Whole.{Good}
 use Rattle.boxes.proofs.Reading.{All, parts, write-boxes}
-use Rattle.sample_tables.specs.Tables.{count}
+use Rattle.sample_tables.specs.Tables.{items}
 use Rattle.sample_tables.specs.Sizes.{sizeAt, bytesFrom}
 use Rattle.sample_tables.specs.Chunks.{samplesIn, firstSample, offsetAt, chunkAt, extentOf}
 use Rattle.sample_tables.proofs.Sizes.{sample-within}
 use Rattle.mdat.specs.Payloads.{mdats, inAt}
 use Rattle.mdat.specs.Relocate.{Relocated}
-use Rattle.mdat.specs.Rules.{chunkIn, eight}
+use Rattle.mdat.specs.Rules.{chunkIn, chunksLie}
 use Rattle.mdat.specs.Samples.{joinTo, sampleIn, chunkSamples, samplesOf}
 use Rattle.mdat.proofs.Eight.{eight-at, eight-of}
 use Rattle.mdat.proofs.Relocating.{relocate-in, relocate-bytes}
@@ -62,17 +62,17 @@ module _ (l m : List Box) (same : mdats l ≡ mdats m) (g : All Good m) (stsc st
   unfolding chunkIn extentOf chunkAt
   chunk-lies k h = h
 
-  pub eight-kept : eight l stsc stsz o ≡ true → eight m stsc stsz p ≡ true
+  pub eight-kept : chunksLie l stsc stsz o ≡ true → chunksLie m stsc stsz p ≡ true
   unfolding chunkIn extentOf chunkAt
   eight-kept e =
       eight-of m stsc stsz p (λ k h.
-      let n : k < count o = omega (arith, r .same) in
+      let n : k < items o = omega (arith, r .same) in
       rw (r .offsets k n) (relocate-in l m same g _ _ (eight-at l stsc stsz o e k n)))
 
-  pub samples-kept : All Good l → eight l stsc stsz o ≡ true → samplesOf (write l) stsc stsz o ≡ samplesOf (write m) stsc stsz p
+  pub samples-kept : All Good l → chunksLie l stsc stsz o ≡ true → samplesOf (write l) stsc stsz o ≡ samplesOf (write m) stsc stsz p
   unfolding samplesOf
   samples-kept f e =
-      rw (r .same) (join-same _ _ (count o) (λ k h.
+      rw (r .same) (join-same _ _ (items o) (λ k h.
       chunk-same (write l) (write m) stsc stsz o p k (rw (r .offsets k h) (relocate-bytes l m same g f _ _ (chunk-lies k (eight-at l stsc stsz o e k h))))))
 
 -- ---- files that boxes tile
@@ -81,6 +81,6 @@ pub tiled : (xs : List ℕ) → Bytes xs → after xs ≡ [] → write (boxes xs
 tiled xs v e = sym (append-nil (write (boxes xs))) ∙ ap (λ (z : List ℕ). write (boxes xs) ++ z) (sym e) ∙ write-boxes xs v
 
 pub file-samples-kept : (xs ys : List ℕ) → Bytes xs → Bytes ys → after xs ≡ [] → after ys ≡ [] → mdats (boxes xs) ≡ mdats (boxes ys)
-    → (stsc stsz o p : List ℕ) → Relocated (boxes xs) (boxes ys) o p → eight (boxes xs) stsc stsz o ≡ true → samplesOf xs stsc stsz o ≡ samplesOf ys stsc stsz p
+    → (stsc stsz o p : List ℕ) → Relocated (boxes xs) (boxes ys) o p → chunksLie (boxes xs) stsc stsz o ≡ true → samplesOf xs stsc stsz o ≡ samplesOf ys stsc stsz p
 file-samples-kept xs ys v w a b same stsc stsz o p r e =
     rw (tiled xs v a, tiled ys w b) at (samples-kept (boxes xs) (boxes ys) same (parts ys w .good) stsc stsz o p r (parts xs v .good) e)

@@ -5,7 +5,7 @@ use mathlib.Core.List.{List, _∷_}
 use Rattle.codes.specs.Codes.{MDAT}
 use Rattle.wire.proofs.Tests.{eq-yea, eq-nay, lt-yea, lt-nay, eq-or}
 use Rattle.boxes.specs.Box.{Box, size}
-use Rattle.mdat.specs.Payloads.{mdats, nowhere, spot, within, past, resolve, placeOf}
+use Rattle.mdat.specs.Payloads.{mdats, nowhere, spot, inBox, past, resolve, placeOf}
 
 pub mdat-or : {A : Type 0} (x : Box) → (x .code ≡ MDAT → A) → ((x .code ≡ MDAT → ⊥) → A) → A
 mdat-or x = eq-or (x .code) MDAT
@@ -13,7 +13,7 @@ mdat-or x = eq-or (x .code) MDAT
 -- ---- a place in the first box, or past it
 
 module _ (x : Box) (l : List Box) (o : ℕ) where
-  pub resolve-here : o ≤ size x → resolve (x ∷ l) o ≡ within x o
+  pub resolve-here : o ≤ size x → resolve (x ∷ l) o ≡ inBox x o
   unfolding resolve
   resolve-here h = sym (lt-nay _ _ _ _ _ h refl)
 
@@ -32,12 +32,12 @@ module _ (x : Box) (e : x .code ≡ MDAT) where
   unfolding placeOf
   place-hit l i = sym (eq-yea _ _ _ _ _ e refl)
 
-  pub within-hit : (o : ℕ) → x .head ≤ o → within x o ≡ spot 0 (o - x .head)
-  unfolding within
+  pub within-hit : (o : ℕ) → x .head ≤ o → inBox x o ≡ spot 0 (o - x .head)
+  unfolding inBox
   within-hit o h = sym (eq-yea _ _ _ _ _ e (lt-nay _ _ _ _ _ h refl))
 
-  pub within-low : (o : ℕ) → o < x .head → within x o ≡ nowhere
-  unfolding within
+  pub within-low : (o : ℕ) → o < x .head → inBox x o ≡ nowhere
+  unfolding inBox
   within-low o h = sym (eq-yea _ _ _ _ _ e (lt-yea _ _ _ _ _ h refl))
 
 -- ---- it is none
@@ -47,8 +47,8 @@ module _ (x : Box) (e : x .code ≡ MDAT → ⊥) where
   unfolding mdats
   mdats-miss l = sym (eq-nay _ _ _ _ _ e refl)
 
-  pub within-miss : (o : ℕ) → within x o ≡ nowhere
-  unfolding within
+  pub within-miss : (o : ℕ) → inBox x o ≡ nowhere
+  unfolding inBox
   within-miss o = sym (eq-nay _ _ _ _ _ e refl)
 
 pub past-nowhere : (x : Box) → past x nowhere ≡ nowhere

@@ -11,7 +11,7 @@ use Rattle.wire.proofs.Numbers.{length-bytes, word-bytes, word-drop, word-left,
 use Rattle.boxes.specs.Box.{Box}
 use Rattle.boxes.specs.Words.{eachWord, reword}
 use Rattle.boxes.proofs.Wording.{word-next}
-use Rattle.sample_tables.specs.Tables.{count, Table}
+use Rattle.sample_tables.specs.Tables.{items, Table}
 use Rattle.sample_tables.specs.Chunks.{offsetAt}
 use Rattle.mdat.specs.Relocate.{relocate, Relocated}
 
@@ -36,19 +36,19 @@ module _ (f : ℕ → ℕ) (stco : List ℕ) (span : ℕ) (t : Table 4 stco) (r 
       let d : drop (8 + span) stco ≡ [] = drop-of-length-le stco {i = 8 + span} r in
       rw (e, d, append-nil)
 
-  pub reword-count : count (reword f 8 span stco) ≡ count stco
+  pub reword-count : items (reword f 8 span stco) ≡ items stco
   reword-count =
       rw (reword-all, word-left 4 (take 8 stco) (eachWord f (drop 8 stco)) 4 (omega (arith, front)))
       (sym (word-left 4 (take 8 stco) (drop 8 stco) 4 (omega (arith, front))) ∙ ap (λ (xs : List ℕ). word 4 xs 4) (take-append-drop 8 stco))
 
-  pub reword-offset : (k : ℕ) → k < count stco → f (offsetAt stco k) < 4294967296 → offsetAt (reword f 8 span stco) k ≡ f (offsetAt stco k)
+  pub reword-offset : (k : ℕ) → k < items stco → f (offsetAt stco k) < 4294967296 → offsetAt (reword f 8 span stco) k ≡ f (offsetAt stco k)
   reword-offset k h b =
-      let m : 4 * (k + 1) ≤ 4 * count stco = mul-le-mul-left 4 (omega arith) in
+      let m : 4 * (k + 1) ≤ 4 * items stco = mul-le-mul-left 4 (omega arith) in
       let d : word 4 (drop 8 stco) (4 * k) ≡ offsetAt stco k = word-drop 4 8 stco (4 * k) in
       rw reword-all (word-right 4 (take 8 stco) (eachWord f (drop 8 stco)) 8 (4 * k) front
       ∙ each-at f k (drop 8 stco) (rw length-drop (omega (arith, t .long))) (rw d b) ∙ ap f d)
 
   -- f moves each of its offsets as relocation does
-  pub relocated-reword : (l m : List Box) → ((k : ℕ) → k < count stco → f (offsetAt stco k) ≡ relocate l m (offsetAt stco k))
-      → ((k : ℕ) → k < count stco → relocate l m (offsetAt stco k) < 4294967296) → Relocated l m stco (reword f 8 span stco)
+  pub relocated-reword : (l m : List Box) → ((k : ℕ) → k < items stco → f (offsetAt stco k) ≡ relocate l m (offsetAt stco k))
+      → ((k : ℕ) → k < items stco → relocate l m (offsetAt stco k) < 4294967296) → Relocated l m stco (reword f 8 span stco)
   relocated-reword l m e b = record { same = reword-count; offsets = λ k h. reword-offset k h (rw (e k h) (b k h)) ∙ e k h }

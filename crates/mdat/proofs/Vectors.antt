@@ -12,9 +12,9 @@ use Rattle.boxes.specs.Boxes.{whole, boxes}
 use Rattle.sample_tables.specs.Sizes.{sizeAt, bytesFrom}
 use Rattle.sample_tables.specs.Runs.{runAmong, runOf}
 use Rattle.sample_tables.specs.Chunks.{samplesIn, firstSample, descriptionOf, chunkAt, extentOf}
-use Rattle.mdat.specs.Payloads.{mdats, within, past, resolve, placeOf, inAt}
+use Rattle.mdat.specs.Payloads.{mdats, inBox, past, resolve, placeOf, inAt}
 use Rattle.mdat.specs.Relocate.{relocate}
-use Rattle.mdat.specs.Rules.{chunkIn, chunksIn, eight}
+use Rattle.mdat.specs.Rules.{chunkIn, chunksIn, chunksLie}
 use Rattle.mdat.specs.Samples.{joinTo, sampleIn, chunkSamples, samplesOf}
 
 abbrev media : List ℕ
@@ -38,19 +38,19 @@ unfolding samplesOf joinTo chunkSamples sampleIn chunkAt samplesIn firstSample d
 samples = refl
 
 abbrev eightAt : ℕ → Bool
-eightAt o = eight (boxes file) stsc stsz (stco o)
+eightAt o = chunksLie (boxes file) stsc stsz (stco o)
 
 -- rule 8: the chunk a byte early, in its place, a byte late
 chunks : eightAt 19 ∷ eightAt 20 ∷ eightAt 21 ∷ [] ≡ false ∷ true ∷ false ∷ []
-unfolding chunksIn allTo chunkIn inAt mdats resolve within past extentOf chunkAt samplesIn firstSample descriptionOf runOf runAmong sizeAt bytesFrom sumTo boxes whole word bytes bytesOn isLe ifEq ifLt ifLe
+unfolding chunksIn allTo chunkIn inAt mdats resolve inBox past extentOf chunkAt samplesIn firstSample descriptionOf runOf runAmong sizeAt bytesFrom sumTo boxes whole word bytes bytesOn isLe ifEq ifLt ifLe
 chunks = refl
 
 -- no bytes at the payload's end, and past it
 ends : inAt (boxes file) 25 0 ∷ inAt (boxes file) 26 0 ∷ [] ≡ true ∷ false ∷ []
-unfolding inAt mdats resolve within past boxes whole word bytes bytesOn isLe ifEq ifLt ifLe
+unfolding inAt mdats resolve inBox past boxes whole word bytes bytesOn isLe ifEq ifLt ifLe
 ends = refl
 
 -- without the first box the payload is 12 bytes nearer
 nearer : relocate (boxes file) (boxes media) 20 ≡ 8
-unfolding relocate resolve within past placeOf boxes whole word bytes bytesOn ifEq ifLt ifLe
+unfolding relocate resolve inBox past placeOf boxes whole word bytes bytesOn ifEq ifLt ifLe
 nearer = refl

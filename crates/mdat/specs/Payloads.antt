@@ -20,21 +20,21 @@ pub data Spot : Type 0 where
   spot : (j i : ℕ) → Spot
 
 -- the spot o bytes into one box: in its payload, or at the end of it
-unfoldable pub within : Box → ℕ → Spot
-within x o = ifEq (x .code) MDAT (ifLt o (x .head) nowhere (spot 0 (o - x .head))) nowhere
+unfoldable pub inBox : Box → ℕ → Spot
+inBox x o = ifEq (x .code) MDAT (ifLt o (x .head) nowhere (spot 0 (o - x .head))) nowhere
 
-abbrev pub next : Spot → Spot
-next nowhere = nowhere
-next (spot j i) = spot (suc j) i
+abbrev pub nextPayload : Spot → Spot
+nextPayload nowhere = nowhere
+nextPayload (spot j i) = spot (suc j) i
 
 -- a spot of the boxes after x
 unfoldable pub past : Box → Spot → Spot
-past x s = ifEq (x .code) MDAT (next s) s
+past x s = ifEq (x .code) MDAT (nextPayload s) s
 
 -- the payload that place o is in, or at the end of: a place up to a box's end is judged by that box
 unfoldable pub resolve : List Box → ℕ → Spot
 resolve [] o = nowhere
-resolve (x ∷ l) o = ifLt (size x) o (past x (resolve l (o - size x))) (within x o)
+resolve (x ∷ l) o = ifLt (size x) o (past x (resolve l (o - size x))) (inBox x o)
 
 -- the place that is i bytes into payload j
 unfoldable pub placeOf : List Box → ℕ → ℕ → ℕ
@@ -54,5 +54,5 @@ unfoldable pub inAt : List Box → ℕ → ℕ → Bool
 inAt l o n = fits (mdats l) n (resolve l o)
 
 -- the same of one box, by its code, its header's length and its size: n bytes from o bytes into it
-unfoldable pub holds : (code head size o n : ℕ) → Bool
-holds code head size o n = every (isEq code MDAT ∷ isLe head o ∷ isLe (o + n) size ∷ [])
+unfoldable pub boxHolds : (code head size o n : ℕ) → Bool
+boxHolds code head size o n = every (isEq code MDAT ∷ isLe head o ∷ isLe (o + n) size ∷ [])

@@ -4,7 +4,7 @@ use mathlib.Core.Path.{_≡_}
 use mathlib.Core.List.{List}
 use lib.ListN.{length}
 use Rattle.boxes.specs.Box.{Box}
-use Rattle.sample_tables.specs.Tables.{count}
+use Rattle.sample_tables.specs.Tables.{items}
 use Rattle.sample_tables.specs.Chunks.{offsetAt}
 use Rattle.mdat.specs.Payloads.{Spot, nowhere, spot, resolve, placeOf}
 
@@ -18,8 +18,8 @@ relocate l m o = putAt m o (resolve l o)
 
 -- a table of chunk offsets, and the table with each offset relocated
 pub record Relocated (l m : List Box) (stco stco′ : List ℕ) : Type 0 where
-  pub same : count stco′ ≡ count stco
-  pub offsets : (k : ℕ) → k < count stco → offsetAt stco′ k ≡ relocate l m (offsetAt stco k)
+  pub same : items stco′ ≡ items stco
+  pub offsets : (k : ℕ) → k < items stco → offsetAt stco′ k ≡ relocate l m (offsetAt stco k)
 
 -- two boxes of the same layout
 pub record Alike (x y : Box) : Type 0 where

@@ -4,7 +4,7 @@ use mathlib.Core.Bool.{Bool}
 use mathlib.Core.List.{List}
 use Rattle.wire.specs.Sums.{allTo}
 use Rattle.boxes.specs.Box.{Box}
-use Rattle.sample_tables.specs.Tables.{count}
+use Rattle.sample_tables.specs.Tables.{items}
 use Rattle.sample_tables.specs.Chunks.{samplesOver, extentAt, Walkable}
 use Rattle.mdat.specs.Payloads.{inAt}
 
@@ -16,10 +16,10 @@ chunkIn l stsc stsz stco k = inAt l (extentAt stsc stsz stco k .offset) (extentA
 unfoldable pub chunksIn : List Box → (stsc stsz stco : List ℕ) → ℕ → Bool
 chunksIn l stsc stsz stco n = allTo (chunkIn l stsc stsz stco) n
 
-abbrev pub eight : List Box → (stsc stsz stco : List ℕ) → Bool
-eight l stsc stsz stco = chunksIn l stsc stsz stco (count stco)
+abbrev pub chunksLie : List Box → (stsc stsz stco : List ℕ) → Bool
+chunksLie l stsc stsz stco = chunksIn l stsc stsz stco (items stco)
 
 -- what a track's tables must be for it to be asked: rules 6 and 7 give this
 pub record Ready (stsc stco : List ℕ) : Type 0 where
   pub walk : Walkable stsc stco
-  pub few : samplesOver stsc (count stco) ≤ 65536
+  pub few : samplesOver stsc (items stco) ≤ 65536

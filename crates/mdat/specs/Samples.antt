@@ -2,7 +2,7 @@
 use Prim.Native.Nat.{ℕ, zero, suc, _+_}
 use mathlib.Core.List.{List, [], _∷_, _++_}
 use lib.ListN.{take, drop}
-use Rattle.sample_tables.specs.Tables.{count}
+use Rattle.sample_tables.specs.Tables.{items}
 use Rattle.sample_tables.specs.Sizes.{sizeAt, bytesFrom}
 use Rattle.sample_tables.specs.Chunks.{chunkAt}
 use Rattle.sample_tables.specs.declared.chunk.Chunk.{Chunk}
@@ -20,4 +20,4 @@ unfoldable pub chunkSamples : (file stsz : List ℕ) → Chunk → List (List �
 chunkSamples file stsz c = joinTo (λ j. sampleIn file stsz c j ∷ []) (c .samples)
 
 unfoldable pub samplesOf : (file stsc stsz stco : List ℕ) → List (List ℕ)
-samplesOf file stsc stsz stco = joinTo (λ k. chunkSamples file stsz (chunkAt stsc stco k)) (count stco)
+samplesOf file stsc stsz stco = joinTo (λ k. chunkSamples file stsz (chunkAt stsc stco k)) (items stco)

@@ -6,12 +6,12 @@ use sample_tables::chunk::ChunkWalk;
 ghost use mathlib.Core.Path.{_≡_};
 ghost use Rattle.wire.specs.Clauses.{oneIf};
 ghost use Rattle.boxes.specs.Boxes.{boxes};
-ghost use Rattle.mdat.specs.Rules.{Ready, eight as eightOf};
+ghost use Rattle.mdat.specs.Rules.{Ready, chunksLie};
 
 // Whether each chunk of a track lies inside the payload of one `mdat` of the file: 1 or 0.
 pub fn eight(file: &[u8], stsc: &[u8], stsz: &[u8], stco: &[u8]) -> usize
     requires { ⌜ Ready (now stsc) (now stco) ⌝ }
-    ensures { λ r. ⌜ r ≡ oneIf (eightOf (boxes (now (file .entry))) (now (stsc .entry)) (now (stsz .entry)) (now (stco .entry))) ⌝ }
+    ensures { λ r. ⌜ r ≡ oneIf (chunksLie (boxes (now (file .entry))) (now (stsc .entry)) (now (stsz .entry)) (now (stco .entry))) ⌝ }
 {
     let mut walk = ChunkWalk::start();
     loop {

@@ -6,12 +6,12 @@ ghost use mathlib.Core.Path.{_≡_};
 ghost use Prim.Native.Nat.{_+_, _^_, _≤_, _<_};
 ghost use Rattle.wire.specs.Clauses.{oneIf};
 ghost use Rattle.boxes.specs.Boxes.{boxes};
-ghost use Rattle.mdat.specs.Payloads.{inAt, holds as holdsOf};
+ghost use Rattle.mdat.specs.Payloads.{inAt, boxHolds};
 
 // Whether so many bytes, from so far into a box, lie in its payload, and it is an `mdat`: 1 or 0.
 fn holds(b: BoxAt, from: usize, bytes: usize) -> usize
     requires { ⌜ from ≤ b .size ⌝ }
-    ensures { λ r. ⌜ r ≡ oneIf (holdsOf (b .code) (b .head) (b .size) from bytes) ⌝ }
+    ensures { λ r. ⌜ r ≡ oneIf (boxHolds (b .code) (b .head) (b .size) from bytes) ⌝ }
 {
     if b.code != codes::MDAT {
         return 0;

@@ -17,14 +17,14 @@ use Rattle.movie.specs.declared.entry.Named.{Named}
 use Rattle.movie.specs.declared.entry.Named.the-variants.{At, Missing}
 use Rattle.movie.specs.declared.entry.Spot.{Spot}
 use Rattle.movie.specs.declared.entry.Spot.the-variants.{In, Past}
-use Rattle.movie.specs.Movie.{movie, mdia, minf, stbl, track, table}
+use Rattle.movie.specs.Movie.{movie, mdia, minf, stbl, track, sampleTable}
 use Rattle.movie.specs.Entries.{entriesStart, entries}
 use Rattle.movie.specs.Named.{listIn, heldIn, listStart, InTrack, SpotAs, PlacedAs, EntryIs, NamedAs}
 use Rattle.movie.proofs.Counting.{length-after}
 
 -- ---- as code asks
 
-pub list-is : (b stsd list : List ℕ) → stsd ≡ table STSD b → length stsd ≤ length b → list ≡ drop FRONT stsd → (list ≡ listIn b) × (length list ≤ length b)
+pub list-is : (b stsd list : List ℕ) → stsd ≡ sampleTable STSD b → length stsd ≤ length b → list ≡ drop FRONT stsd → (list ≡ listIn b) × (length list ≤ length b)
 unfolding listIn
 list-is b stsd list e h f = (f ∙ ap (drop FRONT) e, omega (arith, ap length f ∙ length-drop FRONT stsd))
 

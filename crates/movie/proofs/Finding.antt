@@ -9,7 +9,7 @@ use Rattle.wire.specs.Numbers.{word}
 use Rattle.boxes.specs.Boxes.{boxes}
 use Rattle.boxes.specs.Seek.{count, nth, find}
 use Rattle.boxes.proofs.Numbered.{found-short}
-use Rattle.movie.specs.Movie.{tracks, track, table, handler, scale, movieTicks}
+use Rattle.movie.specs.Movie.{tracks, track, sampleTable, handler, scale, movieTicks}
 
 module _ (xs : List ℕ) {moov : List ℕ} (e : moov ≡ find MOOV (boxes xs)) where
   pub tracks-are : {r : ℕ} → r ≡ count TRAK (boxes moov) → r ≤ length moov → (r ≡ tracks xs) × (r ≤ length xs)
@@ -28,8 +28,8 @@ module _ (b : List ℕ) {mdia : List ℕ} (e : mdia ≡ find MDIA (boxes b)) whe
   unfolding scale
   scale-is f g = rw (g, f, e)
 
-  pub table-is : (c : ℕ) {minf ys zs : List ℕ} → minf ≡ find MINF (boxes mdia) → ys ≡ find STBL (boxes minf) → zs ≡ find c (boxes ys) → (zs ≡ table c b) × (length zs ≤ length b)
-  unfolding table
+  pub table-is : (c : ℕ) {minf ys zs : List ℕ} → minf ≡ find MINF (boxes mdia) → ys ≡ find STBL (boxes minf) → zs ≡ find c (boxes ys) → (zs ≡ sampleTable c b) × (length zs ≤ length b)
+  unfolding sampleTable
   table-is c f g h = (rw (h, g, f, e), omega (arith, found-short _ _ _ e, found-short _ _ _ f, found-short _ _ _ g, found-short _ _ _ h))
 
 pub ticks-are : (b : List ℕ) {ys : List ℕ} {r : ℕ} → ys ≡ find TKHD (boxes b) → r ≡ word 4 ys 20 → r ≡ movieTicks b

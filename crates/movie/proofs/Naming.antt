@@ -18,7 +18,7 @@ use Rattle.boxes.proofs.Cutting.{length-box, lies-box}
 use Rattle.movie.specs.declared.entry.EntryAt.{EntryAt}
 use Rattle.movie.specs.declared.entry.Named.{Named}
 use Rattle.movie.specs.declared.entry.Named.the-variants.{At, Missing}
-use Rattle.movie.specs.Movie.{movie, mdia, minf, stbl, track, table}
+use Rattle.movie.specs.Movie.{movie, mdia, minf, stbl, track, sampleTable}
 use Rattle.movie.specs.Entries.{Entry, entriesStart, entriesOf, entries}
 use Rattle.movie.specs.Named.{listIn, listStart, InTrack, Placed, PlacedAs, EntryIs, NamedAs}
 use Rattle.movie.proofs.Boxed.{from-cut}
@@ -32,8 +32,8 @@ lies-stbl b v =
     let n = lies-in m (lies-found MINF 0 (find MDIA (boxes b)) (bytes-lies m v)) in
     lies-in n (lies-found STBL 0 (find MINF (mdia b)) (bytes-lies n v))
 
-pub lies-stsd : (b : List ℕ) → Bytes b → Lies (table STSD b) b (startIn MDIA 0 (boxes b) + startIn MINF 0 (mdia b) + startIn STBL 0 (minf b) + startIn STSD 0 (stbl b))
-unfolding table
+pub lies-stsd : (b : List ℕ) → Bytes b → Lies (sampleTable STSD b) b (startIn MDIA 0 (boxes b) + startIn MINF 0 (mdia b) + startIn STBL 0 (minf b) + startIn STSD 0 (stbl b))
+unfolding sampleTable
 lies-stsd b v = let s = lies-stbl b v in lies-in s (lies-found STSD 0 (find STBL (minf b)) (bytes-lies s v))
 
 pub lies-track : (xs : List ℕ) (t : ℕ) → Bytes xs → Lies (track xs t) xs (startIn MOOV 0 (boxes xs) + startIn TRAK t (movie xs))
@@ -45,11 +45,11 @@ unfolding listIn listStart entriesStart
 lies-list xs t v h =
     let l = lies-track xs t v in
     let b = bytes-lies l v in
-    lies-in l (lies-in (lies-stsd (track xs t) b) (lies-drop FRONT (table STSD (track xs t)) (omega (arith, length-drop FRONT (table STSD (track xs t))))))
+    lies-in l (lies-in (lies-stsd (track xs t) b) (lies-drop FRONT (sampleTable STSD (track xs t)) (omega (arith, length-drop FRONT (sampleTable STSD (track xs t))))))
 
 pub bytes-list : (xs : List ℕ) (t : ℕ) → Bytes xs → Bytes (listIn (track xs t))
 unfolding listIn
-bytes-list xs t v = let b = bytes-lies (lies-track xs t v) v in bytes-drop FRONT (table STSD (track xs t)) (bytes-lies (lies-stsd (track xs t) b) b)
+bytes-list xs t v = let b = bytes-lies (lies-track xs t v) v in bytes-drop FRONT (sampleTable STSD (track xs t)) (bytes-lies (lies-stsd (track xs t) b) b)
 
 -- ---- entry i
 

@@ -7,7 +7,7 @@ use Rattle.codes.specs.Codes.{MOOV, TRAK, MDIA, MINF, STBL, STSD}
 use Rattle.boxes.specs.Box.{Box, size, header}
 use Rattle.boxes.specs.Boxes.{FRONT, boxes}
 use Rattle.boxes.specs.Seek.{startIn}
-use Rattle.movie.specs.Movie.{movie, mdia, minf, stbl, table}
+use Rattle.movie.specs.Movie.{movie, mdia, minf, stbl, sampleTable}
 
 -- its track, from 1; its place in the file; the whole box
 pub record Entry : Type 0 where
@@ -26,7 +26,7 @@ entriesStart b = startIn MDIA 0 (boxes b) + startIn MINF 0 (mdia b) + startIn ST
 
 -- the entries of track t, whose payload b starts at place p
 unfoldable pub entriesOf : ℕ → List ℕ → ℕ → List Entry
-entriesOf t b p = entriesFrom t (boxes (drop FRONT (table STSD b))) (p + entriesStart b)
+entriesOf t b p = entriesFrom t (boxes (drop FRONT (sampleTable STSD b))) (p + entriesStart b)
 
 -- those of the boxes l of `moov`, which stand from place p on after t tracks
 unfoldable pub entriesAfter : ℕ → List Box → ℕ → List Entry

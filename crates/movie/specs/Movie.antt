@@ -32,8 +32,8 @@ stbl b = boxes (find STBL (minf b))
 -- ---- what it says
 
 -- the payload of a box of its `stbl`
-unfoldable pub table : ℕ → List ℕ → List ℕ
-table c b = find c (stbl b)
+unfoldable pub sampleTable : ℕ → List ℕ → List ℕ
+sampleTable c b = find c (stbl b)
 
 -- "hdlr has its type at 8"
 unfoldable pub handler : List ℕ → ℕ

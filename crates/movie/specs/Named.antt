@@ -15,12 +15,12 @@ use Rattle.movie.specs.declared.entry.Named.{Named}
 use Rattle.movie.specs.declared.entry.Named.the-variants.{At, Missing}
 use Rattle.movie.specs.declared.entry.Spot.{Spot}
 use Rattle.movie.specs.declared.entry.Spot.the-variants.{In, Past}
-use Rattle.movie.specs.Movie.{movie, tracks, track as trackOf, table}
+use Rattle.movie.specs.Movie.{movie, tracks, track as trackOf, sampleTable}
 use Rattle.movie.specs.Entries.{Entry, entriesStart, entriesOf, entriesAfter, entries}
 
 -- what stands past the front of the `stsd` of a track whose payload is b
 unfoldable pub listIn : List ℕ → List ℕ
-listIn b = drop FRONT (table STSD b)
+listIn b = drop FRONT (sampleTable STSD b)
 
 -- how many entries a box of `moov` holds: none where it is no `trak`
 unfoldable pub held : ℕ → List ℕ → ℕ

@@ -6,7 +6,7 @@ use wire::number;
 ghost use mathlib.Core.Path.{_≡_};
 ghost use Prim.Native.Nat.{_^_, _≤_, _<_};
 ghost use lib.ListN.{length};
-ghost use Rattle.movie.specs.Movie.{tracks as tracksOf, track as trackOf, table as tableOf, handler as handlerOf, scale as scaleOf, movieTicks as ticksOf};
+ghost use Rattle.movie.specs.Movie.{tracks as tracksOf, track as trackOf, sampleTable, handler as handlerOf, scale as scaleOf, movieTicks as ticksOf};
 
 // How many tracks a file has.
 pub fn tracks(file: &[u8]) -> usize
@@ -24,7 +24,7 @@ pub fn track(file: &[u8], t: usize) -> &[u8]
 
 // A box of a track's `stbl`.
 pub fn table(track: &[u8], code: usize) -> &[u8]
-    ensures { λ r. ⌜ (now r ≡ tableOf code (now (track .entry))) × (length (now r) ≤ length (now (track .entry))) ⌝ }
+    ensures { λ r. ⌜ (now r ≡ sampleTable code (now (track .entry))) × (length (now r) ≤ length (now (track .entry))) ⌝ }
 {
     let mdia = seek::payload(track, codes::MDIA, 0);
     let minf = seek::payload(mdia, codes::MINF, 0);

@@ -20,7 +20,7 @@ use Rattle.judge.specs.declared.Judgement.the-variants as judgement
 use Rattle.judge.specs.Judgement.{judged}
 use Rattle.newer.specs.declared.Outcome.{Outcome}
 use Rattle.newer.specs.declared.Outcome.the-variants.{Refused}
-use Rattle.newer.specs.Newer.{modified, orderOf, entryOf, zonedOf, whenAccepted, newestOf}
+use Rattle.newer.specs.Newer.{modified, orderOf, entryOf, inZones, whenFileAccepted, newestOf}
 
 -- the order that was found is that of the modification times
 pub order-entry : (xs ys : List ℕ) (i : ℕ) (y z : Zone) {m n : ℕ} {o p : Order} → m ≡ modified xs → n ≡ modified ys → o ≡ compared m y n z → o ≡ p
@@ -28,17 +28,17 @@ pub order-entry : (xs ys : List ℕ) (i : ℕ) (y z : Zone) {m n : ℕ} {o p : O
 order-entry xs ys i y z e f g h = rw (← h, g, e, f)
 
 module _ (xs : List ℕ) (y : ℤ) (ys : List ℕ) (z : ℤ) (i : ℕ) where
-  pub zone-first : {w : Zoned} → w ≡ clocks.zonedOf y → w ≡ NoZone → Refused 22 0 ≡ zonedOf xs y ys z i
-  unfolding zonedOf
+  pub zone-first : {w : Zoned} → w ≡ clocks.zonedOf y → w ≡ NoZone → Refused 22 0 ≡ inZones xs y ys z i
+  unfolding inZones
   zone-first e h = let q : false ≡ every (zoneFine y ∷ zoneFine z ∷ []) = fails 0 _ (zone-missing y e h) in rw (← q)
 
-  pub zone-second : {w : Zoned} → w ≡ clocks.zonedOf z → w ≡ NoZone → Refused 22 0 ≡ zonedOf xs y ys z i
-  unfolding zonedOf
+  pub zone-second : {w : Zoned} → w ≡ clocks.zonedOf z → w ≡ NoZone → Refused 22 0 ≡ inZones xs y ys z i
+  unfolding inZones
   zone-second e h = let q : false ≡ every (zoneFine y ∷ zoneFine z ∷ []) = fails 1 _ (zone-missing z e h) in rw (← q)
 
   pub zone-both : {v w : Zoned} {a b : Zone} {r : Outcome} → v ≡ clocks.zonedOf y → v ≡ Seconds a → w ≡ clocks.zonedOf z → w ≡ Seconds b
-      → r ≡ entryOf (compared (modified xs) a (modified ys) b) xs ys i → r ≡ zonedOf xs y ys z i
-  unfolding zonedOf orderOf
+      → r ≡ entryOf (compared (modified xs) a (modified ys) b) xs ys i → r ≡ inZones xs y ys z i
+  unfolding inZones orderOf
   zone-both {a = a} {b = b} e h f k q =
       let s = zone-found y e a h in
       let t = zone-found z f b k in
@@ -47,14 +47,14 @@ module _ (xs : List ℕ) (y : ℤ) (ys : List ℕ) (z : ℤ) (i : ℕ) where
 
   module _ {j : Judgement} (e : j ≡ judged xs) where
     pub file-first : {n p : ℕ} → j ≡ judgement.Refused n p → Refused (256 + n) p ≡ newestOf xs y ys z i
-    unfolding newestOf whenAccepted
+    unfolding newestOf whenFileAccepted
     file-first h = rw (← e, h)
 
     module _ (g : j ≡ judgement.Accepted) {k : Judgement} (f : k ≡ judged ys) where
       pub file-second : {n p : ℕ} → k ≡ judgement.Refused n p → Refused (512 + n) p ≡ newestOf xs y ys z i
-      unfolding newestOf whenAccepted
+      unfolding newestOf whenFileAccepted
       file-second h = rw (← e, g, ← f, h)
 
-      pub file-both : k ≡ judgement.Accepted → {r : Outcome} → r ≡ zonedOf xs y ys z i → r ≡ newestOf xs y ys z i
-      unfolding newestOf whenAccepted
+      pub file-both : k ≡ judgement.Accepted → {r : Outcome} → r ≡ inZones xs y ys z i → r ≡ newestOf xs y ys z i
+      unfolding newestOf whenFileAccepted
       file-both h q = rw (← e, g, ← f, h) q

@@ -14,26 +14,26 @@ use Rattle.rule.specs.declared.Verdict.the-variants.{Fine, Bad}
 use Rattle.rule.specs.Judge.{Judge}
 use Rattle.judge.specs.declared.Judgement.{Judgement}
 use Rattle.judge.specs.declared.Judgement.the-variants.{Refused}
-use Rattle.judge.specs.Judgement.{number, judges, verdictBy, next, judgedFrom, judged}
+use Rattle.judge.specs.Judgement.{judgedNumber, judges, verdictBy, unlessBroken, judgedFrom, judged}
 
-next-most : (m n : ℕ) (v : Verdict) (j : Judgement) → n ≤ m → number j ≤ m → number (next n v j) ≤ m
-unfolding next
+next-most : (m n : ℕ) (v : Verdict) (j : Judgement) → n ≤ m → judgedNumber j ≤ m → judgedNumber (unlessBroken n v j) ≤ m
+unfolding unlessBroken
 next-most m n Fine j h g = g
 next-most m n (Bad p) j h g = h
 
-from-most : (n : ℕ) (js : List Judge) (xs : List ℕ) → number (judgedFrom n js xs) ≤ n + length js
+from-most : (n : ℕ) (js : List Judge) (xs : List ℕ) → judgedNumber (judgedFrom n js xs) ≤ n + length js
 unfolding judgedFrom
 from-most n [] xs = omega arith
 from-most n (j ∷ js) xs = next-most (n + length (j ∷ js)) n (verdictBy j xs) (judgedFrom (n + 1) js xs) (omega arith) (omega (arith, from-most (n + 1) js xs))
 
-judged-most : (xs : List ℕ) → number (judged xs) ≤ 11
+judged-most : (xs : List ℕ) → judgedNumber (judged xs) ≤ 11
 unfolding judged ifLt
 judged-most xs = go (ltb (length xs) 8) (ltb LONGEST (length xs))
   where
-    go : (s t : Bool) → number (pick s (Refused 1 0) (pick t (Refused 1 0) (judgedFrom 2 (judges (boxes xs)) xs))) ≤ 11
+    go : (s t : Bool) → judgedNumber (pick s (Refused 1 0) (pick t (Refused 1 0) (judgedFrom 2 (judges (boxes xs)) xs))) ≤ 11
     go true t = omega arith
     go false true = omega arith
     go false false = from-most 2 (judges (boxes xs)) xs
 
 pub refused-small : (xs : List ℕ) {j : Judgement} → j ≡ judged xs → (n p : ℕ) → j ≡ Refused n p → n ≤ 11
-refused-small xs {j} e n p q = let h : number j ≤ 11 = rw e (judged-most xs) in let m : number j ≡ n = ap number q in omega arith
+refused-small xs {j} e n p q = let h : judgedNumber j ≤ 11 = rw e (judged-most xs) in let m : judgedNumber j ≡ n = ap judgedNumber q in omega arith

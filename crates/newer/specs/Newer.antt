@@ -48,16 +48,16 @@ entryOf Same xs ys i = entryIn 1 1 xs i
 entryOf Later xs ys i = entryIn 2 1 xs i
 
 -- "A refusal of 1 to 10 names the file": 256 times the file, and the number
-unfoldable pub whenAccepted : ℕ → Judgement → Outcome → Outcome
-whenAccepted file judgement.Accepted a = a
-whenAccepted file (judgement.Refused n p) a = Refused (256 * file + n) p
+unfoldable pub whenFileAccepted : ℕ → Judgement → Outcome → Outcome
+whenFileAccepted file judgement.Accepted a = a
+whenFileAccepted file (judgement.Refused n p) a = Refused (256 * file + n) p
 
 -- "22 is given for the minutes only and comes before 20"
-unfoldable pub zonedOf : List ℕ → ℤ → List ℕ → ℤ → ℕ → Outcome
-zonedOf xs y ys z i = pick (every (zoneFine y ∷ zoneFine z ∷ [])) (entryOf (orderOf xs y ys z) xs ys i) (Refused 22 0)
+unfoldable pub inZones : List ℕ → ℤ → List ℕ → ℤ → ℕ → Outcome
+inZones xs y ys z i = pick (every (zoneFine y ∷ zoneFine z ∷ [])) (entryOf (orderOf xs y ys z) xs ys i) (Refused 22 0)
 
 unfoldable pub newestOf : List ℕ → ℤ → List ℕ → ℤ → ℕ → Outcome
-newestOf xs y ys z i = whenAccepted 1 (judged xs) (whenAccepted 2 (judged ys) (zonedOf xs y ys z i))
+newestOf xs y ys z i = whenFileAccepted 1 (judged xs) (whenFileAccepted 2 (judged ys) (inZones xs y ys z i))
 
 -- ---- as a part of one of the files, and one number
 
@@ -67,6 +67,6 @@ partOf xs ys (Found f) = take (f .size) (drop (f .place) (ifEq (f .file) 1 xs ys
 partOf xs ys (Refused n p) = []
 
 -- 0 earlier, 1 same, 2 later, of the first file; the refusal's number times 2^32, and its place
-abbrev pub answerOf : Outcome → ℕ
-answerOf (Found f) = f .order
-answerOf (Refused n p) = n % 4294967296 * 4294967296 + p % 4294967296
+abbrev pub partAnswer : Outcome → ℕ
+partAnswer (Found f) = f .order
+partAnswer (Refused n p) = n % 4294967296 * 4294967296 + p % 4294967296

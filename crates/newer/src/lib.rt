@@ -14,7 +14,7 @@ ghost use lib.ListN.{length, take, drop};
 ghost use Rattle.boxes.specs.Containers.{LONGEST};
 ghost use Rattle.clocks.specs.Zones.{Near};
 ghost use Rattle.clocks.specs.Zones.{compared as comparedOf};
-ghost use Rattle.newer.specs.Newer.{modified as modifiedOf, entryIn, entryOf, zonedOf, newestOf, partOf, answerOf};
+ghost use Rattle.newer.specs.Newer.{modified as modifiedOf, entryIn, entryOf, inZones, newestOf, partOf, partAnswer};
 
 // What the first file is (0 earlier, 1 same, 2 later), and where the entry of the later one is.
 pub struct Part {
@@ -72,7 +72,7 @@ fn compared(first: &[u8], y: Zone, second: &[u8], z: Zone, i: usize) -> Outcome
 // The same by minutes.
 fn zoned(first: &[u8], y: i64, second: &[u8], z: i64, i: usize) -> Outcome
     requires { ⌜ (length (now first) ≤ LONGEST) × (length (now second) ≤ LONGEST) ⌝ }
-    ensures { λ r. ⌜ r ≡ zonedOf (now (first .entry)) y (now (second .entry)) z i ⌝ }
+    ensures { λ r. ⌜ r ≡ inZones (now (first .entry)) y (now (second .entry)) z i ⌝ }
 {
     match clocks::zone_of(y) {
         Zoned::Seconds(a) => match clocks::zone_of(z) {
@@ -112,7 +112,7 @@ pub fn newer<'a>(
     i: usize,
     answer: &mut u64,
 ) -> &'a [u8]
-    ensures { λ r. ⌜ (now r ≡ partOf (now (first .entry)) (now (second .entry)) (newestOf (now (first .entry)) y (now (second .entry)) z i)) × (now (answer .exit) ≡ answerOf (newestOf (now (first .entry)) y (now (second .entry)) z i)) ⌝ }
+    ensures { λ r. ⌜ (now r ≡ partOf (now (first .entry)) (now (second .entry)) (newestOf (now (first .entry)) y (now (second .entry)) z i)) × (now (answer .exit) ≡ partAnswer (newestOf (now (first .entry)) y (now (second .entry)) z i)) ⌝ }
 {
     match newest(first, y, second, z, i) {
         Outcome::Found(f) => {

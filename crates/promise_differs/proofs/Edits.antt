@@ -26,7 +26,7 @@ use Rattle.judge.specs.Acceptance.{Meets}
 use Rattle.edit_offsets.specs.Settle.{settled}
 use Rattle.edit_offsets.proofs.Settled.{settled-length}
 use Rattle.edit_move.specs.Moving.{moveOf}
-use Rattle.edit_replace.specs.Replace.{kindAt, recordAt, replaced, replaceOf}
+use Rattle.edit_replace.specs.Replace.{kindAt, recordAt, recordReplaced, replaceOf}
 use Rattle.edit_replace.proofs.Taking.{record-first}
 use Rattle.edit_replace.proofs.Written.{spot-none}
 use Rattle.edit_shift.specs.Shift.{shiftOf}
@@ -53,7 +53,7 @@ held-past t (x ∷ l) i e =
 
 -- "Replace decoder record of entry i": one that meets its rule, where the result is not too long
 pub replace-differs : (xs : List ℕ) (i : ℕ) (new : List ℕ) → Bytes xs → Bytes new → Meets xs → recordRule (kindAt xs i) FRAMES new ≡ 1 → length (replaceOf xs i new) ≤ LONGEST → Replaces xs i new (replaceOf xs i new)
-unfolding replaceOf replaced
+unfolding replaceOf recordReplaced
 replace-differs xs i new w v m r h = go (spotIn 0 (movie xs) (i - 1)) refl (rw settled-length at h)
   where
     go : (s : Spot) → spotIn 0 (movie xs) (i - 1) ≡ s → length (recordAt s (keptOf xs i) new xs) ≤ LONGEST → Replaces xs i new (settled xs (recordAt s (keptOf xs i) new xs))

@@ -22,13 +22,13 @@ use Rattle.edit_offsets.proofs.Settled.{settled-length}
 use Rattle.edit_move.specs.Moving.{moovSecond, moveOf}
 use Rattle.promise_kept.proofs.Arranging.{arranged-boxes, arranged-bytes, arranged-length}
 use Rattle.promise_kept.proofs.Second.{second}
-use Rattle.promise_differs.specs.Differs.{Offsets, OnlyOffsets}
+use Rattle.promise_differs.specs.Differs.{HasOffsets, OnlyOffsets}
 use Rattle.promise_differs.proofs.Bodies.{but-tail}
 
 -- ---- chunk offsets by any function
 
 module _ (f : ℕ → ℕ) (k c : ℕ) (b : List ℕ) where
-  others-same : (Offsets k c → ⊥) → b ≡ rewordLeaf offsets f k c b
+  others-same : (HasOffsets k c → ⊥) → b ≡ rewordLeaf offsets f k c b
   others-same n = eq-or k STBL (λ e. leaf-code offsets f k c b e (λ g. n (e, g))) (leaf-kind offsets f k c b)
 
   pub only-offsets : (b′ : List ℕ) → Made (rewordLeaf offsets f) k c b b′ → OnlyOffsets k c b b′

@@ -18,7 +18,7 @@ use Rattle.boxes.proofs.Lying.{bytes-lies, lies-found}
 use Rattle.boxes.proofs.Down.{endOf, end-by}
 use Rattle.boxes.proofs.OneOfPart.{nth-here, nth-other}
 use Rattle.movie.specs.declared.entry.Spot.the-variants.{In}
-use Rattle.movie.specs.Movie.{track, table}
+use Rattle.movie.specs.Movie.{track, sampleTable}
 use Rattle.edit_offsets.specs.Settle.{settled}
 use Rattle.edit_replace.specs.Replace.{turn, recordAt}
 use Rattle.edit_replace.proofs.Changing.{stsd-end, by-stsd, toStsd, toEntry, down-stsd}
@@ -36,7 +36,7 @@ module _ (t n keep : ℕ) (new xs : List ℕ) (w : Bytes new) (v : Bytes xs) (s 
   -- ---- the track of the entry
 
   -- its `stsd` has the record
-  pub record-there : 1 ≤ length (table STSD (track xs t)) → table STSD (track (settled xs (recordAt (In t n) keep new xs)) t) ≡ withRecord n keep new (table STSD (track xs t))
+  pub record-there : 1 ≤ length (sampleTable STSD (track xs t)) → sampleTable STSD (track (settled xs (recordAt (In t n) keep new xs)) t) ≡ withRecord n keep new (sampleTable STSD (track xs t))
   unfolding editWay
   record-there l =
       let q = by-stsd t n keep new xs in

@@ -12,7 +12,7 @@ use Rattle.boxes.specs.Seek.{ANY}
 use Rattle.boxes.specs.Kin.{Kin}
 use Rattle.boxes.specs.Way.{overTurn, tailBy}
 use Rattle.movie.specs.declared.entry.Spot.the-variants.{In}
-use Rattle.movie.specs.Movie.{movie, track, table}
+use Rattle.movie.specs.Movie.{movie, track, sampleTable}
 use Rattle.movie.specs.Named.{spotIn}
 use Rattle.entry_heads.specs.Heads.{headSize}
 use Rattle.edit_replace.specs.Replace.{kindAt}
@@ -34,30 +34,30 @@ ButTimes b b′ = But 4 12 b b′
 -- ---- the boxes with such fields, by the container's kind k and the code c
 
 -- chunk offsets: `stco` in `stbl`
-abbrev pub Offsets : ℕ → ℕ → Type 0
-Offsets k c = (k ≡ STBL) × (c ≡ STCO)
+abbrev pub HasOffsets : ℕ → ℕ → Type 0
+HasOffsets k c = (k ≡ STBL) × (c ≡ STCO)
 
 -- times: `mvhd` in `moov`, `tkhd` in `trak`, `mdhd` in `mdia`
-abbrev pub Timed : ℕ → ℕ → Type 0
-Timed k c = ((k ≡ MOOV) × (c ≡ MVHD)) ⊎ (((k ≡ TRAK) × (c ≡ TKHD)) ⊎ ((k ≡ MDIA) × (c ≡ MDHD)))
+abbrev pub HasTimes : ℕ → ℕ → Type 0
+HasTimes k c = ((k ≡ MOOV) × (c ≡ MVHD)) ⊎ (((k ≡ TRAK) × (c ≡ TKHD)) ⊎ ((k ≡ MDIA) × (c ≡ MDHD)))
 
 -- sample entries: `stsd` in `stbl`
-abbrev pub Described : ℕ → ℕ → Type 0
-Described k c = (k ≡ STBL) × (c ≡ STSD)
+abbrev pub HasEntries : ℕ → ℕ → Type 0
+HasEntries k c = (k ≡ STBL) × (c ≡ STSD)
 
 -- ---- a move
 
 -- chunk offsets; every other opaque box is the same
 pub record OnlyOffsets (k c : ℕ) (b b′ : List ℕ) : Type 0 where
-  pub offsets : Offsets k c → ButOffsets b b′
-  pub rest : (Offsets k c → ⊥) → b ≡ b′
+  pub offsets : HasOffsets k c → ButOffsets b b′
+  pub rest : (HasOffsets k c → ⊥) → b ≡ b′
 
 -- ---- a shift
 
 -- times; every other opaque box is the same, and so are chunk offsets, since nothing moves
 pub record OnlyTimes (k c : ℕ) (b b′ : List ℕ) : Type 0 where
-  pub times : Timed k c → ButTimes b b′
-  pub rest : (Timed k c → ⊥) → b ≡ b′
+  pub times : HasTimes k c → ButTimes b b′
+  pub rest : (HasTimes k c → ⊥) → b ≡ b′
 
 -- ---- a replacement
 
@@ -67,9 +67,9 @@ withRecord n keep new b = overTurn (record { skip = FRONT; code = ANY; nth = n }
 
 -- one record in an `stsd`, and chunk offsets; every other opaque box is the same
 pub record OnlyRecord (n keep : ℕ) (new : List ℕ) (k c : ℕ) (b b′ : List ℕ) : Type 0 where
-  pub offsets : Offsets k c → ButOffsets b b′
-  pub entry : Described k c → (b ≡ b′) ⊎ (b′ ≡ withRecord n keep new b)
-  pub rest : (Offsets k c → ⊥) → (Described k c → ⊥) → b ≡ b′
+  pub offsets : HasOffsets k c → ButOffsets b b′
+  pub entry : HasEntries k c → (b ≡ b′) ⊎ (b′ ≡ withRecord n keep new b)
+  pub rest : (HasOffsets k c → ⊥) → (HasEntries k c → ⊥) → b ≡ b′
 
 -- how many bytes of the payload of entry i stand before its record
 abbrev pub keptOf : List ℕ → ℕ → ℕ
@@ -86,5 +86,5 @@ pub record Replaces (xs : List ℕ) (i : ℕ) (new ys : List ℕ) : Type 0 where
   pub n : ℕ
   pub spot : spotIn 0 (movie xs) (i - 1) ≡ In t n
   pub differs : Kin (OnlyRecord n (keptOf xs i) new) DEPTH FILE xs ys
-  pub there : table STSD (track ys t) ≡ withRecord n (keptOf xs i) new (table STSD (track xs t))
+  pub there : sampleTable STSD (track ys t) ≡ withRecord n (keptOf xs i) new (sampleTable STSD (track xs t))
   pub elsewhere : (u : ℕ) → (u ≡ t → ⊥) → Kin OnlyOffsets TRACK TRAK (track xs u) (track ys u)

@@ -11,7 +11,7 @@ use Rattle.boxes.specs.Boxes.{boxes}
 use Rattle.boxes.specs.Containers.{FILE, DEPTH, LONGEST}
 use Rattle.rule.specs.Rule.{Rule}
 use Rattle.rule_shape.specs.Shape.{needed, besides, shape}
-use Rattle.rule_shape.specs.Rules.{twoRule, threeRule, plainRule}
+use Rattle.rule_shape.specs.Rules.{twoRule, threeRule, editableRule}
 use Rattle.rule_shape.proofs.Keeping.{same-exactly, kin-2, kin-3, kin-plain}
 use Rattle.rule_lists.specs.Rules.{fiveRule, nineRule}
 use Rattle.rule_lists.proofs.Keeping.{kin-5, kin-9}
@@ -24,7 +24,7 @@ use Rattle.rule_tracks.proofs.Kept.{kin-6, kin-7}
 use Rattle.rule_tracks.proofs.KeptEight.{kin-8}
 use Rattle.rule_entries.specs.Ten.{tenIn, tenRule}
 use Rattle.rule_entries.proofs.Kept.{kin-10}
-use Rattle.judge.specs.Acceptance.{Holds, Meets, plain}
+use Rattle.judge.specs.Acceptance.{Holds, Meets, editable}
 use Rattle.promise_kept.proofs.Content.{Content}
 use Rattle.promise_kept.proofs.Forms.{six-forms}
 use Rattle.promise_kept.proofs.Arranges.{Arranges}
@@ -49,9 +49,9 @@ module _ {A : List Box → List Box} (a : Arranges A) (xs ys : List ℕ) (w : By
   to-file r = arranged-rule a mid (new-bytes a xs ys w m c) (new-tiled a xs ys w m c) (new-small a xs ys w m c) r 5 FILE
 
   -- refusal 23 lets it pass again
-  pub edit-plain : plain xs ≡ true → plain result ≡ true
+  pub edit-plain : editable xs ≡ true → editable result ≡ true
   edit-plain q =
-      to-file plainRule (λ p. rw (in-order a xs ys w m c, same-exactly (A (boxes mid)) (boxes mid) (λ d. a .counts d (boxes mid)) 0) p)
+      to-file editableRule (λ p. rw (in-order a xs ys w m c, same-exactly (A (boxes mid)) (boxes mid) (λ d. a .counts d (boxes mid)) 0) p)
       (kin-plain (Edit a xs ys w m c) DEPTH FILE xs mid (edit-kin a xs ys w m c) q)
 
   -- every rule holds of it

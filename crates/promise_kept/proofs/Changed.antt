@@ -22,7 +22,7 @@ use Rattle.entry_rules.specs.Entries.{FRAMES}
 use Rattle.entry_rules.specs.declared.entry.Around.{Around}
 use Rattle.entry_rules.specs.Decoders.{recordRule}
 use Rattle.rule.specs.Rule.{allList}
-use Rattle.rule_lists.specs.Forms.{stored, listForm}
+use Rattle.rule_lists.specs.Forms.{storedCount, listForm}
 use Rattle.rule_entries.specs.Ten.{entryFine, entriesFine}
 use Rattle.promise_kept.proofs.Entry.{entry-changed}
 
@@ -75,7 +75,7 @@ module _ (new b b′ : List ℕ) (c : Changed new b b′) where
   changed-word at h = sym (in-front b′ at long h) ∙ ap (λ (u : List ℕ). word 4 u at) (c .front) ∙ in-front b at (c .room) h
 
   -- the stored count is kept
-  pub changed-stored : stored b ≡ stored b′
+  pub changed-stored : storedCount b ≡ storedCount b′
   changed-stored = sym (changed-word 4 (omega arith))
 
   -- the form is kept

@@ -17,7 +17,7 @@ use Rattle.rule.specs.declared.Answer.the-variants.{Done, Refused}
 use Rattle.rule.proofs.Answers.{refused-not}
 use Rattle.judge.specs.declared.Judgement.the-variants as judgement
 use Rattle.judge.specs.Judgement.{judged}
-use Rattle.judge.specs.Acceptance.{Meets, plain}
+use Rattle.judge.specs.Acceptance.{Meets, editable}
 use Rattle.judge.proofs.Calls.{when-done}
 use Rattle.judge.proofs.Exact.{accepted-meets}
 use Rattle.edit_move.specs.Moving.{moveOf, moveAnswer}
@@ -53,10 +53,10 @@ pub replace-passed : (xs : List ℕ) (i : ℕ) (new out : List ℕ) {n : ℕ} �
 unfolding replaceAnswer takenAnswer settledAnswer
 replace-passed xs i new out e =
     let a = when-done (judged xs) _ e in
-    let s = pick (plain xs) (roomAnswer (replaceOf xs i new) out) (Refused 23 0) in
+    let s = pick (editable xs) (roomAnswer (replaceOf xs i new) out) (Refused 23 0) in
     let b = pick-done (takes (kindAt xs i) new) (ifEq (recordRule (kindAt xs i) FRAMES new) 1 s (Refused 21 0)) 20 0 (a .1) in
     let c = equal-done (recordRule (kindAt xs i) FRAMES new) 1 s 21 0 (b .1) in
-    let d = pick-done (plain xs) (roomAnswer (replaceOf xs i new) out) 23 0 (c .1) in
+    let d = pick-done (editable xs) (roomAnswer (replaceOf xs i new) out) 23 0 (c .1) in
     (accepted-meets xs (a .0), c .0, room-done (replaceOf xs i new) out (d .1))
 
 -- ---- the calls

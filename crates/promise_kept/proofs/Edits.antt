@@ -19,7 +19,7 @@ use Rattle.judge.specs.Acceptance.{Meets}
 use Rattle.edit_offsets.specs.Settle.{settled}
 use Rattle.edit_offsets.proofs.Settled.{settled-length}
 use Rattle.edit_move.specs.Moving.{moveOf}
-use Rattle.edit_replace.specs.Replace.{kindAt, recordAt, replaced, replaceOf}
+use Rattle.edit_replace.specs.Replace.{kindAt, recordAt, recordReplaced, replaceOf}
 use Rattle.edit_shift.specs.Shift.{shiftOf}
 use Rattle.promise_kept.specs.Kept.{Kept}
 use Rattle.promise_kept.proofs.Content.{content-same}
@@ -40,7 +40,7 @@ keeps-shift z xs w m = keeps-stay xs _ w m (shift-content (shiftTime z) xs w (m 
 
 -- "Replace decoder record of entry i": one that meets its rule, where the result is not too long
 pub keeps-replace : (xs : List ℕ) (i : ℕ) (new : List ℕ) → Bytes xs → Bytes new → Meets xs → recordRule (kindAt xs i) FRAMES new ≡ 1 → length (replaceOf xs i new) ≤ LONGEST → Kept xs (replaceOf xs i new)
-unfolding replaceOf replaced
+unfolding replaceOf recordReplaced
 keeps-replace xs i new w v m r h = go (spotIn 0 (movie xs) (i - 1)) refl (rw settled-length at h)
   where
     go : (s : Spot) → spotIn 0 (movie xs) (i - 1) ≡ s → length (recordAt s (headSize (kindAt xs i) - HEAD) new xs) ≤ LONGEST → Kept xs (settled xs (recordAt s (headSize (kindAt xs i) - HEAD) new xs))

@@ -20,7 +20,7 @@ use Rattle.entry_heads.specs.Heads.{headSize}
 use Rattle.entry_heads.proofs.Heading.{audio-size, visual-size}
 use Rattle.entry_rules.specs.declared.entry.Around.{Around}
 use Rattle.entry_rules.specs.Decoders.{recordRule}
-use Rattle.entry_rules.specs.Entries.{entryRule, replaced, FRAMES}
+use Rattle.entry_rules.specs.Entries.{entryRule, behindHead, FRAMES}
 use Rattle.entry_rules.proofs.Speech.{Spoken, soun, speech-met}
 use Rattle.entry_rules.proofs.Picture.{vide, picture-met}
 use Rattle.entry_rules.proofs.Kept.{record-kinds, entry-kept}
@@ -49,8 +49,8 @@ module _ (x : Box) (g : Good x) where
   code-is = rw append-assoc (word-right 4 (bytes 4 (size x)) (bytes 4 (x .code) ++ x .body) 4 0 (length-bytes 4 (size x)) ∙ word-bytes 4 (x .code) (x .body) (g .code))
 
   -- other bytes behind its head
-  tail-is : (keep : ℕ) (new : List ℕ) → keep ≤ length (x .body) → header (remade x (tailBy keep new (x .body))) ++ tailBy keep new (x .body) ≡ replaced (8 + keep) (header x ++ x .body) new
-  unfolding replaced header
+  tail-is : (keep : ℕ) (new : List ℕ) → keep ≤ length (x .body) → header (remade x (tailBy keep new (x .body))) ++ tailBy keep new (x .body) ≡ behindHead (8 + keep) (header x ++ x .body) new
+  unfolding behindHead header
   tail-is keep new h =
       let b = x .body in
       let t : take (8 + keep) (header x ++ b) ≡ header x ++ take keep b = take-past (header x) b 8 keep (length-header x) in

@@ -8,7 +8,7 @@ use Rattle.wire.proofs.Tests.{eq-kept}
 use Rattle.boxes.specs.Kin.{Leaf}
 use Rattle.sample_tables.specs.Tables.{tableForm}
 use Rattle.sample_tables.specs.Sizes.{sizesForm}
-use Rattle.rule_tracks.specs.Six.{tableOf, tableIn}
+use Rattle.rule_tracks.specs.Six.{tableFine, tableIn}
 use Rattle.rule_tracks.proofs.Kept.{Tables}
 
 module _ (G : Leaf) (t : Tables G) where
@@ -16,8 +16,8 @@ module _ (G : Leaf) (t : Tables G) where
   same-form : (c : ℕ) (T : List ℕ → Bool) {d : ℕ} {b b′ : List ℕ} → ((b b′ : List ℕ) → G STBL c b b′ → T b ≡ T b′) → d ≡ c → G STBL d b b′ → T b ≡ true → T b′ ≡ true
   same-form c T {d} {b} {b′} h e g q = sym (h b b′ (subst (λ (i : ℕ). G STBL i b b′) e g)) ∙ q
 
-  table-kept : (c : ℕ) (b b′ : List ℕ) → G STBL c b b′ → tableOf c b ≡ true → tableOf c b′ ≡ true
-  unfolding tableOf
+  table-kept : (c : ℕ) (b b′ : List ℕ) → G STBL c b b′ → tableFine c b ≡ true → tableFine c b′ ≡ true
+  unfolding tableFine
   table-kept c b b′ g =
       eq-kept c STTS _ _ _ _ (λ e. same-form STTS (tableForm 8) (λ u v r. ap (tableForm 8) (t .stts u v r)) e g)
       (eq-kept c STSC _ _ _ _ (λ e. same-form STSC (tableForm 12) (λ u v r. ap (tableForm 12) (t .stsc u v r)) e g)

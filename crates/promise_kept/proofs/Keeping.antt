@@ -25,14 +25,14 @@ use Rattle.promise_kept.proofs.Sampling.{edit-tracks, edit-samples}
 
 -- a file keeps itself
 pub kept-refl : (xs : List ℕ) → Bytes xs → Meets xs → Kept xs xs
-kept-refl xs w m = record { accepted = m; plain = λ q. q; tracks = refl; samples = λ t. refl; bytes = w }
+kept-refl xs w m = record { accepted = m; editable = λ q. q; tracks = refl; samples = λ t. refl; bytes = w }
 
 -- what two edits in a row keep
 pub kept-then : (xs ys zs : List ℕ) → Kept xs ys → Kept ys zs → Kept xs zs
 kept-then xs ys zs k h =
     record {
       accepted = h .accepted;
-      plain = λ q. h .plain (k .plain q);
+      editable = λ q. h .editable (k .editable q);
       tracks = h .tracks ∙ k .tracks;
       samples = λ t. h .samples t ∙ k .samples t;
       bytes = h .bytes;
@@ -65,7 +65,7 @@ module _ {A : List Box → List Box} (a : Arranges A) (xs ys : List ℕ) (w : By
   kept =
       record {
         accepted = edit-meets a xs ys w m c (omega (arith, long, least)) (omega (arith, long, new-length a xs ys w m c, c .small));
-        plain = edit-plain a xs ys w m c;
+        editable = edit-plain a xs ys w m c;
         tracks = edit-tracks a xs ys w m c;
         samples = edit-samples a xs ys w m c;
         bytes = arranged-bytes a mid (new-bytes a xs ys w m c) (new-tiled a xs ys w m c) (new-small a xs ys w m c);

@@ -14,7 +14,7 @@ use Rattle.boxes.proofs.Whole.{Good}
 use Rattle.boxes.proofs.Reading.{parts, lengths, length-cons, write-append}
 use Rattle.boxes.proofs.Every.{all-here}
 use Rattle.movie.specs.declared.entry.Spot.the-variants.{In}
-use Rattle.movie.specs.Movie.{movie, track, table}
+use Rattle.movie.specs.Movie.{movie, track, sampleTable}
 use Rattle.movie.specs.Entries.{entries}
 use Rattle.movie.specs.Named.{listIn, spotIn, bytesAt}
 use Rattle.movie.proofs.Finding.{track-is, table-is}
@@ -29,13 +29,13 @@ pub record EntryIn (xs : List ℕ) (i t n : ℕ) : Type 0 where
   pub before : List Box
   pub box : Box
   pub past : List Box
-  pub list : boxes (drop FRONT (table STSD (track xs t))) ≡ before ++ box ∷ past
+  pub list : boxes (drop FRONT (sampleTable STSD (track xs t))) ≡ before ++ box ∷ past
   pub nth : count ANY before ≡ n
   pub good : Good box
   pub kind : kindOf (box .code) ≡ kindAt xs i
-  pub filled : Bytes (drop FRONT (table STSD (track xs t)))
-  pub room : FRONT ≤ length (table STSD (track xs t))
-  pub short : length (table STSD (track xs t)) ≤ length xs
+  pub filled : Bytes (drop FRONT (sampleTable STSD (track xs t)))
+  pub room : FRONT ≤ length (sampleTable STSD (track xs t))
+  pub short : length (sampleTable STSD (track xs t)) ≤ length xs
 
 -- a list of boxes is not behind a front that is too short
 room-is : (b : List ℕ) (p : List Box) (x : Box) (q : List Box) → boxes (drop FRONT b) ≡ p ++ x ∷ q → FRONT ≤ length b
@@ -49,11 +49,11 @@ kind-at xs i x g h e = eq-nay _ _ _ _ _ (λ z. omega arith) (ap kindOf (sym (cod
 
 -- where its spot says
 pub entry-in : (xs : List ℕ) (i : ℕ) → Bytes xs → 1 ≤ i → (t n : ℕ) → spotIn 0 (movie xs) (i - 1) ≡ In t n → EntryIn xs i t n
-unfolding listIn table track
+unfolding listIn sampleTable track
 entry-in xs i w h t n e =
     let s = entry-split xs (i - 1) t n e in
-    let f : Bytes (drop FRONT (table STSD (track xs t))) = bytes-list xs t w in
-    let g = all-here (s .before) (s .box) (s .past) (rw (s .list) at (parts (drop FRONT (table STSD (track xs t))) f .good)) in
+    let f : Bytes (drop FRONT (sampleTable STSD (track xs t))) = bytes-list xs t w in
+    let g = all-here (s .before) (s .box) (s .past) (rw (s .list) at (parts (drop FRONT (sampleTable STSD (track xs t))) f .good)) in
     record {
       before = s .before;
       box = s .box;
@@ -63,6 +63,6 @@ entry-in xs i w h t n e =
       good = g;
       kind = kind-at xs i (s .box) g h (s .bytes);
       filled = f;
-      room = room-is (table STSD (track xs t)) (s .before) (s .box) (s .past) (s .list);
+      room = room-is (sampleTable STSD (track xs t)) (s .before) (s .box) (s .past) (s .list);
       short = omega (arith, track-is xs refl t refl .1, table-is (track xs t) refl STSD refl refl refl .1);
     }

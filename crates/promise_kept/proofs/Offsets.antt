@@ -23,7 +23,7 @@ use Rattle.sample_tables.proofs.Tables.{form-is}
 use Rattle.mdat.specs.Relocate.{relocate, Relocated}
 use Rattle.mdat.proofs.Rewording.{relocated-reword}
 use Rattle.rule_headers.specs.Forms.{ifBox, form}
-use Rattle.rule_tracks.specs.Six.{tableOf, tableIn, sixRule}
+use Rattle.rule_tracks.specs.Six.{tableFine, tableIn, sixRule}
 use Rattle.edit_offsets.specs.Settle.{offsets}
 use Rattle.promise_kept.proofs.Sound.{Sound}
 use Rattle.promise_kept.proofs.Words.{byte-before, word-before}
@@ -76,7 +76,7 @@ module _ (f : ℕ → ℕ) where
 module _ (G : Leaf) (same : (b b′ : List ℕ) → G STBL STCO b b′ → b ≡ b′) (f : ℕ → ℕ) (l m : List Box) (is : (o : ℕ) → f o ≡ relocate l m o) (below : (o : ℕ) → o < 4294967296 → relocate l m o < 4294967296) where
   -- a table that had its form has each offset relocated
   pub offsets-moved : (b b″ : List ℕ) → Then (With sixRule (With (short LONGEST) G)) (Made (rewordLeaf offsets f)) STBL STCO b b″ → Relocated l m b b″
-  unfolding rewordLeaf ifEq tableIn tableOf
+  unfolding rewordLeaf ifEq tableIn tableFine
   offsets-moved b b″ r =
       let e : b ≡ r .0 = same b (r .0) (r .1 .0 .0) in
       let n : length b ≤ LONGEST = le-is _ _ (r .1 .0 .1) in

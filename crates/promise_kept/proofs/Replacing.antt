@@ -18,7 +18,7 @@ use Rattle.boxes.proofs.Down.{Once}
 use Rattle.boxes.proofs.OneOfList.{nth-by}
 use Rattle.boxes.proofs.OneOfPart.{boxes-nth, after-nth}
 use Rattle.movie.specs.declared.entry.Spot.the-variants.{In}
-use Rattle.movie.specs.Movie.{movie, track, table}
+use Rattle.movie.specs.Movie.{movie, track, sampleTable}
 use Rattle.movie.specs.Named.{spotIn}
 use Rattle.entry_heads.specs.Heads.{headSize}
 use Rattle.entry_rules.specs.Entries.{FRAMES}
@@ -37,7 +37,7 @@ module _ (xs : List ℕ) (i : ℕ) (new : List ℕ) (w : Bytes xs) (few : length
 
   -- the `stsd` of track t
   abbrev stsd : List ℕ
-  stsd = table STSD (track xs t)
+  stsd = sampleTable STSD (track xs t)
 
   abbrev s : EntryIn xs i t n
   s = entry-in xs i w (record-first xs i FRAMES (kindAt xs i) new refl r) t n e
@@ -47,7 +47,7 @@ module _ (xs : List ℕ) (i : ℕ) (new : List ℕ) (w : Bytes xs) (few : length
 
   -- the `stsd` with the given record
   abbrev changedStsd : List ℕ
-  changedStsd = editWay (toEntry n) (tailBy (headSize (kindAt xs i) - HEAD) new) (table STSD (track xs t))
+  changedStsd = editWay (toEntry n) (tailBy (headSize (kindAt xs i) - HEAD) new) (sampleTable STSD (track xs t))
 
   open-it : changedStsd ≡ take FRONT stsd ++ overNth ANY n by (drop FRONT stsd)
   unfolding editWay overTurn
@@ -62,7 +62,7 @@ module _ (xs : List ℕ) (i : ℕ) (new : List ℕ) (w : Bytes xs) (few : length
   behind = ap (drop FRONT) open-it ∙ drop-at (take FRONT stsd) (overNth ANY n by (drop FRONT stsd)) FRONT (length-take-le FRONT stsd (s .room))
 
   -- the entry has the given record, and all else stays
-  stsd-changed : Changed new (table STSD (track xs t)) changedStsd
+  stsd-changed : Changed new (sampleTable STSD (track xs t)) changedStsd
   stsd-changed =
       record {
         kind = kindAt xs i;
@@ -84,6 +84,6 @@ module _ (xs : List ℕ) (i : ℕ) (new : List ℕ) (w : Bytes xs) (few : length
   -- one entry of the file has another decoder record
   pub record-content : Bytes new → length (recordAt (In t n) (headSize (kindAt xs i) - HEAD) new xs) ≤ LONGEST → Content xs (recordAt (In t n) (headSize (kindAt xs i) - HEAD) new xs)
   record-content v h =
-      once-content (table STSD (track xs t)) changedStsd new stsd-changed xs _
+      once-content (sampleTable STSD (track xs t)) changedStsd new stsd-changed xs _
       (subst (λ (b : List ℕ). Kin (Once STBL STSD b (editWay (toEntry n) by b)) DEPTH FILE xs (recordAt (In t n) keep new xs)) (stsd-end t xs) (record-kin t n keep new xs v w (omega arith)))
       (record-bytes t n keep new xs v w) h

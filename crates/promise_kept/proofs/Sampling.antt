@@ -14,11 +14,11 @@ use Rattle.boxes.specs.Seek.{count, nth, find}
 use Rattle.boxes.specs.Kin.{Kin}
 use Rattle.boxes.proofs.Kin.{kin-count, kin-find, kin-child}
 use Rattle.mdat.specs.Relocate.{Relocated}
-use Rattle.mdat.specs.Rules.{eight as lie}
+use Rattle.mdat.specs.Rules.{chunksLie}
 use Rattle.mdat.specs.Samples.{joinTo, samplesOf}
 use Rattle.mdat.proofs.Keeping.{file-samples-kept}
 use Rattle.mdat.proofs.Staying.{relocated-none}
-use Rattle.movie.specs.Movie.{movie, tracks, track, table}
+use Rattle.movie.specs.Movie.{movie, tracks, track, sampleTable}
 use Rattle.rule_tracks.proofs.Kept.{same-table}
 use Rattle.judge.specs.Acceptance.{Meets}
 use Rattle.promise_kept.specs.Samples.{samples}
@@ -58,7 +58,7 @@ module _ {A : List Box → List Box} (a : Arranges A) (xs ys : List ℕ) (w : By
 
   -- where every chunk lay in a payload
   abbrev Same : List ℕ → List ℕ → Type 0
-  Same b b′ = lie (boxes xs) (find STSC (boxes b)) (find STSZ (boxes b)) (find STCO (boxes b)) ≡ true → cut xs b ≡ cut result b′
+  Same b b′ = chunksLie (boxes xs) (find STSC (boxes b)) (find STSZ (boxes b)) (find STCO (boxes b)) ≡ true → cut xs b ≡ cut result b′
 
   same-none : Same [] []
   unfolding boxes nth samplesOf joinTo word ifLe
@@ -77,6 +77,6 @@ module _ {A : List Box → List Box} (a : Arranges A) (xs ys : List ℕ) (w : By
 
   -- each sample of each track
   pub edit-samples : (t : ℕ) → samples result t ≡ samples xs t
-  unfolding samples table
+  unfolding samples sampleTable
   edit-samples t =
       rw (same-track t) (sym (kin-track (Edit a xs ys w m c) Same same-none same-stbl xs mid (edit-kin a xs ys w m c) t (track-eight xs m t)))

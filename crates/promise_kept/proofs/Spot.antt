@@ -11,7 +11,7 @@ use Rattle.boxes.specs.Boxes.{boxes, FRONT}
 use Rattle.boxes.specs.Seek.{meant, nth, startIn}
 use Rattle.boxes.proofs.Meaning.{meant-or, nth-hit, nth-next, nth-miss}
 use Rattle.movie.specs.declared.entry.Spot.the-variants.{In}
-use Rattle.movie.specs.Movie.{movie, track, table}
+use Rattle.movie.specs.Movie.{movie, track, sampleTable}
 use Rattle.movie.specs.Entries.{entriesStart, entriesOf, entriesAfter, entries}
 use Rattle.movie.specs.Named.{listIn, held, spotIn, bytesAt}
 use Rattle.movie.proofs.Boxed.{held-hit, after-hit, held-miss, after-miss}
@@ -31,7 +31,7 @@ module _ (t : ℕ) (x : Box) (l : List Box) (i p : ℕ) where
   spot-here h =
       meant-or TRAK (x .code)
       (λ e.
-      let s = split-from (t + 1) (boxes (drop FRONT (table STSD (x .body)))) (p + x .head + entriesStart (x .body)) i (entriesAfter (t + 1) l (p + size x)) (omega (arith, held-hit x e)) in
+      let s = split-from (t + 1) (boxes (drop FRONT (sampleTable STSD (x .body)))) (p + x .head + entriesStart (x .body)) i (entriesAfter (t + 1) l (p + size x)) (omega (arith, held-hit x e)) in
       record { m = 0; is = omega arith; split = rw (after-hit x e l t p, nth-hit TRAK x l e) s })
       (λ e. absurd (omega (arith, held-miss x e)))
 

@@ -11,19 +11,19 @@ use Rattle.boxes.specs.Box.{Box}
 use Rattle.boxes.specs.Boxes.{boxes}
 use Rattle.boxes.specs.Seek.{nth}
 use Rattle.boxes.proofs.Numbered.{nth-none}
-use Rattle.mdat.specs.Rules.{eight as lie}
+use Rattle.mdat.specs.Rules.{chunksLie}
 use Rattle.mdat.proofs.Eight.{chunks-none}
-use Rattle.movie.specs.Movie.{movie, tracks, track, table}
+use Rattle.movie.specs.Movie.{movie, tracks, track, sampleTable}
 use Rattle.rule_tracks.proofs.Chunked.{stbl-eight}
 use Rattle.judge.specs.Acceptance.{Meets}
 use Rattle.judge.proofs.Tables.{track-chunked}
 
 -- nothing has no chunks
-none-eight : (l : List Box) → lie l (table STSC []) (table STSZ []) (table STCO []) ≡ true
-unfolding table boxes nth word ifLe
+none-eight : (l : List Box) → chunksLie l (sampleTable STSC []) (sampleTable STSZ []) (sampleTable STCO []) ≡ true
+unfolding sampleTable boxes nth word ifLe
 none-eight l = chunks-none l [] [] []
 
 -- each chunk of a track of an accepted file lies in a payload
-pub track-eight : (xs : List ℕ) → Meets xs → (t : ℕ) → lie (boxes xs) (table STSC (track xs t)) (table STSZ (track xs t)) (table STCO (track xs t)) ≡ true
-unfolding track table
+pub track-eight : (xs : List ℕ) → Meets xs → (t : ℕ) → chunksLie (boxes xs) (sampleTable STSC (track xs t)) (sampleTable STSZ (track xs t)) (sampleTable STCO (track xs t)) ≡ true
+unfolding track sampleTable
 track-eight xs m t = lt-or t (tracks xs) (λ k. stbl-eight (track-chunked xs m t k)) (λ k. rw (← nth-none TRAK t (movie xs) k) (none-eight (boxes xs)))

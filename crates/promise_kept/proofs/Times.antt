@@ -15,7 +15,7 @@ use Rattle.boxes.specs.Words.{reword, rewordLeaf}
 use Rattle.boxes.proofs.Kin.{Made, kin-edit}
 use Rattle.boxes.proofs.Editing.{edit-length, edit-bytes}
 use Rattle.boxes.proofs.Wording.{reword-length, leaf-length, leaf-bytes}
-use Rattle.edit_shift.specs.Shift.{times, timesBy, allTimesBy}
+use Rattle.edit_shift.specs.Shift.{timesOf, timesBy, allTimesBy}
 use Rattle.promise_kept.proofs.Words.{byte-before, word-behind}
 use Rattle.promise_kept.proofs.Sound.{sound-less}
 use Rattle.promise_kept.proofs.Content.{Content, content-then}
@@ -24,7 +24,7 @@ use Rattle.promise_kept.proofs.Clocked.{Untimed, Clocked, clocked-same,
 -- ---- one kind of header
 
 module _ (K C : ℕ) (timed : Untimed K C → ⊥) (f : ℕ → ℕ) where
-  clocked-made : (k c : ℕ) (b : List ℕ) → Clocked k c b (rewordLeaf (times K C) f k c b)
+  clocked-made : (k c : ℕ) (b : List ℕ) → Clocked k c b (rewordLeaf (timesOf K C) f k c b)
   unfolding rewordLeaf ifEq
   clocked-made k c b = go (eqb k K) (eqb c C) refl refl
     where
@@ -40,15 +40,15 @@ module _ (K C : ℕ) (timed : Untimed K C → ⊥) (f : ℕ → ℕ) where
       go false t e g = clocked-same k c b
 
   -- its times by any function
-  times-content : (xs : List ℕ) → Bytes xs → length xs ≤ LONGEST → Content xs (timesBy (times K C) f xs)
+  times-content : (xs : List ℕ) → Bytes xs → length xs ≤ LONGEST → Content xs (timesBy (timesOf K C) f xs)
   times-content xs w n =
-      let l = edit-length (rewordLeaf (times K C) f) (leaf-length (times K C) f) DEPTH FILE xs in
+      let l = edit-length (rewordLeaf (timesOf K C) f) (leaf-length (timesOf K C) f) DEPTH FILE xs in
       record {
-        leaf = Made (rewordLeaf (times K C) f);
-        kin = kin-edit (rewordLeaf (times K C) f) DEPTH FILE xs w (omega arith);
+        leaf = Made (rewordLeaf (timesOf K C) f);
+        kin = kin-edit (rewordLeaf (timesOf K C) f) DEPTH FILE xs w (omega arith);
         sound = sound-less (λ k c b b′ r. rw (r .0) (clocked-made k c b)) clocked-sound;
         stco = λ b b′ r. in-stbl STCO b b′ (rw (r .0) (clocked-made STBL STCO b));
-        bytes = edit-bytes (rewordLeaf (times K C) f) (leaf-bytes (times K C) f) DEPTH FILE xs w;
+        bytes = edit-bytes (rewordLeaf (timesOf K C) f) (leaf-bytes (timesOf K C) f) DEPTH FILE xs w;
         small = omega arith;
       }
 
@@ -56,10 +56,10 @@ module _ (K C : ℕ) (timed : Untimed K C → ⊥) (f : ℕ → ℕ) where
 
 module _ (f : ℕ → ℕ) (xs : List ℕ) (w : Bytes xs) (n : length xs ≤ LONGEST) where
   abbrev first : List ℕ
-  first = timesBy (times MOOV MVHD) f xs
+  first = timesBy (timesOf MOOV MVHD) f xs
 
   abbrev second : List ℕ
-  second = timesBy (times TRAK TKHD) f (timesBy (times MOOV MVHD) f xs)
+  second = timesBy (timesOf TRAK TKHD) f (timesBy (timesOf MOOV MVHD) f xs)
 
   -- the times of every header, one kind of header after the other
   pub shift-content : Content xs (allTimesBy f xs)

@@ -5,13 +5,13 @@ use mathlib.Core.Bool.{true}
 use mathlib.Core.List.{List}
 use Rattle.wire.specs.Numbers.{Bytes}
 use Rattle.movie.specs.Movie.{tracks}
-use Rattle.judge.specs.Acceptance.{Meets, plain}
+use Rattle.judge.specs.Acceptance.{Meets, editable}
 use Rattle.promise_kept.specs.Samples.{samples}
 
 -- it is accepted, edits still take it, and it has as many tracks, each with the same samples
 pub record Kept (xs ys : List ℕ) : Type 0 where
   pub accepted : Meets ys
-  pub plain : plain xs ≡ true → plain ys ≡ true
+  pub editable : editable xs ≡ true → editable ys ≡ true
   pub tracks : tracks ys ≡ tracks xs
   pub samples : (t : ℕ) → samples ys t ≡ samples xs t
   pub bytes : Bytes ys

@@ -20,7 +20,7 @@ use Rattle.judge.proofs.Exact.{accepted-meets}
 use Rattle.sheet.specs.Sheet.{SLOTS}
 use Rattle.sheet.specs.Reader.{sheetOf, sheetAnswer, sheetOut}
 use Rattle.sheet_table.specs.Form.{steps}
-use Rattle.sheet_table.specs.Table.{own, table, ownAnswer, tableOf, tableAnswer, tableOut}
+use Rattle.sheet_table.specs.Table.{ownEntries, table, ownAnswer, trackTable, tableAnswer, tableOut}
 use Rattle.sheet_table.proofs.Tracks.{formed-steps, has-track, no-track}
 use Rattle.promise_trips.specs.Stsd.{stsdBytes}
 use Rattle.promise_trips.proofs.Standing.{stsd-lies}
@@ -38,9 +38,9 @@ module _ (xs : List ℕ) (m : Meets xs) (v : Bytes xs) (t : ℕ) (out : List ℕ
   module _ (h : 1 ≤ t) (k : t ≤ tracks xs) where
     -- nor can 20, nor 24, since the result is no longer than the file: the length, or 25
     pub answer-returns : tableAnswer SLOTS (sheetOf xs) t out ≡ inRoom (stsdBytes xs t) out
-    unfolding tableAnswer ownAnswer tableOf
+    unfolding tableAnswer ownAnswer trackTable
     answer-returns =
-        let w : table (own t (entries xs)) ≡ stsdBytes xs t = rw (own-unsheet xs m v) at (table-returns xs m v t h k) in
+        let w : table (ownEntries t (entries xs)) ≡ stsdBytes xs t = rw (own-unsheet xs m v) at (table-returns xs m v t h k) in
         rw (own-formed xs m v, own-unsheet xs m v, ← has-track t (entries xs) own-steps (own-some xs m v t h k), w)
         (sym (lt-nay _ _ _ _ _ (omega (arith, stsd-lies xs m v t h k .inside, m .most)) refl))
 

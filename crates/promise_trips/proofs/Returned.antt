@@ -14,7 +14,7 @@ use Rattle.boxes.proofs.Reading.{parts}
 use Rattle.boxes.proofs.Every.{all-with}
 use Rattle.boxes.proofs.Placing.{total-is}
 use Rattle.boxes.proofs.Lying.{bytes-lies, lies-found}
-use Rattle.movie.specs.Movie.{movie, tracks, track, table}
+use Rattle.movie.specs.Movie.{movie, tracks, track, sampleTable}
 use Rattle.movie.specs.Entries.{entriesOf, entries}
 use Rattle.movie.proofs.Naming.{lies-track}
 use Rattle.rule_shape.proofs.Descent.{each-track, in-track, tracks-few}
@@ -26,7 +26,7 @@ use Rattle.sheet.specs.Sheet.{SLOTS}
 use Rattle.sheet.specs.Reader.{sheetOf}
 use Rattle.sheet.proofs.Accepted.{accepted-fits}
 use Rattle.sheet_table.specs.Form.{unsheet, formed}
-use Rattle.sheet_table.specs.Table.{own, tableOf}
+use Rattle.sheet_table.specs.Table.{ownEntries, trackTable}
 use Rattle.sheet_table.proofs.RoundTrip.{AllSmall, unsheet-sheet, formed-sheet}
 use Rattle.promise_trips.specs.Stsd.{stsdBytes, stsdPlace}
 use Rattle.promise_trips.proofs.Track.{Described, described}
@@ -64,28 +64,28 @@ module _ (xs : List ℕ) (m : Meets xs) where
     own-unsheet = unsheet-sheet SLOTS (entries xs) (accepted-fits xs m .few) entries-small
 
     -- track 0 has no entry, nor has one above the last
-    pub own-none : (t : ℕ) → (t ≡ 0) ⊎ (tracks xs < t) → own t (entries xs) ≡ []
+    pub own-none : (t : ℕ) → (t ≡ 0) ⊎ (tracks xs < t) → ownEntries t (entries xs) ≡ []
     unfolding entries
     own-none t h =
         let p = startIn MOOV 0 (boxes xs) in
         ⊎-elim (λ e. not-after 0 t p all-described (omega arith)) (λ k. not-there 0 t p all-described (omega arith)) h
 
     module _ (t : ℕ) (h : 1 ≤ t) (k : t ≤ tracks xs) where
-      own-entries : own t (entries xs) ≡ entriesOf t (track xs (t - 1)) (startIn MOOV 0 (boxes xs) + startIn TRAK (t - 1) (movie xs))
+      own-entries : ownEntries t (entries xs) ≡ entriesOf t (track xs (t - 1)) (startIn MOOV 0 (boxes xs) + startIn TRAK (t - 1) (movie xs))
       unfolding entries track
       own-entries = own-after 0 (t - 1) t (startIn MOOV 0 (boxes xs)) all-described (omega arith) (omega arith)
 
-      pub own-some : 1 ≤ length (own t (entries xs))
+      pub own-some : 1 ≤ length (ownEntries t (entries xs))
       own-some = rw own-entries (some-of t (track xs (t - 1)) _ (track-described (t - 1) (omega arith)))
 
       -- the table that is written from it is that track's `stsd`, byte for byte
-      pub table-returns : tableOf SLOTS (sheetOf xs) t ≡ stsdBytes xs t
-      unfolding tableOf entriesOf stsdBytes
+      pub table-returns : trackTable SLOTS (sheetOf xs) t ≡ stsdBytes xs t
+      unfolding trackTable entriesOf stsdBytes
       table-returns =
           let d = track-described (t - 1) (omega arith) in
           let w = bytes-stsd (track xs (t - 1)) (bytes-lies (lies-track xs (t - 1) v) v) in
-          rw (own-unsheet, own-entries) (table-written (table STSD (track xs (t - 1))) w (d .listed) t _)
+          rw (own-unsheet, own-entries) (table-written (sampleTable STSD (track xs (t - 1))) w (d .listed) t _)
 
       -- and those are the bytes that stand at its place in the file
-      pub table-stands : take (length (tableOf SLOTS (sheetOf xs) t)) (drop (stsdPlace xs t) xs) ≡ tableOf SLOTS (sheetOf xs) t
+      pub table-stands : take (length (trackTable SLOTS (sheetOf xs) t)) (drop (stsdPlace xs t) xs) ≡ trackTable SLOTS (sheetOf xs) t
       table-stands = rw table-returns (stsd-lies xs m v t h k .is)

@@ -13,7 +13,7 @@ use Rattle.boxes.proofs.Reading.{All, Filled, parts}
 use Rattle.boxes.proofs.Reading.All.{none as no-box, some}
 use Rattle.boxes.proofs.Placing.{total-is}
 use Rattle.boxes.proofs.Lying.{bytes-lies}
-use Rattle.movie.specs.Movie.{table}
+use Rattle.movie.specs.Movie.{sampleTable}
 use Rattle.movie.specs.Entries.{Entry, entriesStart, entriesFrom, entriesOf, entriesAfter}
 use Rattle.movie.proofs.Boxed.{after-hit, after-miss}
 use Rattle.movie.proofs.Naming.{lies-stsd}
@@ -23,7 +23,7 @@ use Rattle.promise_trips.proofs.Track.{Described}
 use Rattle.promise_trips.proofs.Boxed.{Each}
 use Rattle.promise_trips.proofs.Boxed.Each.{none, track, other}
 
-pub bytes-stsd : (b : List ℕ) → Bytes b → Bytes (table STSD b)
+pub bytes-stsd : (b : List ℕ) → Bytes b → Bytes (sampleTable STSD b)
 bytes-stsd b v = bytes-lies (lies-stsd b v) v
 
 small-append : {d e : List Entry} → AllSmall d → AllSmall e → AllSmall (d ++ e)
@@ -42,9 +42,9 @@ small-from t p (some {x} {l} g a) h =
 small-of : (t : ℕ) (b : List ℕ) (p : ℕ) → Bytes b → Described b → p + length b < 2 ^ 32 → AllSmall (entriesOf t b p)
 unfolding entriesOf entriesStart
 small-of t b p v d h =
-    let w = bytes-drop FRONT (table STSD b) (bytes-stsd b v) in
-    let n = length-drop FRONT (table STSD b) in
-    small-from t _ (parts (drop FRONT (table STSD b)) w .good) (omega (arith, lies-stsd b v .inside, total-is (drop FRONT (table STSD b)) w, n, d .listed .room))
+    let w = bytes-drop FRONT (sampleTable STSD b) (bytes-stsd b v) in
+    let n = length-drop FRONT (sampleTable STSD b) in
+    small-from t _ (parts (drop FRONT (sampleTable STSD b)) w .good) (omega (arith, lies-stsd b v .inside, total-is (drop FRONT (sampleTable STSD b)) w, n, d .listed .room))
 
 -- ---- all of them
 

@@ -9,7 +9,7 @@ use Rattle.wire.specs.Numbers.{Bytes}
 use Rattle.boxes.specs.Seek.{find, count}
 use Rattle.boxes.specs.Way.{boxBy}
 use Rattle.boxes.proofs.Lying.{lies-whole, Lies, bytes-lies, lies-in}
-use Rattle.movie.specs.Movie.{tracks, track, minf, stbl, table}
+use Rattle.movie.specs.Movie.{tracks, track, minf, stbl, sampleTable}
 use Rattle.movie.proofs.Naming.{lies-track, lies-stbl}
 use Rattle.rule_shape.specs.Shape.{needed}
 use Rattle.rule_shape.specs.Rules.{threeRule}
@@ -24,7 +24,7 @@ module _ (xs : List ℕ) (m : Meets xs) (v : Bytes xs) (t : ℕ) (h : 1 ≤ t) (
   stsd-one = needed-some (in-stbl (in-track (file-met xs m threeRule (m .three)) (t - 1) (omega arith))) STSD refl
 
   pub stsd-lies : Lies (stsdBytes xs t) xs (stsdPlace xs t)
-  unfolding stsdBytes stsdIn stsdPlace table boxBy
+  unfolding stsdBytes stsdIn stsdPlace sampleTable boxBy
   stsd-lies =
       let b = track xs (t - 1) in
       let l = lies-track xs (t - 1) v in

@@ -20,7 +20,7 @@ use Rattle.judge.specs.Acceptance.{Meets}
 use Rattle.sheet.specs.Sheet.{SLOTS, sheet}
 use Rattle.sheet.specs.Reader.{sheetOf, sheetAnswer, sheetOut}
 use Rattle.sheet_table.specs.Form.{unsheet, formed}
-use Rattle.sheet_table.specs.Table.{tableOf, tableAnswer, tableOut}
+use Rattle.sheet_table.specs.Table.{trackTable, tableAnswer, tableOut}
 use Rattle.sheet_table.proofs.RoundTrip as roundTrip
 use Rattle.entry_fields.specs.Numbers.{readAnswer, readOut, writeAnswer, writeOut}
 use Rattle.entry_fields.proofs.Returning.{written-back, read-back}
@@ -42,11 +42,11 @@ module _ (xs : List ℕ) (v : Bytes xs) (m : Meets xs) where
 
   module _ (t : ℕ) (h : 1 ≤ t) (k : t ≤ tracks xs) where
     -- the table of a track, written from its sheet, is the track's `stsd` box, byte for byte
-    pub table-back : tableOf SLOTS (sheetOf xs) t ≡ stsdBytes xs t
+    pub table-back : trackTable SLOTS (sheetOf xs) t ≡ stsdBytes xs t
     table-back = table-returns xs m v t h k
 
     -- those are the bytes that stand in the file at the place of that box
-    pub table-place : take (length (tableOf SLOTS (sheetOf xs) t)) (drop (stsdPlace xs t) xs) ≡ tableOf SLOTS (sheetOf xs) t
+    pub table-place : take (length (trackTable SLOTS (sheetOf xs) t)) (drop (stsdPlace xs t) xs) ≡ trackTable SLOTS (sheetOf xs) t
     table-place = table-stands xs m v t h k
 
     -- the writer answers the length of the box and writes it, or refuses with 25 and writes nothing

@@ -5,10 +5,10 @@ use Rattle.codes.specs.Codes.{MOOV, TRAK, MDIA, MINF, STBL, STSD}
 use Rattle.boxes.specs.Box.{Box, header}
 use Rattle.boxes.specs.Boxes.{HEAD, boxes}
 use Rattle.boxes.specs.Seek.{startIn, placeIn}
-use Rattle.movie.specs.Movie.{movie, track, mdia, minf, stbl, table}
+use Rattle.movie.specs.Movie.{movie, track, mdia, minf, stbl, sampleTable}
 
 abbrev pub stsdOf : List ℕ → ℕ → Box
-stsdOf xs t = record { head = HEAD; code = STSD; body = table STSD (track xs (t - 1)) }
+stsdOf xs t = record { head = HEAD; code = STSD; body = sampleTable STSD (track xs (t - 1)) }
 
 -- its bytes, header and all
 unfoldable pub stsdBytes : List ℕ → ℕ → List ℕ

@@ -17,7 +17,7 @@ use Rattle.promise_kept.specs.Kept.{Kept}
 use Rattle.promise_kept.proofs.Keeping.{kept-refl, kept-then}
 use Rattle.promise_kept.proofs.Done.{done-move, done-shift, done-replace}
 use Rattle.promise_kept.proofs.Size.{move-size, shift-size, replace-size}
-use Rattle.promises.specs.Runs.{Edit, shift, replace, move, meaning, answer, goOn, next, Lent, run, Given, AllGiven, none, more}
+use Rattle.promises.specs.Runs.{Edit, shift, replace, move, meaning, answer, goOn, goesOn, Lent, run, Given, AllGiven, none, more}
 
 -- an edit that is done keeps the file
 done-keeps : (e : Edit) → Given e → (xs out : List ℕ) {n : ℕ} → Bytes xs → answer e xs out ≡ Done n → Kept xs (meaning e xs)
@@ -40,11 +40,11 @@ go-on (Done n) xs ys out l P f k =
 go-on (Refused n p) xs ys out l P f k = k
 
 -- one edit, done or refused, keeps an accepted file
-next-keeps : (e : Edit) → Given e → (xs out : List ℕ) → Bytes xs → Meets xs → Kept xs (next e xs out)
+next-keeps : (e : Edit) → Given e → (xs out : List ℕ) → Bytes xs → Meets xs → Kept xs (goesOn e xs out)
 next-keeps e g xs out w m = go-on (answer e xs out) xs (meaning e xs) out (λ n. done-size e xs out) (Kept xs) (λ n. done-keeps e g xs out w) (kept-refl xs w m)
 
 -- after an edit that is done, the file is exactly the one that the paper means, worked out afresh
-pub next-means : (e : Edit) (xs out : List ℕ) {n : ℕ} → answer e xs out ≡ Done n → next e xs out ≡ meaning e xs
+pub next-means : (e : Edit) (xs out : List ℕ) {n : ℕ} → answer e xs out ≡ Done n → goesOn e xs out ≡ meaning e xs
 unfolding outBy
 next-means e xs out {n} d = rw d (ap (λ (m : ℕ). take m (meaning e xs ++ drop (length (meaning e xs)) out)) (done-size e xs out d) ∙ take-append-seam (meaning e xs) (drop (length (meaning e xs)) out))
 
@@ -54,7 +54,7 @@ unfolding run
 run-keeps none xs w m = kept-refl xs w m
 run-keeps (more {e} {es} g a) xs w m =
     let k = next-keeps (e .edit) g xs (e .out) w m in
-    kept-then xs (next (e .edit) xs (e .out)) (run es (next (e .edit) xs (e .out))) k (run-keeps a (next (e .edit) xs (e .out)) (k .bytes) (k .accepted))
+    kept-then xs (goesOn (e .edit) xs (e .out)) (run es (goesOn (e .edit) xs (e .out))) k (run-keeps a (goesOn (e .edit) xs (e .out)) (k .bytes) (k .accepted))
 
 -- the same in the words of the judgement
 pub run-accepted : {es : List Lent} → AllGiven es → (xs : List ℕ) → Bytes xs → judged xs ≡ Accepted → judged (run es xs) ≡ Accepted

@@ -9,7 +9,7 @@ use Rattle.codes.specs.Codes.{SAMR, SAWB, SOUN}
 use Rattle.entry_rules.specs.declared.entry.Around.the-variants.{Track, Alone}
 use Rattle.entry_rules.specs.Entries.{entryRule}
 use Rattle.rule.specs.Answers as answer
-use Rattle.judge.specs.Judgement.{judged, number, place}
+use Rattle.judge.specs.Judgement.{judged, judgedNumber, judgedPlace}
 use Rattle.edit_shift.specs.Shift.{shiftAnswer}
 use Rattle.promises.specs.Example.{fileAt, speech}
 
@@ -53,8 +53,8 @@ pub data Row : Type 0 where
   ofShift : List ℕ → ℤ → ℕ → Row
 
 -- M1 to M9 are entries. M10: length 0. M11: eight bytes, size 0. M12: time 3600, 60 minutes
-abbrev pub table : List Row
-table =
+abbrev pub markedCases : List Row
+markedCases =
     map ofEntry cases
     ++ ofFile [] 1 0
     ∷ ofFile (bytes 4 0 ++ bytes 4 0x66726565) 2 0
@@ -63,8 +63,8 @@ table =
 
 abbrev pub asMarked : Row → Bool
 asMarked (ofEntry c) = eqb (entryRule (Track (c .scale) SOUN 1) 15 (entry c)) (c .fine) && eqb (entryRule Alone 15 (entry c)) (c .fine)
-asMarked (ofFile xs n p) = eqb (number (judged xs)) n && eqb (place (judged xs)) p
-asMarked (ofShift xs z n) = eqb (answer.number (shiftAnswer z xs [])) n
+asMarked (ofFile xs n p) = eqb (judgedNumber (judged xs)) n && eqb (judgedPlace (judged xs)) p
+asMarked (ofShift xs z n) = eqb (answer.answerNumber (shiftAnswer z xs [])) n
 
 abbrev pub allMarked : List Row → Bool
 allMarked [] = true

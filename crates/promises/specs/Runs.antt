@@ -37,8 +37,8 @@ abbrev pub goOn : Answer → List ℕ → List ℕ → List ℕ
 goOn (Done n) xs out = take n out
 goOn (Refused n p) xs out = xs
 
-abbrev pub next : Edit → List ℕ → List ℕ → List ℕ
-next e xs out = goOn (answer e xs out) xs (left e xs out)
+abbrev pub goesOn : Edit → List ℕ → List ℕ → List ℕ
+goesOn e xs out = goOn (answer e xs out) xs (left e xs out)
 
 -- an edit and the buffer that it is lent
 pub record Lent : Type 0 where
@@ -48,7 +48,7 @@ pub record Lent : Type 0 where
 -- one edit after the other, each on the file that the one before it left
 unfoldable pub run : List Lent → List ℕ → List ℕ
 run [] xs = xs
-run (e ∷ es) xs = run es (next (e .edit) xs (e .out))
+run (e ∷ es) xs = run es (goesOn (e .edit) xs (e .out))
 
 -- what is given are bytes, as in every call
 abbrev pub Given : Edit → Type 0

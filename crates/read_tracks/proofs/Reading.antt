@@ -8,9 +8,9 @@ use lib.ListN.{length, getD, drop, set, length-append}
 use lib.Seq.{drop-cons, set-at, sets-eq, append-snoc}
 use Rattle.wire.specs.Writing.{Wrote}
 use Rattle.codes.specs.Codes.{STTS, STCO}
-use Rattle.sample_tables.specs.Tables.{Table, count, field}
+use Rattle.sample_tables.specs.Tables.{Table, items, field}
 use Rattle.sample_tables.specs.Times.{timed, mediaTicks}
-use Rattle.movie.specs.Movie.{table, handler, scale, movieTicks}
+use Rattle.movie.specs.Movie.{sampleTable, handler, scale, movieTicks}
 use Rattle.read_tracks.specs.Tracks.{Readable}
 use Rattle.read_tracks.specs.Reads.{saidBy, offsetsTo, offsetsOf}
 
@@ -22,13 +22,13 @@ module _ (b : List ℕ) where
   length-said = refl
 
   -- its `stts` is found as the rules say
-  pub times-table : {stts : List ℕ} → stts ≡ table STTS b → Readable b → Table 8 stts × (timed stts ≤ 65536)
+  pub times-table : {stts : List ℕ} → stts ≡ sampleTable STTS b → Readable b → Table 8 stts × (timed stts ≤ 65536)
   times-table f r = rw f (r .times, r .few)
 
-  pub wrote-said : (out : List ℕ) {stts : List ℕ} {h m s w : ℕ} → stts ≡ table STTS b → h ≡ handler b → m ≡ mediaTicks stts → s ≡ scale b → w ≡ movieTicks b → 4 ≤ length out
+  pub wrote-said : (out : List ℕ) {stts : List ℕ} {h m s w : ℕ} → stts ≡ sampleTable STTS b → h ≡ handler b → m ≡ mediaTicks stts → s ≡ scale b → w ≡ movieTicks b → 4 ≤ length out
       → Wrote (saidBy b) out 4 (set (set (set (set out 0 h) 1 m) 2 s) 3 w)
   unfolding saidBy
-  wrote-said out f h m s w k = record { size = refl; is = rw (h, m, f, s, w) (sets-eq (handler b ∷ mediaTicks (table STTS b) ∷ scale b ∷ movieTicks b ∷ []) out 0 k) }
+  wrote-said out f h m s w k = record { size = refl; is = rw (h, m, f, s, w) (sets-eq (handler b ∷ mediaTicks (sampleTable STTS b) ∷ scale b ∷ movieTicks b ∷ []) out 0 k) }
 
 pub said-as : {b d : List ℕ} → b ≡ d → {out after : List ℕ} {n : ℕ} → Wrote (saidBy b) out n after → Wrote (saidBy d) out n after
 said-as e w = rw e at w
@@ -51,18 +51,18 @@ module _ (stco : List ℕ) where
       rw (e, f, add-one i, drop-cons list i 0, set-at (offsetsTo stco i) (getD list i 0) (drop (suc i) list) (field 4 0 stco i) i (length-offsets i))
       (sym (append-snoc (offsetsTo stco i) (field 4 0 stco i) (drop (suc i) list)))
 
-  pub offsets-all : (list : List ℕ) {i n : ℕ} {now : List ℕ} → now ≡ offsetsTo stco i ++ drop i list → i ≡ n → n ≡ count stco → Wrote (offsetsTo stco (count stco)) list n now
-  offsets-all list e f g = record { size = g ∙ sym (length-offsets (count stco)); is = e ∙ rw (f, g) }
+  pub offsets-all : (list : List ℕ) {i n : ℕ} {now : List ℕ} → now ≡ offsetsTo stco i ++ drop i list → i ≡ n → n ≡ items stco → Wrote (offsetsTo stco (items stco)) list n now
+  offsets-all list e f g = record { size = g ∙ sym (length-offsets (items stco)); is = e ∙ rw (f, g) }
 
 -- of a track
-module _ (d : List ℕ) {b stco : List ℕ} (f : b ≡ d) (e : stco ≡ table STCO b) where
-  pub offsets-length : {n : ℕ} → n ≡ count stco → n ≡ length (offsetsOf d)
+module _ (d : List ℕ) {b stco : List ℕ} (f : b ≡ d) (e : stco ≡ sampleTable STCO b) where
+  pub offsets-length : {n : ℕ} → n ≡ items stco → n ≡ length (offsetsOf d)
   unfolding offsetsOf
-  offsets-length g = g ∙ sym (length-offsets (table STCO d) (count (table STCO d)) ∙ rw (e, f))
+  offsets-length g = g ∙ sym (length-offsets (sampleTable STCO d) (items (sampleTable STCO d)) ∙ rw (e, f))
 
-  pub offsets-wrote : {list after : List ℕ} {n : ℕ} → Wrote (offsetsTo stco (count stco)) list n after → Wrote (offsetsOf d) list n after
+  pub offsets-wrote : {list after : List ℕ} {n : ℕ} → Wrote (offsetsTo stco (items stco)) list n after → Wrote (offsetsOf d) list n after
   unfolding offsetsOf
   offsets-wrote w = rw (e, f) at w
 
-pub offsets-table : {b stco : List ℕ} → stco ≡ table STCO b → Readable b → Table 4 stco
+pub offsets-table : {b stco : List ℕ} → stco ≡ sampleTable STCO b → Readable b → Table 4 stco
 offsets-table e r = rw e (r .offsets)

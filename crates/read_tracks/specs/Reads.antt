@@ -3,9 +3,9 @@ use Prim.Native.Nat.{ℕ, zero, suc, _-_}
 use mathlib.Core.List.{List, [], _∷_, _++_}
 use Rattle.wire.specs.Tests.{ifEq, ifLt}
 use Rattle.codes.specs.Codes.{STTS, STCO}
-use Rattle.sample_tables.specs.Tables.{count, field}
+use Rattle.sample_tables.specs.Tables.{items, field}
 use Rattle.sample_tables.specs.Times.{mediaTicks}
-use Rattle.movie.specs.Movie.{tracks, track, table, handler, scale, movieTicks}
+use Rattle.movie.specs.Movie.{tracks, track, sampleTable, handler, scale, movieTicks}
 use Rattle.rule.specs.declared.Answer.{Answer}
 use Rattle.rule.specs.declared.Answer.the-variants.{Done, Refused}
 use Rattle.rule.specs.Answers.{inRoom, outBy}
@@ -26,7 +26,7 @@ numbersAnswer xs t numbers out = whenAccepted (judged xs) (whenTrack xs t (inRoo
 
 -- of the track with payload b: its handler, its length in media ticks, their time scale, its length in movie ticks
 unfoldable pub saidBy : List ℕ → List ℕ
-saidBy b = handler b ∷ mediaTicks (table STTS b) ∷ scale b ∷ movieTicks b ∷ []
+saidBy b = handler b ∷ mediaTicks (sampleTable STTS b) ∷ scale b ∷ movieTicks b ∷ []
 
 abbrev pub trackNumbers : List ℕ → ℕ → List ℕ
 trackNumbers xs t = saidBy (track xs (t - 1))
@@ -46,7 +46,7 @@ offsetsTo stco (suc n) = offsetsTo stco n ++ field 4 0 stco n ∷ []
 
 -- "chunk offsets of a track go as 32-bit numbers into a list the caller lends"
 unfoldable pub offsetsOf : List ℕ → List ℕ
-offsetsOf b = offsetsTo (table STCO b) (count (table STCO b))
+offsetsOf b = offsetsTo (sampleTable STCO b) (items (sampleTable STCO b))
 
 abbrev pub offsetNumbers : List ℕ → ℕ → List ℕ
 offsetNumbers xs t = offsetsOf (track xs (t - 1))

@@ -4,10 +4,10 @@ use mathlib.Core.List.{List}
 use Rattle.codes.specs.Codes.{STTS, STCO}
 use Rattle.sample_tables.specs.Tables.{Table}
 use Rattle.sample_tables.specs.Times.{timed}
-use Rattle.movie.specs.Movie.{table}
+use Rattle.movie.specs.Movie.{sampleTable}
 
 -- of the track with payload b
 pub record Readable (b : List ℕ) : Type 0 where
-  pub times : Table 8 (table STTS b)
-  pub few : timed (table STTS b) ≤ 65536
-  pub offsets : Table 4 (table STCO b)
+  pub times : Table 8 (sampleTable STTS b)
+  pub few : timed (sampleTable STTS b) ≤ 65536
+  pub offsets : Table 4 (sampleTable STCO b)

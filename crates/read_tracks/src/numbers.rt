@@ -2,7 +2,7 @@
 ghost use Prim.Native.Nat.{_≤_};
 ghost use lib.ListN.{length};
 ghost use Rattle.wire.specs.Writing.{Wrote};
-ghost use Rattle.sample_tables.specs.Tables.{Table, count};
+ghost use Rattle.sample_tables.specs.Tables.{Table, items};
 ghost use Rattle.read_tracks.specs.Reads.{saidBy, offsetsTo};
 ghost use Rattle.read_tracks.specs.Tracks.{Readable};
 
@@ -22,8 +22,8 @@ pub fn put_said(track: &[u8], out: &mut [u64]) -> usize
 
 // The numbers of an `stco`.
 pub fn put_offsets(stco: &[u8], list: &mut [u32]) -> usize
-    requires { ⌜ Table 4 (now stco) × (count (now stco) ≤ length (now list)) ⌝ }
-    ensures { λ r. ⌜ Wrote (offsetsTo (now (stco .entry)) (count (now (stco .entry)))) (now (list .entry)) r (now (list .exit)) ⌝ }
+    requires { ⌜ Table 4 (now stco) × (items (now stco) ≤ length (now list)) ⌝ }
+    ensures { λ r. ⌜ Wrote (offsetsTo (now (stco .entry)) (items (now (stco .entry)))) (now (list .entry)) r (now (list .exit)) ⌝ }
 {
     let n = sample_tables::table::count(stco);
     let mut i = 0;

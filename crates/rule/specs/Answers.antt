@@ -7,13 +7,13 @@ use Rattle.rule.specs.declared.Answer.{Answer}
 use Rattle.rule.specs.declared.Answer.the-variants.{Done, Refused}
 
 -- the refusal number of the paper, 0 where there is none; then its place, or what the call gives
-abbrev pub number : Answer → ℕ
-number (Done n) = 0
-number (Refused n p) = n
+abbrev pub answerNumber : Answer → ℕ
+answerNumber (Done n) = 0
+answerNumber (Refused n p) = n
 
-abbrev pub value : Answer → ℕ
-value (Done n) = n
-value (Refused n p) = p
+abbrev pub answerValue : Answer → ℕ
+answerValue (Done n) = n
+answerValue (Refused n p) = p
 
 -- 25: "the lent output is shorter than the result", else its length
 unfoldable pub inRoom : List ℕ → List ℕ → Answer

@@ -8,9 +8,9 @@ use Rattle.rule.specs.declared.Verdict.{Verdict}
 use Rattle.rule.specs.declared.Verdict.the-variants.{Fine}
 
 -- f of the first box of code c: its body, its place and its payload's; nothing is broken where there is none
-unfoldable pub within : ℕ → (List ℕ → ℕ → ℕ → Verdict) → List Box → ℕ → Verdict
-within c f [] p = Fine
-within c f (x ∷ l) p = ifEq (x .code) c (f (x .body) p (p + x .head)) (within c f l (p + size x))
+unfoldable pub inFirst : ℕ → (List ℕ → ℕ → ℕ → Verdict) → List Box → ℕ → Verdict
+inFirst c f [] p = Fine
+inFirst c f (x ∷ l) p = ifEq (x .code) c (f (x .body) p (p + x .head)) (inFirst c f l (p + size x))
 
 -- the same without places
 unfoldable pub holds : ℕ → (List ℕ → Bool) → List Box → Bool

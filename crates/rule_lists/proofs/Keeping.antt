@@ -16,31 +16,31 @@ use Rattle.boxes.specs.Kin.All2.{nil, cons}
 use Rattle.boxes.proofs.Kin.{kin-find, kin-child}
 use Rattle.rule.specs.Rule.{allIn}
 use Rattle.rule.proofs.Keeping.{keep}
-use Rattle.rule_lists.specs.Forms.{stored, listForm, formIn}
+use Rattle.rule_lists.specs.Forms.{storedCount, listForm, formIn}
 use Rattle.rule_lists.specs.Totals.{toStsd, follow, entriesOf, entries}
 use Rattle.rule_lists.specs.Urls.{allUrls, allUrlsIn}
 use Rattle.rule_lists.specs.Rules.{fiveRule, nineRule}
 
 -- ---- the same sample entries
 
-same-box : (c : ℕ) (b b′ : List ℕ) → (c ≡ TRAK → stored (follow toStsd b) ≡ stored (follow toStsd b′)) → entriesOf c b ≡ entriesOf c b′
+same-box : (c : ℕ) (b b′ : List ℕ) → (c ≡ TRAK → storedCount (follow toStsd b) ≡ storedCount (follow toStsd b′)) → entriesOf c b ≡ entriesOf c b′
 unfolding entriesOf
 same-box c b b′ h = eq-same c TRAK _ _ 0 h
 
-module _ (G : Leaf) (counts : (b b′ : List ℕ) → G STBL STSD b b′ → stored b ≡ stored b′) where
+module _ (G : Leaf) (counts : (b b′ : List ℕ) → G STBL STSD b b′ → storedCount b ≡ storedCount b′) where
   -- a way ends at kin payloads that store the same count
   abbrev Ends : List ℕ → ℕ → Type 0
-  Ends cs k = (d : ℕ) (b b′ : List ℕ) → Kin G d k b b′ → stored (follow cs b) ≡ stored (follow cs b′)
+  Ends cs k = (d : ℕ) (b b′ : List ℕ) → Kin G d k b b′ → storedCount (follow cs b) ≡ storedCount (follow cs b′)
 
   ends-into : (cs : List ℕ) (c k : ℕ) → (c ≡ ANY → ⊥) → (kindIn k c ≡ 0 → ⊥) → Ends cs (kindIn k c) → Ends (c ∷ cs) k
   unfolding follow
-  ends-into cs c k z o h zero b b′ a = ap (λ (t : List ℕ). stored (follow cs (find c (boxes t)))) a
-  ends-into cs c k z o h (suc d) b b′ a = kin-child G d k b b′ a c z (λ t t′. stored (follow cs t) ≡ stored (follow cs t′)) refl o (h d) 0
+  ends-into cs c k z o h zero b b′ a = ap (λ (t : List ℕ). storedCount (follow cs (find c (boxes t)))) a
+  ends-into cs c k z o h (suc d) b b′ a = kin-child G d k b b′ a c z (λ t t′. storedCount (follow cs t) ≡ storedCount (follow cs t′)) refl o (h d) 0
 
   ends-stbl : Ends (STSD ∷ []) STBL
   unfolding follow kindIn parent ifEq
-  ends-stbl zero b b′ a = ap (λ (t : List ℕ). stored (find STSD (boxes t))) a
-  ends-stbl (suc d) b b′ a = kin-find G d STBL b b′ a STSD (λ e. omega arith) (λ t t′. stored t ≡ stored t′) refl refl counts 0
+  ends-stbl zero b b′ a = ap (λ (t : List ℕ). storedCount (find STSD (boxes t))) a
+  ends-stbl (suc d) b b′ a = kin-find G d STBL b b′ a STSD (λ e. omega arith) (λ t t′. storedCount t ≡ storedCount t′) refl refl counts 0
 
   ends-trak : Ends toStsd TRAK
   unfolding kindIn parent ifEq
@@ -48,7 +48,7 @@ module _ (G : Leaf) (counts : (b b′ : List ℕ) → G STBL STSD b b′ → sto
       ends-into (MINF ∷ STBL ∷ STSD ∷ []) MDIA TRAK (λ e. omega arith) (λ e. omega arith)
       (ends-into (STBL ∷ STSD ∷ []) MINF MDIA (λ e. omega arith) (λ e. omega arith) (ends-into (STSD ∷ []) STBL MINF (λ e. omega arith) (λ e. omega arith) ends-stbl))
 
-  same-track : (d : ℕ) (x y : Box) → KinBox G (λ j us vs. Kin G d j us vs) MOOV x y → x .code ≡ TRAK → stored (follow toStsd (x .body)) ≡ stored (follow toStsd (y .body))
+  same-track : (d : ℕ) (x y : Box) → KinBox G (λ j us vs. Kin G d j us vs) MOOV x y → x .code ≡ TRAK → storedCount (follow toStsd (x .body)) ≡ storedCount (follow toStsd (y .body))
   unfolding kindIn parent ifEq
   same-track d x y r e =
       ends-trak d (x .body) (y .body) (subst (λ (i : ℕ). Kin G d (kindIn MOOV i) (x .body) (y .body)) e (r .node (λ z. let t : TRAK ≡ 0 = ap (kindIn MOOV) (sym e) ∙ z in omega arith)))
@@ -63,7 +63,7 @@ module _ (G : Leaf) (counts : (b b′ : List ℕ) → G STBL STSD b b′ → sto
 -- of `stsd` its form and its count, of `dref` its form
 module _ (G : Leaf)
     (stsd : (b b′ : List ℕ) → G STBL STSD b b′ → listForm b ≡ true → listForm b′ ≡ true)
-    (counts : (b b′ : List ℕ) → G STBL STSD b b′ → stored b ≡ stored b′)
+    (counts : (b b′ : List ℕ) → G STBL STSD b b′ → storedCount b ≡ storedCount b′)
     (dref : (b b′ : List ℕ) → G DINF DREF b b′ → listForm b ≡ true → listForm b′ ≡ true) where
   form-keep : (k c : ℕ) (b b′ : List ℕ) → G k c b b′ → formIn k c b ≡ true → formIn k c b′ ≡ true
   unfolding formIn

@@ -21,7 +21,7 @@ use Rattle.rule.specs.Verdict.{isFine}
 use Rattle.rule.specs.Rule.{Says}
 use Rattle.rule.proofs.Places.{unless-fine}
 use Rattle.rule.proofs.Acceptance.{list-fine}
-use Rattle.rule_lists.specs.Forms.{stored, formIn}
+use Rattle.rule_lists.specs.Forms.{storedCount, formIn}
 use Rattle.rule_lists.specs.Totals.{MOST, toStsd, NoneAny, follow, brokenAt, entriesOf, entries, overMost}
 use Rattle.rule_lists.specs.Urls.{isUrl, urlAt, urlsOf, urlsIn, allUrls, allUrlsIn}
 use Rattle.rule_lists.specs.Rules.{five, fiveRule, nine, nineRule}
@@ -30,22 +30,22 @@ use Rattle.rule_lists.proofs.Totals.{stsd-codes}
 
 -- ---- where sample entries are, an `stsd` is
 
-follow-none : (cs : List ℕ) → stored (follow cs []) ≡ 0
+follow-none : (cs : List ℕ) → storedCount (follow cs []) ≡ 0
 unfolding follow boxes nth
 follow-none [] = word-out 4 [] 4 (omega arith)
 follow-none (c ∷ cs) = follow-none cs
 
-broken-bad : (cs : List ℕ) → NoneAny cs → (b : List ℕ) (p q : ℕ) → 0 < stored (follow cs b) → isFine (brokenAt cs b p q) ≡ false
+broken-bad : (cs : List ℕ) → NoneAny cs → (b : List ℕ) (p q : ℕ) → 0 < storedCount (follow cs b) → isFine (brokenAt cs b p q) ≡ false
 unfolding brokenAt follow
 broken-bad [] w b p q h = refl
 broken-bad (c ∷ cs) w b p q h =
-    within-bad c (λ e. omega (arith, w 0 (omega arith))) (λ d. stored (follow cs d)) (follow-none cs) (λ d i j. brokenAt cs d i j) (broken-bad cs (λ i k. w (suc i) (omega arith))) (boxes b) q h
+    within-bad c (λ e. omega (arith, w 0 (omega arith))) (λ d. storedCount (follow cs d)) (follow-none cs) (λ d i j. brokenAt cs d i j) (broken-bad cs (λ i k. w (suc i) (omega arith))) (boxes b) q h
 
-entries-some : (c : ℕ) (b : List ℕ) → 0 < entriesOf c b → 0 < stored (follow toStsd b)
+entries-some : (c : ℕ) (b : List ℕ) → 0 < entriesOf c b → 0 < storedCount (follow toStsd b)
 unfolding entriesOf ifEq
 entries-some c b = go (eqb c TRAK)
   where
-    go : (t : Bool) → 0 < pick t (stored (follow toStsd b)) 0 → 0 < stored (follow toStsd b)
+    go : (t : Bool) → 0 < pick t (storedCount (follow toStsd b)) 0 → 0 < storedCount (follow toStsd b)
     go true h = h
     go false h = absurd (omega arith)
 

@@ -17,7 +17,7 @@ use Rattle.boxes.specs.Seek.{count, find, Cut}
 use Rattle.boxes.proofs.Seeking.{ran-next}
 use Rattle.rule.specs.declared.Verdict.{Verdict}
 use Rattle.rule.specs.declared.Verdict.the-variants.{Fine, Bad}
-use Rattle.rule_lists.specs.Forms.{stored}
+use Rattle.rule_lists.specs.Forms.{storedCount}
 use Rattle.rule_lists.specs.Totals.{toStsd, NoneAny, follow, brokenAt, entriesOf, overMost}
 use Rattle.rule_lists.proofs.Inner.{within-none, within-cut}
 
@@ -30,7 +30,7 @@ stsd-codes (suc (suc zero)) h = omega arith
 stsd-codes (suc (suc (suc zero))) h = omega arith
 stsd-codes (suc (suc (suc (suc i)))) h = absurd (omega arith)
 
-pub follow-is : (b mdia minf stbl stsd : List ℕ) {r : ℕ} → mdia ≡ find MDIA (boxes b) → minf ≡ find MINF (boxes mdia) → stbl ≡ find STBL (boxes minf) → stsd ≡ find STSD (boxes stbl) → r ≡ stored stsd → r ≡ stored (follow toStsd b)
+pub follow-is : (b mdia minf stbl stsd : List ℕ) {r : ℕ} → mdia ≡ find MDIA (boxes b) → minf ≡ find MINF (boxes mdia) → stbl ≡ find STBL (boxes minf) → stsd ≡ find STSD (boxes stbl) → r ≡ storedCount stsd → r ≡ storedCount (follow toStsd b)
 unfolding follow
 follow-is b mdia minf stbl stsd e f g h k = k ∙ rw (h, g, f, e)
 

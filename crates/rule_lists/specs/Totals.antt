@@ -9,8 +9,8 @@ use Rattle.boxes.specs.Boxes.{boxes}
 use Rattle.boxes.specs.Seek.{find}
 use Rattle.rule.specs.declared.Verdict.{Verdict}
 use Rattle.rule.specs.declared.Verdict.the-variants.{Fine, Bad}
-use Rattle.rule.specs.Inner.{within}
-use Rattle.rule_lists.specs.Forms.{stored}
+use Rattle.rule.specs.Inner.{inFirst}
+use Rattle.rule_lists.specs.Forms.{storedCount}
 
 -- the most sample entries that a file may have
 abbrev pub MOST : ℕ
@@ -32,11 +32,11 @@ follow (c ∷ cs) b = follow cs (find c (boxes b))
 -- broken at the box there; b is the payload of the box at place p, and starts at q
 unfoldable pub brokenAt : List ℕ → List ℕ → ℕ → ℕ → Verdict
 brokenAt [] b p q = Bad p
-brokenAt (c ∷ cs) b p q = within c (λ d i j. brokenAt cs d i j) (boxes b) q
+brokenAt (c ∷ cs) b p q = inFirst c (λ d i j. brokenAt cs d i j) (boxes b) q
 
 -- the sample entries of a box of `moov`: none where it is no `trak`
 unfoldable pub entriesOf : ℕ → List ℕ → ℕ
-entriesOf c b = ifEq c TRAK (stored (follow toStsd b)) 0
+entriesOf c b = ifEq c TRAK (storedCount (follow toStsd b)) 0
 
 unfoldable pub entries : List Box → ℕ
 entries [] = 0

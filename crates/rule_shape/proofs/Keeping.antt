@@ -13,7 +13,7 @@ use Rattle.boxes.proofs.Kin.{kin-codes, kin-count}
 use Rattle.rule.specs.Rule.{allIn}
 use Rattle.rule.proofs.Keeping.{keep}
 use Rattle.rule_shape.specs.Shape.{needed, barred, exactly, first, besides, shape}
-use Rattle.rule_shape.specs.Rules.{twoRule, threeRule, plainRule}
+use Rattle.rule_shape.specs.Rules.{twoRule, threeRule, editableRule}
 
 -- ---- lists of boxes with the same codes
 
@@ -43,5 +43,5 @@ module _ (G : Leaf) (d k : ℕ) (xs ys : List ℕ) (a : Kin G d k xs ys) where
   pub kin-3 : allIn threeRule d k xs ≡ true → allIn threeRule d k ys ≡ true
   kin-3 = keep threeRule threeRule G (λ k c b b′ z g t. t) (λ d k xs ys a t. sym (same-shape (boxes xs) (boxes ys) (kin-codes G d k xs ys a) (kin-count G d k xs ys a) k) ∙ t) (λ xs t. t) d k xs ys a
 
-  pub kin-plain : allIn plainRule d k xs ≡ true → allIn plainRule d k ys ≡ true
-  kin-plain = keep plainRule plainRule G (λ k c b b′ z g t. t) (λ d k xs ys a t. sym (same-exactly (boxes xs) (boxes ys) (kin-count G d k xs ys a) 0 (barred k)) ∙ t) (λ xs t. t) d k xs ys a
+  pub kin-plain : allIn editableRule d k xs ≡ true → allIn editableRule d k ys ≡ true
+  kin-plain = keep editableRule editableRule G (λ k c b b′ z g t. t) (λ d k xs ys a t. sym (same-exactly (boxes xs) (boxes ys) (kin-count G d k xs ys a) 0 (barred k)) ∙ t) (λ xs t. t) d k xs ys a

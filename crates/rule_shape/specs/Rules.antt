@@ -16,8 +16,8 @@ abbrev pub threeRule : Rule
 threeRule = record { leaf = λ k c b. true; node = λ k xs. shape k (boxes xs); end = λ xs. true }
 
 -- refusal 23: no container has a box that an edit doesn't take
-abbrev pub plainRule : Rule
-plainRule = record { leaf = λ k c b. true; node = λ k xs. exactly 0 (barred k) (boxes xs); end = λ xs. true }
+abbrev pub editableRule : Rule
+editableRule = record { leaf = λ k c b. true; node = λ k xs. exactly 0 (barred k) (boxes xs); end = λ xs. true }
 
 abbrev pub two : Judge
 two = placed twoRule
@@ -25,5 +25,5 @@ two = placed twoRule
 abbrev pub three : Judge
 three = placed threeRule
 
-abbrev pub plain : Judge
-plain = placed plainRule
+abbrev pub editableJudge : Judge
+editableJudge = placed editableRule

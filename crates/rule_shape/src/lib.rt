@@ -109,7 +109,7 @@ pub fn shape_of(k: usize, part: &[u8]) -> usize
 }
 
 // Whether a container of kind k has none of the boxes that no edit takes: 1 or 0.
-pub fn plain_of(k: usize, part: &[u8]) -> usize
+pub fn editable_of(k: usize, part: &[u8]) -> usize
     ensures { λ r. ⌜ r ≡ oneIf (exactlyOf 0 (barred k) (boxes (now (part .entry)))) ⌝ }
 {
     if k == FILE {

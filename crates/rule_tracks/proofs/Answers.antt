@@ -11,7 +11,7 @@ use Rattle.codes.specs.Codes.{STSD, STTS, STSC, STSZ, STCO}
 use Rattle.wire.proofs.Clauses.{clause, was-nay, was-yea, yea}
 use Rattle.boxes.specs.Box.{Box}
 use Rattle.boxes.specs.Seek.{find}
-use Rattle.sample_tables.specs.Rules.{seven as agree, Six}
+use Rattle.sample_tables.specs.Rules.{tablesAgree, Six}
 use Rattle.sample_tables.proofs.Tables.{form-is}
 use Rattle.rule_tracks.specs.Six.{sixHolds}
 use Rattle.rule_tracks.specs.Seven.{sevenHolds}
@@ -46,6 +46,6 @@ module _ (l : List Box) where
   unfolding sevenHolds
   seven-shut e = rw e (yea true refl)
 
-  pub seven-open : {r : ℕ} → sixHolds l ≡ true → r ≡ oneIf (agree (find STTS l) (find STSC l) (find STSZ l) (find STCO l) (word 4 (find STSD l) 4)) → r ≡ oneIf (sevenHolds l)
+  pub seven-open : {r : ℕ} → sixHolds l ≡ true → r ≡ oneIf (tablesAgree (find STTS l) (find STSC l) (find STSZ l) (find STCO l) (word 4 (find STSD l) 4)) → r ≡ oneIf (sevenHolds l)
   unfolding sevenHolds
   seven-open e q = rw e q

@@ -11,14 +11,14 @@ use Rattle.boxes.specs.Box.{Box}
 use Rattle.boxes.specs.Boxes.{boxes}
 use Rattle.boxes.specs.Containers.{parent, kindIn}
 use Rattle.boxes.specs.Seek.{find}
-use Rattle.sample_tables.specs.Rules.{seven as agree, Six}
-use Rattle.mdat.specs.Rules.{eight as lie}
+use Rattle.sample_tables.specs.Rules.{tablesAgree, Six}
+use Rattle.mdat.specs.Rules.{chunksLie}
 use Rattle.rule.specs.Rule.{allIn}
 use Rattle.rule.proofs.Opened.{opened}
 use Rattle.rule_shape.specs.Shape.{needed}
 use Rattle.rule_shape.specs.Rules.{threeRule}
 use Rattle.rule_shape.proofs.Descent.{Met, needed-leaf}
-use Rattle.rule_tracks.specs.Six.{tableOf, tableIn, sixRule, sixHolds}
+use Rattle.rule_tracks.specs.Six.{tableFine, tableIn, sixRule, sixHolds}
 use Rattle.rule_tracks.specs.Seven.{sevenIn, sevenHolds, sevenRule}
 use Rattle.rule_tracks.specs.Eight.{eightIn, eightHolds, eightRule}
 use Rattle.rule_tracks.proofs.Answers.{six-is}
@@ -33,7 +33,7 @@ pub record Chunked (l : List Box) (d k : ℕ) (xs : List ℕ) : Type 0 where
 -- an `stbl`
 module _ {l : List Box} {d : ℕ} {xs : List ℕ} (s : Chunked l (suc d) STBL xs) where
   six-held : sixHolds (boxes xs) ≡ true
-  unfolding sixHolds tableIn tableOf needed kindIn parent ifEq
+  unfolding sixHolds tableIn tableFine needed kindIn parent ifEq
   six-held =
       let m : Met sixRule (suc d) STBL xs = record { three = s .three; rule = s .six } in
       sym (holds _ _ (needed-leaf m STTS refl refl) (holds _ _ (needed-leaf m STSC refl refl) (holds _ _ (needed-leaf m STSZ refl refl) (holds _ _ (needed-leaf m STCO refl refl) done))))
@@ -46,12 +46,12 @@ module _ {l : List Box} {d : ℕ} {xs : List ℕ} (s : Chunked l (suc d) STBL xs
   pub stbl-six : Six (find STTS (boxes xs)) (find STSC (boxes xs)) (find STSZ (boxes xs)) (find STCO (boxes xs))
   stbl-six = six-is (boxes xs) six-held
 
-  -- they agree
-  pub stbl-seven : agree (find STTS (boxes xs)) (find STSC (boxes xs)) (find STSZ (boxes xs)) (find STCO (boxes xs)) (word 4 (find STSD (boxes xs)) 4) ≡ true
+  -- they tablesAgree
+  pub stbl-seven : tablesAgree (find STTS (boxes xs)) (find STSC (boxes xs)) (find STSZ (boxes xs)) (find STCO (boxes xs)) (word 4 (find STSD (boxes xs)) 4) ≡ true
   unfolding sevenHolds
   stbl-seven = rw six-held at seven-held
 
   -- and each chunk lies in a payload
-  pub stbl-eight : lie l (find STSC (boxes xs)) (find STSZ (boxes xs)) (find STCO (boxes xs)) ≡ true
+  pub stbl-eight : chunksLie l (find STSC (boxes xs)) (find STSZ (boxes xs)) (find STCO (boxes xs)) ≡ true
   unfolding eightIn eightHolds ifEq
   stbl-eight = rw (six-held, seven-held) at (opened (eightRule l) d STBL xs (s .eight) .node)

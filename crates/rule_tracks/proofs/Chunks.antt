@@ -12,9 +12,9 @@ use Rattle.wire.proofs.Tests.{eq-yea, eq-nay}
 use Rattle.boxes.specs.Box.{Box}
 use Rattle.boxes.specs.Boxes.{boxes}
 use Rattle.boxes.specs.Seek.{find, placeIn}
-use Rattle.sample_tables.specs.Rules.{seven as agree}
+use Rattle.sample_tables.specs.Rules.{tablesAgree}
 use Rattle.sample_tables.proofs.Rules.{seven-is}
-use Rattle.mdat.specs.Rules.{eight as lie, Ready}
+use Rattle.mdat.specs.Rules.{chunksLie, Ready}
 use Rattle.rule.specs.declared.Verdict.the-variants.{Fine, Bad}
 use Rattle.rule.proofs.Places.{unless-yea, unless-nay}
 use Rattle.rule_tracks.specs.Six.{sixHolds}
@@ -23,7 +23,7 @@ use Rattle.rule_tracks.specs.Eight.{eightHolds, eightAt}
 use Rattle.rule_tracks.proofs.Answers.{six-is}
 
 module _ (m : List Box) (s : sixHolds m ≡ true) (e : sevenHolds m ≡ true) where
-  agrees : agree (find STTS m) (find STSC m) (find STSZ m) (find STCO m) (word 4 (find STSD m) 4) ≡ true
+  agrees : tablesAgree (find STTS m) (find STSC m) (find STSZ m) (find STCO m) (word 4 (find STSD m) 4) ≡ true
   unfolding sevenHolds
   agrees = rw s at e
 
@@ -32,7 +32,7 @@ module _ (m : List Box) (s : sixHolds m ≡ true) (e : sevenHolds m ≡ true) wh
   ready = let t = seven-is _ _ _ _ _ (six-is m s) agrees in record { walk = t .walk; few = omega (arith, t .few, t .total) }
 
 module _ (l m : List Box) where
-  pub eight-open : {r : ℕ} → sixHolds m ≡ true → sevenHolds m ≡ true → r ≡ oneIf (lie l (find STSC m) (find STSZ m) (find STCO m)) → r ≡ oneIf (eightHolds l m)
+  pub eight-open : {r : ℕ} → sixHolds m ≡ true → sevenHolds m ≡ true → r ≡ oneIf (chunksLie l (find STSC m) (find STSZ m) (find STCO m)) → r ≡ oneIf (eightHolds l m)
   unfolding eightHolds
   eight-open s e q = rw (s, e) q
 

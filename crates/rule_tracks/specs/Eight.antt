@@ -7,7 +7,7 @@ use Rattle.codes.specs.Codes.{STBL, STSC, STSZ, STCO}
 use Rattle.boxes.specs.Box.{Box}
 use Rattle.boxes.specs.Boxes.{boxes}
 use Rattle.boxes.specs.Seek.{find, placeIn}
-use Rattle.mdat.specs.Rules.{eight as lie}
+use Rattle.mdat.specs.Rules.{chunksLie}
 use Rattle.rule.specs.declared.Verdict.{Verdict}
 use Rattle.rule.specs.declared.Verdict.the-variants.{Fine}
 use Rattle.rule.specs.Verdict.{unless}
@@ -18,7 +18,7 @@ use Rattle.rule_tracks.specs.Seven.{sevenHolds}
 
 -- of the boxes m of an `stbl` in a file with the boxes l; it is read where rules 6 and 7 hold
 unfoldable pub eightHolds : List Box → List Box → Bool
-eightHolds l m = pick (sixHolds m) (pick (sevenHolds m) (lie l (find STSC m) (find STSZ m) (find STCO m)) true) true
+eightHolds l m = pick (sixHolds m) (pick (sevenHolds m) (chunksLie l (find STSC m) (find STSZ m) (find STCO m)) true) true
 
 unfoldable pub eightAt : List Box → ℕ → List ℕ → ℕ → Verdict
 eightAt l k xs p = ifEq k STBL (unless (eightHolds l (boxes xs)) (p + placeIn STCO 0 (boxes xs))) Fine

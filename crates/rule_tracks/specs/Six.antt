@@ -13,11 +13,11 @@ use Rattle.rule.specs.Judge.{Judge}
 use Rattle.rule.specs.Rule.{Rule, placed}
 
 -- "Payload of stts is 8+8n, stsc 8+12n, stco 8+4n; stsz is 12, with 4n more when its common size is 0"
-unfoldable pub tableOf : ℕ → List ℕ → Bool
-tableOf c b = ifEq c STTS (tableForm 8 b) (ifEq c STSC (tableForm 12 b) (ifEq c STCO (tableForm 4 b) (ifEq c STSZ (sizesForm b) true)))
+unfoldable pub tableFine : ℕ → List ℕ → Bool
+tableFine c b = ifEq c STTS (tableForm 8 b) (ifEq c STSC (tableForm 12 b) (ifEq c STCO (tableForm 4 b) (ifEq c STSZ (sizesForm b) true)))
 
 unfoldable pub tableIn : ℕ → ℕ → List ℕ → Bool
-tableIn k c b = ifEq k STBL (tableOf c b) true
+tableIn k c b = ifEq k STBL (tableFine c b) true
 
 abbrev pub sixRule : Rule
 sixRule = record { leaf = tableIn; node = λ k xs. true; end = λ xs. true }

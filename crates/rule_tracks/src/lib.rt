@@ -11,13 +11,13 @@ ghost use Prim.Native.Nat.{_+_, _^_, _<_};
 ghost use lib.ListN.{length};
 ghost use Rattle.wire.specs.Clauses.{oneIf};
 ghost use Rattle.boxes.specs.Boxes.{boxes};
-ghost use Rattle.rule_tracks.specs.Six.{tableOf, tableIn, sixHolds};
+ghost use Rattle.rule_tracks.specs.Six.{tableFine, tableIn, sixHolds};
 ghost use Rattle.rule_tracks.specs.Seven.{sevenHolds, sevenIn};
 ghost use Rattle.rule_tracks.specs.Eight.{eightHolds, eightAt};
 
 // Whether a table has its length.
 fn table_of(c: usize, body: &[u8]) -> usize
-    ensures { λ r. ⌜ r ≡ oneIf (tableOf c (now (body .entry))) ⌝ }
+    ensures { λ r. ⌜ r ≡ oneIf (tableFine c (now (body .entry))) ⌝ }
 {
     if c == codes::STTS {
         return table::table_form(body, 8);

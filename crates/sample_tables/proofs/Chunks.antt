@@ -6,7 +6,7 @@ use mathlib.Core.List.{List}
 use Rattle.wire.specs.Numbers.{Bytes}
 use Rattle.wire.proofs.Sums.{sum-none, sum-more, sum-mono, sum-at-most}
 use Rattle.wire.proofs.Numbers.{word-most}
-use Rattle.sample_tables.specs.Tables.{count}
+use Rattle.sample_tables.specs.Tables.{items}
 use Rattle.sample_tables.specs.Runs.{runOf, Rising}
 use Rattle.sample_tables.specs.Chunks.{samplesIn, firstSample, walkStart, walkAt, Walkable}
 use Rattle.sample_tables.specs.declared.chunk.ChunkWalk.{ChunkWalk}
@@ -58,5 +58,5 @@ module _ (stsc : List ℕ) where
     walk-room b = omega (arith, walk-sample, first-fits b k)
 
     -- before a chunk it stands on a run
-    pub walk-inside : (stco : List ℕ) → Walkable stsc stco → k < count stco → w .run < count stsc
+    pub walk-inside : (stco : List ℕ) → Walkable stsc stco → k < items stco → w .run < items stsc
     walk-inside stco a h = run-inside stsc (a .rising) (a .some (omega arith)) k (w .run) walk-run

@@ -6,11 +6,11 @@ use mathlib.Core.Bool.{true}
 use mathlib.Core.List.{List}
 use Rattle.wire.proofs.Tests.{eq-nay}
 use Rattle.wire.proofs.Clauses.{eq-is, le-is, clause}
-use Rattle.sample_tables.specs.Tables.{count}
-use Rattle.sample_tables.specs.Sizes.{samples}
+use Rattle.sample_tables.specs.Tables.{items}
+use Rattle.sample_tables.specs.Sizes.{sampleCount}
 use Rattle.sample_tables.specs.Runs.{runsFine}
 use Rattle.sample_tables.specs.Chunks.{offsetAt, chunkAt, extentOf, extentAt, Walkable}
-use Rattle.sample_tables.specs.Rules.{Six, emptyTogether, seven, Seven}
+use Rattle.sample_tables.specs.Rules.{Six, emptyTogether, tablesAgree, Seven}
 use Rattle.sample_tables.proofs.Runs.{rising}
 
 some-runs : (chunks runs n : ℕ) → emptyTogether chunks runs n ≡ true → 0 < chunks → 0 < runs
@@ -19,13 +19,13 @@ some-runs chunks runs n e h = le-is _ _ (eq-nay _ _ _ _ _ (λ z. omega arith) re
 
 module _ (stts stsc stsz stco : List ℕ) (entries : ℕ) (six : Six stts stsc stsz stco) where
   -- the clauses that the walk goes by
-  pub walkable : runsFine stsc (count stco) entries (count stsc) ≡ true → emptyTogether (count stco) (count stsc) (samples stsz) ≡ true → Walkable stsc stco
+  pub walkable : runsFine stsc (items stco) entries (items stsc) ≡ true → emptyTogether (items stco) (items stsc) (sampleCount stsz) ≡ true → Walkable stsc stco
   walkable e f =
-      record { runs = six .runs; offsets = six .offsets; rising = rising stsc (count stco) entries e; some = some-runs _ _ _ f }
+      record { runs = six .runs; offsets = six .offsets; rising = rising stsc (items stco) entries e; some = some-runs _ _ _ f }
 
   -- rule 7, as a test and as facts
-  pub seven-is : seven stts stsc stsz stco entries ≡ true → Seven stts stsc stsz stco
-  unfolding seven
+  pub seven-is : tablesAgree stts stsc stsz stco entries ≡ true → Seven stts stsc stsz stco
+  unfolding tablesAgree
   seven-is e =
       record {
         few = le-is _ _ (clause 0 _ e);
@@ -36,8 +36,8 @@ module _ (stts stsc stsz stco : List ℕ) (entries : ℕ) (six : Six stts stsc s
 
 -- ---- `stco` is read by its count and its offsets alone
 
-pub seven-same : (stts stsc stsz : List ℕ) (entries : ℕ) (o p : List ℕ) → count o ≡ count p → seven stts stsc stsz o entries ≡ seven stts stsc stsz p entries
-unfolding seven
+pub seven-same : (stts stsc stsz : List ℕ) (entries : ℕ) (o p : List ℕ) → items o ≡ items p → tablesAgree stts stsc stsz o entries ≡ tablesAgree stts stsc stsz p entries
+unfolding tablesAgree
 seven-same stts stsc stsz entries o p e = rw e
 
 pub chunk-same : (stsc : List ℕ) (k : ℕ) (o p : List ℕ) → offsetAt o k ≡ offsetAt p k → chunkAt stsc o k ≡ chunkAt stsc p k

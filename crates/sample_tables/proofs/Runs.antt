@@ -7,7 +7,7 @@ use mathlib.Core.List.{List}
 use Rattle.wire.proofs.Tests.{eq-yea, eq-nay}
 use Rattle.wire.proofs.Sums.{all-none, all-more, all-at, all-fails}
 use Rattle.wire.proofs.Clauses.{eq-is, lt-is, clause}
-use Rattle.sample_tables.specs.Tables.{count}
+use Rattle.sample_tables.specs.Tables.{items}
 use Rattle.sample_tables.specs.Runs.{rises, runFine, runsFine, Rising}
 
 module _ (stsc : List ℕ) (chunks entries : ℕ) where
@@ -28,12 +28,12 @@ module _ (stsc : List ℕ) (chunks entries : ℕ) where
   rises-at n e i h = clause 0 _ (all-at (runFine stsc chunks entries) n e i h)
 
   -- the runs that the rule lets through rise from 1
-  pub rising : runsFine stsc chunks entries (count stsc) ≡ true → Rising stsc
+  pub rising : runsFine stsc chunks entries (items stsc) ≡ true → Rising stsc
   unfolding rises
   rising e =
       record {
-        one = λ h. eq-is _ _ (eq-yea _ _ _ _ _ refl refl ∙ rises-at (count stsc) e 0 h);
+        one = λ h. eq-is _ _ (eq-yea _ _ _ _ _ refl refl ∙ rises-at (items stsc) e 0 h);
         rise = λ i h.
             let s : i + 1 - 1 ≡ i = omega arith in
-            rw s at (lt-is _ _ (eq-nay _ _ _ _ _ (λ z. omega arith) refl ∙ rises-at (count stsc) e (i + 1) h));
+            rw s at (lt-is _ _ (eq-nay _ _ _ _ _ (λ z. omega arith) refl ∙ rises-at (items stsc) e (i + 1) h));
       }

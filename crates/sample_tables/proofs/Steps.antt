@@ -5,7 +5,7 @@ use mathlib.Core.Path.{_≡_, refl, sym}
 use mathlib.Core.List.{List}
 use mathlib.Core.Logic.{⊎-elim}
 use Rattle.wire.proofs.Tests.{lt-yea, lt-nay, lt-ways}
-use Rattle.sample_tables.specs.Tables.{count}
+use Rattle.sample_tables.specs.Tables.{items}
 use Rattle.sample_tables.specs.Runs.{perChunk, description, runOf}
 use Rattle.sample_tables.specs.Chunks.{samplesIn, descriptionOf, offsetAt, chunkAt, walkAt, stepOf}
 use Rattle.sample_tables.specs.declared.chunk.Chunk.{Chunk}
@@ -15,13 +15,13 @@ use Rattle.sample_tables.proofs.Chunks.{first-more, walk-chunk, walk-ru
 
 -- what a step that found a chunk tells
 pub record Stepped (stsc stco : List ℕ) (k : ℕ) (c : Chunk) (w : ChunkWalk) : Type 0 where
-  pub inside : k < count stco
+  pub inside : k < items stco
   pub found : c ≡ chunkAt stsc stco k
   pub moved : w .chunk ≡ k + 1
   pub walk : w ≡ walkAt stsc (w .chunk)
 
 module _ (stsc stco : List ℕ) where
-  pub step-end : (k : ℕ) → count stco ≤ k → End ≡ stepOf stsc stco k
+  pub step-end : (k : ℕ) → items stco ≤ k → End ≡ stepOf stsc stco k
   unfolding stepOf
   step-end k h = lt-nay _ _ _ _ _ h refl
 
@@ -31,7 +31,7 @@ module _ (stsc stco : List ℕ) where
       → offset ≡ offsetAt stco (w .chunk)
       → entry ≡ description stsc (w .run)
       → run ≡ runOf stsc (w .chunk + 1)
-      → w .chunk < count stco
+      → w .chunk < items stco
       → Found (record { number = w .chunk; offset = offset; first = w .sample; samples = samples; description = entry })
       (record { chunk = w .chunk + 1; run = run; sample = w .sample + samples })
       ≡ stepOf stsc stco (w .chunk)
@@ -55,6 +55,6 @@ module _ (stsc stco : List ℕ) where
         (λ x. let y = x .1 in let z : _≡_ {A = ℕ} 0 1 = cc in absurd (omega arith))
         (lt-ways _ _ _ _ _ (sym e))
 
-    pub end-is : End ≡ stepOf stsc stco k → count stco ≤ k
+    pub end-is : End ≡ stepOf stsc stco k → items stco ≤ k
     unfolding stepOf
     end-is e = ⊎-elim (λ x. let y = x .1 in let z : _≡_ {A = ℕ} 0 1 = cc in absurd (omega arith)) (λ x. x .0) (lt-ways _ _ _ _ _ (sym e))

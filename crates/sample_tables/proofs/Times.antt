@@ -7,7 +7,7 @@ use mathlib.Core.List.{List}
 use Rattle.wire.specs.Numbers.{Bytes}
 use Rattle.wire.proofs.Sums.{sum-none, sum-more, sum-mono, sum-scaled}
 use Rattle.wire.proofs.Numbers.{word-most}
-use Rattle.sample_tables.specs.Tables.{count}
+use Rattle.sample_tables.specs.Tables.{items}
 use Rattle.sample_tables.specs.Times.{counted, delta, timedTo, ticksTo, timed, ticksOf}
 
 module _ (stts : List ℕ) where
@@ -29,11 +29,11 @@ module _ (stts : List ℕ) where
     ticks-more = rw (p, q) (sum-more (λ i. counted stts i * delta stts i) i)
 
     -- with at most 65,536 samples nothing passes 2^48
-    pub ticks-fit : Bytes stts → timed stts ≤ 65536 → i < count stts → ticksTo stts i + n * d ≤ 65536 * 4294967295
+    pub ticks-fit : Bytes stts → timed stts ≤ 65536 → i < items stts → ticksTo stts i + n * d ≤ 65536 * 4294967295
     unfolding timedTo ticksTo
     ticks-fit b few h =
         let s = sum-scaled (counted stts) (delta stts) 4294967295 (i + 1) (λ k. word-most _ _ b) in
-        omega (arith, ticks-more, sum-mono (counted stts) (i + 1) (count stts) (omega arith))
+        omega (arith, ticks-more, sum-mono (counted stts) (i + 1) (items stts) (omega arith))
 
   -- ---- the tick of sample s
   module _ (s : ℕ) where

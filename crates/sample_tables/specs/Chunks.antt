@@ -3,7 +3,7 @@ use Prim.Native.Nat.{ℕ, _+_, _<_}
 use mathlib.Core.List.{List}
 use Rattle.wire.specs.Tests.{ifLt}
 use Rattle.wire.specs.Sums.{sumTo}
-use Rattle.sample_tables.specs.Tables.{count, field, Table}
+use Rattle.sample_tables.specs.Tables.{items, field, Table}
 use Rattle.sample_tables.specs.Sizes.{bytesFrom}
 use Rattle.sample_tables.specs.Runs.{perChunk, description, runOf, Rising}
 use Rattle.sample_tables.specs.declared.chunk.Chunk.{Chunk}
@@ -55,11 +55,11 @@ unfoldable pub walkAt : List ℕ → ℕ → ChunkWalk
 walkAt stsc k = record { chunk = k; run = runOf stsc k; sample = firstSample stsc k }
 
 unfoldable pub stepOf : List ℕ → List ℕ → ℕ → ChunkStep
-stepOf stsc stco k = ifLt k (count stco) (Found (chunkAt stsc stco k) (walkAt stsc (k + 1))) End
+stepOf stsc stco k = ifLt k (items stco) (Found (chunkAt stsc stco k) (walkAt stsc (k + 1))) End
 
 -- what the walk asks of its tables
 pub record Walkable (stsc stco : List ℕ) : Type 0 where
   pub runs : Table 12 stsc
   pub offsets : Table 4 stco
   pub rising : Rising stsc
-  pub some : 0 < count stco → 0 < count stsc
+  pub some : 0 < items stco → 0 < items stsc

@@ -5,9 +5,9 @@ use mathlib.Core.Path.{_≡_}
 use mathlib.Core.List.{List, [], _∷_}
 use Rattle.wire.specs.Tests.{ifEq}
 use Rattle.wire.specs.Clauses.{isEq, isLe, every}
-use Rattle.sample_tables.specs.Tables.{count, Table}
+use Rattle.sample_tables.specs.Tables.{items, Table}
 use Rattle.sample_tables.specs.Times.{timed}
-use Rattle.sample_tables.specs.Sizes.{samples, Sizes}
+use Rattle.sample_tables.specs.Sizes.{sampleCount, Sizes}
 use Rattle.sample_tables.specs.Runs.{runsFine}
 use Rattle.sample_tables.specs.Chunks.{samplesOver, Walkable}
 
@@ -23,19 +23,19 @@ unfoldable pub emptyTogether : ℕ → ℕ → ℕ → Bool
 emptyTogether chunks runs n = ifEq chunks 0 (every (isEq runs 0 ∷ isEq n 0 ∷ [])) (isLe 1 runs)
 
 -- rule 7, with the count of the track's sample entries
-unfoldable pub seven : (stts stsc stsz stco : List ℕ) → ℕ → Bool
-seven stts stsc stsz stco entries =
+unfoldable pub tablesAgree : (stts stsc stsz stco : List ℕ) → ℕ → Bool
+tablesAgree stts stsc stsz stco entries =
     every
-    (isLe (samples stsz) 65536
-    ∷ isEq (timed stts) (samples stsz)
-    ∷ runsFine stsc (count stco) entries (count stsc)
-    ∷ isEq (samplesOver stsc (count stco)) (samples stsz)
-    ∷ emptyTogether (count stco) (count stsc) (samples stsz)
+    (isLe (sampleCount stsz) 65536
+    ∷ isEq (timed stts) (sampleCount stsz)
+    ∷ runsFine stsc (items stco) entries (items stsc)
+    ∷ isEq (samplesOver stsc (items stco)) (sampleCount stsz)
+    ∷ emptyTogether (items stco) (items stsc) (sampleCount stsz)
     ∷ [])
 
 -- what it says, past the single runs
 pub record Seven (stts stsc stsz stco : List ℕ) : Type 0 where
-  pub few : samples stsz ≤ 65536
-  pub timely : timed stts ≡ samples stsz
-  pub total : samplesOver stsc (count stco) ≡ samples stsz
+  pub few : sampleCount stsz ≤ 65536
+  pub timely : timed stts ≡ sampleCount stsz
+  pub total : samplesOver stsc (items stco) ≡ sampleCount stsz
   pub walk : Walkable stsc stco

@@ -6,10 +6,10 @@ use mathlib.Core.List.{List, [], _∷_}
 use Rattle.wire.specs.Tests.{ifEq, ifLe}
 use Rattle.wire.specs.Sums.{allTo}
 use Rattle.wire.specs.Clauses.{isEq, isLt, isLe, every}
-use Rattle.sample_tables.specs.Tables.{count, field}
+use Rattle.sample_tables.specs.Tables.{items, field}
 
-abbrev pub startOf : List ℕ → ℕ → ℕ
-startOf stsc i = field 12 0 stsc i
+abbrev pub firstChunk : List ℕ → ℕ → ℕ
+firstChunk stsc i = field 12 0 stsc i
 
 abbrev pub perChunk : List ℕ → ℕ → ℕ
 perChunk stsc i = field 12 4 stsc i
@@ -19,14 +19,14 @@ description stsc i = field 12 8 stsc i
 
 -- "first chunk numbers start at 1, rise strictly"
 unfoldable pub rises : List ℕ → ℕ → Bool
-rises stsc i = ifEq i 0 (isEq (startOf stsc i) 1) (isLt (startOf stsc (i - 1)) (startOf stsc i))
+rises stsc i = ifEq i 0 (isEq (firstChunk stsc i) 1) (isLt (firstChunk stsc (i - 1)) (firstChunk stsc i))
 
 -- rule 7 of run i: its first chunk number rises and doesn't "pass the chunk count; samples per chunk at least 1; description index 1 to the entry count"
 unfoldable pub runFine : List ℕ → ℕ → ℕ → ℕ → Bool
 runFine stsc chunks entries i =
     every
     (rises stsc i
-    ∷ isLe (startOf stsc i) chunks
+    ∷ isLe (firstChunk stsc i) chunks
     ∷ isLe 1 (perChunk stsc i)
     ∷ isLe 1 (description stsc i)
     ∷ isLe (description stsc i) entries
@@ -38,13 +38,13 @@ runsFine stsc chunks entries n = allTo (runFine stsc chunks entries) n
 
 -- what the walk by chunk goes by
 pub record Rising (stsc : List ℕ) : Type 0 where
-  pub one : 0 < count stsc → startOf stsc 0 ≡ 1
-  pub rise : (i : ℕ) → i + 1 < count stsc → startOf stsc i < startOf stsc (i + 1)
+  pub one : 0 < items stsc → firstChunk stsc 0 ≡ 1
+  pub rise : (i : ℕ) → i + 1 < items stsc → firstChunk stsc i < firstChunk stsc (i + 1)
 
 -- the run of chunk k (from 0): the last of the first n runs that starts at or before it
 unfoldable pub runAmong : List ℕ → ℕ → ℕ → ℕ
 runAmong stsc k zero = 0
-runAmong stsc k (suc n) = ifLe (startOf stsc n) (k + 1) n (runAmong stsc k n)
+runAmong stsc k (suc n) = ifLe (firstChunk stsc n) (k + 1) n (runAmong stsc k n)
 
 unfoldable pub runOf : List ℕ → ℕ → ℕ
-runOf stsc k = runAmong stsc k (count stsc)
+runOf stsc k = runAmong stsc k (items stsc)

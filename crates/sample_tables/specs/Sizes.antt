@@ -11,19 +11,19 @@ abbrev pub common : List ℕ → ℕ
 common stsz = word 4 stsz 4
 
 -- the sample count
-abbrev pub samples : List ℕ → ℕ
-samples stsz = word 4 stsz 8
+abbrev pub sampleCount : List ℕ → ℕ
+sampleCount stsz = word 4 stsz 8
 
 -- the sizes in the table
-unfoldable pub listed : List ℕ → ℕ
-listed stsz = ifEq (common stsz) 0 (samples stsz) 0
+unfoldable pub sizesListed : List ℕ → ℕ
+sizesListed stsz = ifEq (common stsz) 0 (sampleCount stsz) 0
 
 -- rule 6: "stsz is 12, with 4n more when its common size is 0"
 abbrev pub sizesForm : List ℕ → Bool
-sizesForm stsz = hasForm (12 + 4 * listed stsz) stsz
+sizesForm stsz = hasForm (12 + 4 * sizesListed stsz) stsz
 
 abbrev pub Sizes : List ℕ → Type 0
-Sizes stsz = Form (12 + 4 * listed stsz) stsz
+Sizes stsz = Form (12 + 4 * sizesListed stsz) stsz
 
 -- the size of sample j, from 0
 unfoldable pub sizeAt : List ℕ → ℕ → ℕ

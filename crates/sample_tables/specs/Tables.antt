@@ -8,8 +8,8 @@ use Rattle.wire.specs.Numbers.{word}
 use Rattle.wire.specs.Clauses.{isEq, every}
 
 -- the stored count
-abbrev pub count : List ℕ → ℕ
-count xs = word 4 xs 4
+abbrev pub items : List ℕ → ℕ
+items xs = word 4 xs 4
 
 -- the number at byte j of item i, of width w
 abbrev pub field : (w j : ℕ) → List ℕ → ℕ → ℕ
@@ -26,7 +26,7 @@ pub record Form (n : ℕ) (xs : List ℕ) : Type 0 where
 
 -- "Payload of stts is 8+8n, stsc 8+12n, stco 8+4n": by the item width
 abbrev pub tableForm : ℕ → List ℕ → Bool
-tableForm w xs = hasForm (8 + w * count xs) xs
+tableForm w xs = hasForm (8 + w * items xs) xs
 
 abbrev pub Table : ℕ → List ℕ → Type 0
-Table w xs = Form (8 + w * count xs) xs
+Table w xs = Form (8 + w * items xs) xs

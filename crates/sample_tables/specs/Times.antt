@@ -2,7 +2,7 @@
 use Prim.Native.Nat.{ℕ, _*_, _-_, min}
 use mathlib.Core.List.{List}
 use Rattle.wire.specs.Sums.{sumTo}
-use Rattle.sample_tables.specs.Tables.{count, field}
+use Rattle.sample_tables.specs.Tables.{items, field}
 
 abbrev pub counted : List ℕ → ℕ → ℕ
 counted stts i = field 8 0 stts i
@@ -19,11 +19,11 @@ ticksTo stts n = sumTo (λ i. counted stts i * delta stts i) n
 
 -- the samples that it counts
 abbrev pub timed : List ℕ → ℕ
-timed stts = timedTo stts (count stts)
+timed stts = timedTo stts (items stts)
 
 -- a track's length: "sum of stts count times delta"
 abbrev pub mediaTicks : List ℕ → ℕ
-mediaTicks stts = ticksTo stts (count stts)
+mediaTicks stts = ticksTo stts (items stts)
 
 -- how many of the first s samples item i counts
 abbrev pub countedOf : List ℕ → ℕ → ℕ → ℕ
@@ -35,4 +35,4 @@ ticksOf stts s n = sumTo (λ i. countedOf stts s i * delta stts i) n
 
 -- the tick at which sample s starts, from 0: the deltas of all samples before it
 abbrev pub tickAt : List ℕ → ℕ → ℕ
-tickAt stts s = ticksOf stts s (count stts)
+tickAt stts s = ticksOf stts s (items stts)

@@ -6,7 +6,7 @@ use crate::table;
 use crate::time;
 ghost use mathlib.Core.Path.{_≡_};
 ghost use Rattle.wire.specs.Clauses.{oneIf};
-ghost use Rattle.sample_tables.specs.Rules.{Six, emptyTogether, seven as sevenOf};
+ghost use Rattle.sample_tables.specs.Rules.{Six, emptyTogether, tablesAgree};
 
 // Whether chunks, runs and samples are there together: 1 or 0.
 fn empty_together(chunks: usize, runs: usize, samples: usize) -> usize
@@ -30,7 +30,7 @@ fn empty_together(chunks: usize, runs: usize, samples: usize) -> usize
 // Whether a track with so many sample entries meets rule 7: 1 or 0.
 pub fn seven(stts: &[u8], stsc: &[u8], stsz: &[u8], stco: &[u8], entries: usize) -> usize
     requires { ⌜ Six (now stts) (now stsc) (now stsz) (now stco) ⌝ }
-    ensures { λ r. ⌜ r ≡ oneIf (sevenOf (now (stts .entry)) (now (stsc .entry)) (now (stsz .entry)) (now (stco .entry)) entries) ⌝ }
+    ensures { λ r. ⌜ r ≡ oneIf (tablesAgree (now (stts .entry)) (now (stsc .entry)) (now (stsz .entry)) (now (stco .entry)) entries) ⌝ }
 {
     let samples = size::samples(stsz);
     let chunks = table::count(stco);

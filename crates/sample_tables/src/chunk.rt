@@ -4,7 +4,7 @@ use crate::size;
 use crate::table;
 ghost use mathlib.Core.Path.{_≡_};
 ghost use Prim.Native.Nat.{_+_, _^_, _≤_, _<_};
-ghost use Rattle.sample_tables.specs.Tables.{Table, count};
+ghost use Rattle.sample_tables.specs.Tables.{Table, items};
 ghost use Rattle.sample_tables.specs.Chunks.{offsetAt, extentOf, samplesOver, walkStart, walkAt, stepOf, Walkable};
 
 // A chunk: its number from 0, its offset in the file, its first sample from 0, how many it has, and their description.
@@ -36,7 +36,7 @@ pub enum ChunkStep {
 
 // The offset of chunk k.
 pub fn offset_at(stco: &[u8], k: usize) -> usize
-    requires { ⌜ Table 4 (now stco) × (k < count (now stco)) ⌝ }
+    requires { ⌜ Table 4 (now stco) × (k < items (now stco)) ⌝ }
     ensures { λ r. ⌜ (r ≡ offsetAt (now (stco .entry)) k) × (r < 2 ^ 32) ⌝ }
 {
     table::field(stco, 4, 0, k)
@@ -84,7 +84,7 @@ impl ChunkWalk {
 // The samples over all chunks.
 pub fn samples_over(stsc: &[u8], stco: &[u8]) -> usize
     requires { ⌜ Walkable (now stsc) (now stco) ⌝ }
-    ensures { λ r. ⌜ r ≡ samplesOver (now (stsc .entry)) (count (now (stco .entry))) ⌝ }
+    ensures { λ r. ⌜ r ≡ samplesOver (now (stsc .entry)) (items (now (stco .entry))) ⌝ }
 {
     let mut walk = ChunkWalk::start();
     loop {

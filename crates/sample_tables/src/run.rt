@@ -3,20 +3,20 @@ use crate::table;
 ghost use mathlib.Core.Path.{_≡_};
 ghost use Prim.Native.Nat.{_+_, _^_, _<_};
 ghost use Rattle.wire.specs.Clauses.{oneIf};
-ghost use Rattle.sample_tables.specs.Tables.{Table, count};
-ghost use Rattle.sample_tables.specs.Runs.{startOf, perChunk, description as descriptionIn, rises as risesOf, runFine, runsFine, runOf, Rising};
+ghost use Rattle.sample_tables.specs.Tables.{Table, items};
+ghost use Rattle.sample_tables.specs.Runs.{firstChunk, perChunk, description as descriptionIn, rises as risesOf, runFine, runsFine, runOf, Rising};
 
 // The number of run i's first chunk, from 1.
 fn start_of(stsc: &[u8], i: usize) -> usize
-    requires { ⌜ Table 12 (now stsc) × (i < count (now stsc)) ⌝ }
-    ensures { λ r. ⌜ (r ≡ startOf (now (stsc .entry)) i) × (r < 2 ^ 32) ⌝ }
+    requires { ⌜ Table 12 (now stsc) × (i < items (now stsc)) ⌝ }
+    ensures { λ r. ⌜ (r ≡ firstChunk (now (stsc .entry)) i) × (r < 2 ^ 32) ⌝ }
 {
     table::field(stsc, 12, 0, i)
 }
 
 // The samples in each of its chunks.
 pub fn per_chunk(stsc: &[u8], i: usize) -> usize
-    requires { ⌜ Table 12 (now stsc) × (i < count (now stsc)) ⌝ }
+    requires { ⌜ Table 12 (now stsc) × (i < items (now stsc)) ⌝ }
     ensures { λ r. ⌜ (r ≡ perChunk (now (stsc .entry)) i) × (r < 2 ^ 32) ⌝ }
 {
     table::field(stsc, 12, 4, i)
@@ -24,7 +24,7 @@ pub fn per_chunk(stsc: &[u8], i: usize) -> usize
 
 // Its description index.
 pub fn description(stsc: &[u8], i: usize) -> usize
-    requires { ⌜ Table 12 (now stsc) × (i < count (now stsc)) ⌝ }
+    requires { ⌜ Table 12 (now stsc) × (i < items (now stsc)) ⌝ }
     ensures { λ r. ⌜ (r ≡ descriptionIn (now (stsc .entry)) i) × (r < 2 ^ 32) ⌝ }
 {
     table::field(stsc, 12, 8, i)
@@ -32,7 +32,7 @@ pub fn description(stsc: &[u8], i: usize) -> usize
 
 // Whether run i starts at chunk 1 or, after the first, past the one before it: 1 or 0.
 fn rises(stsc: &[u8], i: usize) -> usize
-    requires { ⌜ Table 12 (now stsc) × (i < count (now stsc)) ⌝ }
+    requires { ⌜ Table 12 (now stsc) × (i < items (now stsc)) ⌝ }
     ensures { λ r. ⌜ r ≡ oneIf (risesOf (now (stsc .entry)) i) ⌝ }
 {
     if i == 0 {
@@ -49,7 +49,7 @@ fn rises(stsc: &[u8], i: usize) -> usize
 
 // Whether run i is as rule 7 wants it: 1 or 0.
 fn run_fine(stsc: &[u8], chunks: usize, entries: usize, i: usize) -> usize
-    requires { ⌜ Table 12 (now stsc) × (i < count (now stsc)) ⌝ }
+    requires { ⌜ Table 12 (now stsc) × (i < items (now stsc)) ⌝ }
     ensures { λ r. ⌜ r ≡ oneIf (runFine (now (stsc .entry)) chunks entries i) ⌝ }
 {
     if rises(stsc, i) == 0 {
@@ -74,7 +74,7 @@ fn run_fine(stsc: &[u8], chunks: usize, entries: usize, i: usize) -> usize
 // Whether every run is: 1 or 0.
 pub fn runs_fine(stsc: &[u8], chunks: usize, entries: usize) -> usize
     requires { ⌜ Table 12 (now stsc) ⌝ }
-    ensures { λ r. ⌜ r ≡ oneIf (runsFine (now (stsc .entry)) chunks entries (count (now (stsc .entry)))) ⌝ }
+    ensures { λ r. ⌜ r ≡ oneIf (runsFine (now (stsc .entry)) chunks entries (items (now (stsc .entry)))) ⌝ }
 {
     let n = table::count(stsc);
     let mut i = 0;
@@ -89,7 +89,7 @@ pub fn runs_fine(stsc: &[u8], chunks: usize, entries: usize) -> usize
 
 // The run of chunk k + 1, from that of chunk k.
 pub fn run_after(stsc: &[u8], k: usize, run: usize) -> usize
-    requires { ⌜ Table 12 (now stsc) × Rising (now stsc) × (run ≡ runOf (now stsc) k) × (k < 2 ^ 32) × (0 < count (now stsc)) ⌝ }
+    requires { ⌜ Table 12 (now stsc) × Rising (now stsc) × (run ≡ runOf (now stsc) k) × (k < 2 ^ 32) × (0 < items (now stsc)) ⌝ }
     ensures { λ r. ⌜ r ≡ runOf (now (stsc .entry)) (k + 1) ⌝ }
 {
     if run + 1 < table::count(stsc) {

@@ -4,11 +4,11 @@ use wire::number;
 ghost use mathlib.Core.Path.{_≡_};
 ghost use Prim.Native.Nat.{_+_, _*_, _^_, _≤_, _<_};
 ghost use Rattle.wire.specs.Clauses.{oneIf};
-ghost use Rattle.sample_tables.specs.Sizes.{sizesForm, listed as listedOf, samples as samplesOf, sizeAt, bytesFrom};
+ghost use Rattle.sample_tables.specs.Sizes.{sizesForm, sizesListed, sampleCount, sizeAt, bytesFrom};
 
 // The sizes that the table holds: none beside a common size.
 fn listed(stsz: &[u8]) -> usize
-    ensures { λ r. ⌜ (r ≡ listedOf (now (stsz .entry))) × (r < 2 ^ 32) ⌝ }
+    ensures { λ r. ⌜ (r ≡ sizesListed (now (stsz .entry))) × (r < 2 ^ 32) ⌝ }
 {
     if number::word32(stsz, 4) == 0 {
         return number::word32(stsz, 8);
@@ -25,7 +25,7 @@ pub fn sizes_form(stsz: &[u8]) -> usize
 
 // The sample count.
 pub fn samples(stsz: &[u8]) -> usize
-    ensures { λ r. ⌜ (r ≡ samplesOf (now (stsz .entry))) × (r < 2 ^ 32) ⌝ }
+    ensures { λ r. ⌜ (r ≡ sampleCount (now (stsz .entry))) × (r < 2 ^ 32) ⌝ }
 {
     number::word32(stsz, 8)
 }

@@ -3,7 +3,7 @@ use wire::number;
 ghost use mathlib.Core.Path.{_≡_};
 ghost use Prim.Native.Nat.{_+_, _^_, _≤_, _<_};
 ghost use Rattle.wire.specs.Clauses.{oneIf};
-ghost use Rattle.sample_tables.specs.Tables.{Table, hasForm, tableForm, count as countOf, field as fieldOf};
+ghost use Rattle.sample_tables.specs.Tables.{Table, hasForm, tableForm, items, field as fieldOf};
 
 // Whether a payload has version byte 0 and the given length: 1 or 0.
 pub fn has_form(part: &[u8], length: usize) -> usize
@@ -20,7 +20,7 @@ pub fn has_form(part: &[u8], length: usize) -> usize
 
 // The stored count.
 pub fn count(part: &[u8]) -> usize
-    ensures { λ r. ⌜ (r ≡ countOf (now (part .entry))) × (r < 2 ^ 32) ⌝ }
+    ensures { λ r. ⌜ (r ≡ items (now (part .entry))) × (r < 2 ^ 32) ⌝ }
 {
     number::word32(part, 4)
 }
@@ -35,7 +35,7 @@ pub fn table_form(part: &[u8], width: usize) -> usize
 
 // The number at byte j of item i.
 pub fn field(part: &[u8], width: usize, j: usize, i: usize) -> usize
-    requires { ⌜ Table width (now part) × (j + 4 ≤ width) × (i < countOf (now part)) ⌝ }
+    requires { ⌜ Table width (now part) × (j + 4 ≤ width) × (i < items (now part)) ⌝ }
     ensures { λ r. ⌜ (r ≡ fieldOf width j (now (part .entry)) i) × (r < 2 ^ 32) ⌝ }
 {
     number::word32_in(part, 8 + j + width * i)

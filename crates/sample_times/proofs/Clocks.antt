@@ -7,13 +7,13 @@ use mathlib.Core.List.{List}
 use mathlib.Core.Logic.{⊎-elim}
 use Rattle.wire.specs.Numbers.{Bytes}
 use Rattle.wire.proofs.Tests.{lt-yea, lt-nay, lt-ways}
-use Rattle.sample_tables.specs.Tables.{count}
+use Rattle.sample_tables.specs.Tables.{items}
 use Rattle.sample_tables.specs.Times.{counted, delta, timedTo, ticksTo, timed, tickAt}
 use Rattle.sample_tables.specs.declared.time.MediaTicks.{MediaTicks}
 use Rattle.sample_tables.proofs.Times.{timed-none, timed-more, ticks-none, ticks-more, ticks-fit}
 use Rattle.sample_times.specs.declared.clock.Clock.{Clock}
 use Rattle.sample_times.specs.declared.clock.Turned.the-variants.{At, Behind}
-use Rattle.sample_times.specs.Clocks.{Clocked, clockStart, clockAt, startOf, turnOf}
+use Rattle.sample_times.specs.Clocks.{Clocked, clockStart, clockAt, startTick, turnOf}
 use Rattle.sample_times.proofs.Ticks.{timed-mono, tick-in, tick-end}
 
 module _ (stts : List ℕ) where
@@ -37,16 +37,16 @@ module _ (stts : List ℕ) where
 
   -- what it does with a sample
   module _ (w : Clock) (s : ℕ) (e : w ≡ clockAt stts (w .item)) (l : timedTo stts (w .item) ≤ s) where
-    pub turn-last : s ≤ timed stts → w .item ≡ count stts → At (record { 0 = w .tick }) ≡ turnOf stts (w .item) s
+    pub turn-last : s ≤ timed stts → w .item ≡ items stts → At (record { 0 = w .tick }) ≡ turnOf stts (w .item) s
     unfolding turnOf
     turn-last h g =
         let t = clock-tick w (w .item) e in
-        let n : timed stts ≤ timedTo stts (w .item + 1) = timed-mono stts (count stts) (w .item + 1) (omega arith) in
-        let m : timedTo stts (count stts) ≤ s = rw (← g) l in
+        let n : timed stts ≤ timedTo stts (w .item + 1) = timed-mono stts (items stts) (w .item + 1) (omega arith) in
+        let m : timedTo stts (items stts) ≤ s = rw (← g) l in
         let u : tickAt stts s ≡ w .tick = tick-end stts s m ∙ rw (← g) (sym t) in
         lt-nay _ _ _ _ _ (omega arith) (rw u)
 
-    module _ {n d : ℕ} (p : n ≡ counted stts (w .item)) (q : d ≡ delta stts (w .item)) (h : w .item < count stts) where
+    module _ {n d : ℕ} (p : n ≡ counted stts (w .item)) (q : d ≡ delta stts (w .item)) (h : w .item < items stts) where
       pub turn-behind : n < s - w .sample → Behind (record { item = w .item + 1; sample = w .sample + n; tick = w .tick + n * d }) ≡ turnOf stts (w .item) s
       unfolding turnOf clockAt
       turn-behind k =
@@ -73,7 +73,7 @@ module _ (stts : List ℕ) where
 
   -- back from its answer
   module _ (i s : ℕ) where
-    pub turned-at : (t : MediaTicks) → At t ≡ turnOf stts i s → (s ≤ timedTo stts (i + 1)) × (t ≡ startOf stts s)
+    pub turned-at : (t : MediaTicks) → At t ≡ turnOf stts i s → (s ≤ timedTo stts (i + 1)) × (t ≡ startTick stts s)
     unfolding turnOf
     turned-at t e =
         ⊎-elim (λ x. let z : _≡_ {A = ℕ} 0 1 = let y = x .1 in cc in absurd (omega arith)) (λ x. (x .0, let y = x .1 in cc)) (lt-ways _ _ _ _ _ (sym e))

@@ -6,7 +6,7 @@ use mathlib.Core.Path.{_≡_, sym, ap}
 use mathlib.Core.List.{List}
 use mathlib.Core.Logic.{⊎-elim}
 use Rattle.wire.proofs.Tests.{lt-ways}
-use Rattle.sample_tables.specs.Tables.{count}
+use Rattle.sample_tables.specs.Tables.{items}
 use Rattle.sample_tables.specs.Times.{timedTo, tickAt}
 use Rattle.sample_tables.specs.Chunks.{firstSample, chunkAt}
 use Rattle.sample_tables.specs.declared.chunk.Chunk.{Chunk}
@@ -15,14 +15,14 @@ use Rattle.sample_tables.proofs.Chunks.{first-mono}
 use Rattle.sample_times.specs.declared.walk.TimedWalk.{TimedWalk}
 use Rattle.sample_times.specs.declared.walk.TimedStep.{TimedStep}
 use Rattle.sample_times.specs.declared.walk.TimedStep.the-variants.{Found, Ticking, End}
-use Rattle.sample_times.specs.Clocks.{startOf}
+use Rattle.sample_times.specs.Clocks.{startTick}
 use Rattle.sample_times.specs.Walks.{Playable, timedAt, Timed, timedStep}
 use Rattle.sample_times.proofs.Ticks.{timed-mono}
 use Rattle.sample_times.proofs.Walks.{timed-is, first-timed}
 
 -- what a step that found a chunk tells, and one that moved the clock
 pub record Sounded (stts stsc stco : List ℕ) (i k : ℕ) (c : Chunk) (t : MediaTicks) (w : TimedWalk) : Type 0 where
-  pub inside : k < count stco
+  pub inside : k < items stco
   pub found : c ≡ chunkAt stsc stco k
   pub number : c .number ≡ k
   pub tick : t .0 ≡ tickAt stts (firstSample stsc k)
@@ -31,8 +31,8 @@ pub record Sounded (stts stsc stco : List ℕ) (i k : ℕ) (c : Chunk) (t : Medi
   pub walk : Timed stts stsc w
 
 pub record Ticked (stts stsc stco : List ℕ) (i k : ℕ) (w : TimedWalk) : Type 0 where
-  pub inside : k < count stco
-  pub more : i < count stts
+  pub inside : k < items stco
+  pub more : i < items stts
   pub chunk : w .walk .chunk ≡ k
   pub item : w .clock .item ≡ i + 1
   pub walk : Timed stts stsc w
@@ -48,9 +48,9 @@ tick-of stts stsc j k t e h = rw (← h) e
 module _ (stts stsc stco : List ℕ) (a : Playable stts stsc stco) (w : TimedWalk) (h : Timed stts stsc w) where
   told : {P : Type 0} (r : TimedStep)
       → r ≡ timedStep stts stsc stco (w .clock .item) (w .walk .chunk)
-      → (w .walk .chunk < count stco → timedTo stts (w .clock .item + 1) < firstSample stsc (w .walk .chunk) → r ≡ Ticking (timedAt stts stsc (w .clock .item + 1) (w .walk .chunk)) → P)
-      → (w .walk .chunk < count stco → r ≡ Found (chunkAt stsc stco (w .walk .chunk)) (startOf stts (firstSample stsc (w .walk .chunk))) (timedAt stts stsc (w .clock .item) (w .walk .chunk + 1)) → P)
-      → (count stco ≤ w .walk .chunk → r ≡ End → P)
+      → (w .walk .chunk < items stco → timedTo stts (w .clock .item + 1) < firstSample stsc (w .walk .chunk) → r ≡ Ticking (timedAt stts stsc (w .clock .item + 1) (w .walk .chunk)) → P)
+      → (w .walk .chunk < items stco → r ≡ Found (chunkAt stsc stco (w .walk .chunk)) (startTick stts (firstSample stsc (w .walk .chunk))) (timedAt stts stsc (w .clock .item) (w .walk .chunk + 1)) → P)
+      → (items stco ≤ w .walk .chunk → r ≡ End → P)
       → P
   unfolding timedStep
   told r e f g d =
@@ -61,15 +61,15 @@ module _ (stts stsc stco : List ℕ) (a : Playable stts stsc stco) (w : TimedWal
       told (Found c t v) e (λ k l x. let z : _≡_ {A = ℕ} 0 1 = cc in absurd (omega arith))
       (λ k x.
       let f : c ≡ chunkAt stsc stco (w .walk .chunk) = cc in
-      let u : t ≡ startOf stts (firstSample stsc (w .walk .chunk)) = cc in
+      let u : t ≡ startTick stts (firstSample stsc (w .walk .chunk)) = cc in
       let i = timed-is stts stsc stco a v (w .clock .item) (w .walk .chunk + 1) (cc) (h .item) (omega (arith, h .before, first-mono stsc (w .walk .chunk) (w .walk .chunk + 1) (omega arith))) in
       record { inside = k; found = f; number = chunk-number stsc stco _ c f; tick = ap (λ (m : MediaTicks). m .0) u; chunk = i .0; item = i .1; walk = i .2 })
       (λ k x. let z : _≡_ {A = ℕ} 0 1 = cc in absurd (omega arith))
 
   -- no chunk starts past the last item
-  early : w .walk .chunk < count stco → timedTo stts (w .clock .item + 1) < firstSample stsc (w .walk .chunk) → w .clock .item < count stts
+  early : w .walk .chunk < items stco → timedTo stts (w .clock .item + 1) < firstSample stsc (w .walk .chunk) → w .clock .item < items stts
   early k l =
-      ⊎-elim (λ e. absurd (omega (arith, timed-mono stts (count stts) (w .clock .item + 1) (omega arith), first-timed stts stsc stco a (w .walk .chunk) k))) (λ m. m) (eq-or-lt-of-le (h .item))
+      ⊎-elim (λ e. absurd (omega (arith, timed-mono stts (items stts) (w .clock .item + 1) (omega arith), first-timed stts stsc stco a (w .walk .chunk) k))) (λ m. m) (eq-or-lt-of-le (h .item))
 
   pub ticked : (v : TimedWalk) → Ticking v ≡ timedStep stts stsc stco (w .clock .item) (w .walk .chunk) → Ticked stts stsc stco (w .clock .item) (w .walk .chunk) v
   ticked v e =
@@ -81,6 +81,6 @@ module _ (stts stsc stco : List ℕ) (a : Playable stts stsc stco) (w : TimedWal
       (λ k x. let z : _≡_ {A = ℕ} 0 1 = cc in absurd (omega arith))
       (λ k x. let z : _≡_ {A = ℕ} 0 1 = cc in absurd (omega arith))
 
-  pub ended : End ≡ timedStep stts stsc stco (w .clock .item) (w .walk .chunk) → count stco ≤ w .walk .chunk
+  pub ended : End ≡ timedStep stts stsc stco (w .clock .item) (w .walk .chunk) → items stco ≤ w .walk .chunk
   ended e =
       told End e (λ k l x. let z : _≡_ {A = ℕ} 0 1 = cc in absurd (omega arith)) (λ k x. let z : _≡_ {A = ℕ} 0 1 = cc in absurd (omega arith)) (λ k x. k)

@@ -7,7 +7,7 @@ use mathlib.Core.List.{List}
 use Rattle.wire.specs.Numbers.{Bytes}
 use Rattle.wire.proofs.Sums.{sum-same, sum-mono, sum-flat, sum-le, sum-scaled}
 use Rattle.wire.proofs.Numbers.{word-most}
-use Rattle.sample_tables.specs.Tables.{count}
+use Rattle.sample_tables.specs.Tables.{items}
 use Rattle.sample_tables.specs.Times.{counted, delta, timedTo, ticksTo, timed, mediaTicks, countedOf, ticksOf, tickAt}
 use Rattle.sample_tables.proofs.Times.{timed-more, tick-more}
 
@@ -36,14 +36,14 @@ module _ (stts : List ℕ) where
         item j k = let e : countedOf stts s j ≡ 0 = omega (arith, timed-mono m j k) in rw e (omega arith)
 
     -- in item i, or at its end
-    pub tick-in : (i : ℕ) → i < count stts → timedTo stts i ≤ s → s ≤ timedTo stts (i + 1) → tickAt stts s ≡ ticksTo stts i + (s - timedTo stts i) * delta stts i
+    pub tick-in : (i : ℕ) → i < items stts → timedTo stts i ≤ s → s ≤ timedTo stts (i + 1) → tickAt stts s ≡ ticksTo stts i + (s - timedTo stts i) * delta stts i
     tick-in i h l m =
         let e : s - timedTo stts i ≡ countedOf stts s i = omega (arith, timed-more stts i) in
-        rest (i + 1) (count stts) m (omega arith) ∙ tick-more stts s i refl refl e refl ∙ ap (λ t. t + (s - timedTo stts i) * delta stts i) (whole i l)
+        rest (i + 1) (items stts) m (omega arith) ∙ tick-more stts s i refl refl e refl ∙ ap (λ t. t + (s - timedTo stts i) * delta stts i) (whole i l)
 
     -- past the last item
-    pub tick-end : timedTo stts (count stts) ≤ s → tickAt stts s ≡ ticksTo stts (count stts)
-    tick-end h = whole (count stts) h
+    pub tick-end : timedTo stts (items stts) ≤ s → tickAt stts s ≡ ticksTo stts (items stts)
+    tick-end h = whole (items stts) h
 
   -- ---- how large it is
 
@@ -51,15 +51,15 @@ module _ (stts : List ℕ) where
   pub tick-mono : (s t : ℕ) → s ≤ t → tickAt stts s ≤ tickAt stts t
   unfolding ticksOf
   tick-mono s t h =
-      sum-le (λ j. countedOf stts s j * delta stts j) (λ j. countedOf stts t j * delta stts j) (count stts) (λ j. mul-le-mul-right (delta stts j) (omega arith))
+      sum-le (λ j. countedOf stts s j * delta stts j) (λ j. countedOf stts t j * delta stts j) (items stts) (λ j. mul-le-mul-right (delta stts j) (omega arith))
 
   -- and none past the track's length
   pub tick-within : (s : ℕ) → tickAt stts s ≤ mediaTicks stts
   unfolding ticksOf ticksTo
   tick-within s =
-      sum-le (λ j. countedOf stts s j * delta stts j) (λ j. counted stts j * delta stts j) (count stts) (λ j. mul-le-mul-right (delta stts j) (omega arith))
+      sum-le (λ j. countedOf stts s j * delta stts j) (λ j. counted stts j * delta stts j) (items stts) (λ j. mul-le-mul-right (delta stts j) (omega arith))
 
   -- with at most 65,536 samples that stays below 2^48
   pub media-fits : Bytes stts → timed stts ≤ 65536 → mediaTicks stts ≤ 65536 * 4294967295
   unfolding timedTo ticksTo
-  media-fits b few = omega (arith, few, sum-scaled (counted stts) (delta stts) 4294967295 (count stts) (λ k. word-most _ _ b))
+  media-fits b few = omega (arith, few, sum-scaled (counted stts) (delta stts) 4294967295 (items stts) (λ k. word-most _ _ b))

@@ -4,7 +4,7 @@ use native.Mathlib.Omega.{arith}
 use mathlib.Core.Path.{_≡_, refl, sym, ap, _∙_}
 use mathlib.Core.List.{List}
 use Rattle.wire.proofs.Tests.{lt-yea, lt-nay}
-use Rattle.sample_tables.specs.Tables.{count}
+use Rattle.sample_tables.specs.Tables.{items}
 use Rattle.sample_tables.specs.Times.{timedTo, timed, mediaTicks, tickAt}
 use Rattle.sample_tables.specs.Chunks.{firstSample, walkAt, stepOf}
 use Rattle.sample_tables.specs.Rules.{Six, Seven}
@@ -31,7 +31,7 @@ playable stts stsc stsz stco six s =
 
 module _ (stts stsc stco : List ℕ) (a : Playable stts stsc stco) where
   -- a walk that is one of the walks, with its clock not past the chunk
-  pub timed-is : (w : TimedWalk) (i k : ℕ) → w ≡ timedAt stts stsc i k → i ≤ count stts → timedTo stts i ≤ firstSample stsc k → (w .walk .chunk ≡ k) × (w .clock .item ≡ i) × Timed stts stsc w
+  pub timed-is : (w : TimedWalk) (i k : ℕ) → w ≡ timedAt stts stsc i k → i ≤ items stts → timedTo stts i ≤ firstSample stsc k → (w .walk .chunk ≡ k) × (w .clock .item ≡ i) × Timed stts stsc w
   timed-is w i k e h l =
       let c : w .walk .chunk ≡ k = walk-chunk stsc (w .walk) k (ap (λ (v : TimedWalk). v .walk) e) in
       let j : w .clock .item ≡ i = clock-item stts (w .clock) i (ap (λ (v : TimedWalk). v .clock) e) in
@@ -42,12 +42,12 @@ module _ (stts stsc stco : List ℕ) (a : Playable stts stsc stco) where
       timed-is w 0 0 (e ∙ rw (← walk-start stsc (a .walk .rising), ← clock-start stts)) (omega arith) (omega (arith, timed-none stts, first-none stsc))
 
   -- its chunk's first sample is one of the track's, or the end
-  pub first-timed : (k : ℕ) → k < count stco → firstSample stsc k ≤ timed stts
-  first-timed k h = omega (arith, a .total, first-mono stsc k (count stco) (omega arith))
+  pub first-timed : (k : ℕ) → k < items stco → firstSample stsc k ≤ timed stts
+  first-timed k h = omega (arith, a .total, first-mono stsc k (items stco) (omega arith))
 
   -- and past the last chunk the track has ended
-  pub tick-total : tickAt stts (firstSample stsc (count stco)) ≡ mediaTicks stts
-  tick-total = tick-end stts (firstSample stsc (count stco)) (omega (arith, a .total))
+  pub tick-total : tickAt stts (firstSample stsc (items stco)) ≡ mediaTicks stts
+  tick-total = tick-end stts (firstSample stsc (items stco)) (omega (arith, a .total))
 
   -- ---- a step of a walk
   module _ (w : TimedWalk) (h : Timed stts stsc w) where

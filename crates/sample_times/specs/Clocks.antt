@@ -22,9 +22,9 @@ unfoldable pub clockAt : List ℕ → ℕ → Clock
 clockAt stts i = record { item = i; sample = timedTo stts i; tick = ticksTo stts i }
 
 -- the tick at which sample s starts
-abbrev pub startOf : List ℕ → ℕ → MediaTicks
-startOf stts s = record { 0 = tickAt stts s }
+abbrev pub startTick : List ℕ → ℕ → MediaTicks
+startTick stts s = record { 0 = tickAt stts s }
 
 -- before item i, asked for sample s: it is behind where s lies past the item
 unfoldable pub turnOf : List ℕ → ℕ → ℕ → Turned
-turnOf stts i s = ifLt (timedTo stts (i + 1)) s (Behind (clockAt stts (i + 1))) (At (startOf stts s))
+turnOf stts i s = ifLt (timedTo stts (i + 1)) s (Behind (clockAt stts (i + 1))) (At (startTick stts s))

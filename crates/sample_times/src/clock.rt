@@ -3,7 +3,7 @@ use sample_tables::table;
 use sample_tables::time::MediaTicks;
 ghost use mathlib.Core.Path.{_≡_};
 ghost use Prim.Native.Nat.{_≤_};
-ghost use Rattle.sample_tables.specs.Tables.{count};
+ghost use Rattle.sample_tables.specs.Tables.{items};
 ghost use Rattle.sample_tables.specs.Times.{timedTo, timed};
 ghost use Rattle.sample_times.specs.Clocks.{clockStart, clockAt, turnOf, Clocked};
 
@@ -34,7 +34,7 @@ impl Clock {
 
     // Asks for a sample that isn't before the clock, by a constant number of reads.
     pub fn turn(self, stts: &[u8], sample: usize) -> Turned
-        requires { ⌜ Clocked (now stts) × (self ≡ clockAt (now stts) (self .item)) × (self .item ≤ count (now stts)) × (timedTo (now stts) (self .item) ≤ sample) × (sample ≤ timed (now stts)) ⌝ }
+        requires { ⌜ Clocked (now stts) × (self ≡ clockAt (now stts) (self .item)) × (self .item ≤ items (now stts)) × (timedTo (now stts) (self .item) ≤ sample) × (sample ≤ timed (now stts)) ⌝ }
         ensures { λ r. ⌜ r ≡ turnOf (now (stts .entry)) (self .item) sample ⌝ }
     {
         let item = self.item;

@@ -7,7 +7,7 @@ use sample_tables::chunk::ChunkWalk;
 use sample_tables::time::MediaTicks;
 ghost use mathlib.Core.Path.{_≡_};
 ghost use Prim.Native.Nat.{_<_};
-ghost use Rattle.sample_tables.specs.Tables.{count};
+ghost use Rattle.sample_tables.specs.Tables.{items};
 ghost use Rattle.sample_tables.specs.Times.{tickAt};
 ghost use Rattle.sample_tables.specs.Chunks.{firstSample};
 ghost use Rattle.sample_times.specs.Walks.{timedStart, timedStep, Timed, Playable};
@@ -55,7 +55,7 @@ impl TimedWalk {
 
 // The tick at which chunk k starts.
 pub fn chunk_tick(stts: &[u8], stsc: &[u8], stco: &[u8], k: usize) -> MediaTicks
-    requires { ⌜ Playable (now stts) (now stsc) (now stco) × (k < count (now stco)) ⌝ }
+    requires { ⌜ Playable (now stts) (now stsc) (now stco) × (k < items (now stco)) ⌝ }
     ensures { λ r. ⌜ r .0 ≡ tickAt (now (stts .entry)) (firstSample (now (stsc .entry)) k) ⌝ }
 {
     let mut walk = TimedWalk::start();

@@ -12,7 +12,7 @@ use Rattle.boxes.specs.Containers.{parent, kindIn}
 use Rattle.boxes.specs.Seek.{startIn}
 use Rattle.boxes.proofs.Reading.{All}
 use Rattle.boxes.proofs.Reading.All.{none, some}
-use Rattle.movie.specs.Movie.{movie as boxesOf, table}
+use Rattle.movie.specs.Movie.{movie as boxesOf, sampleTable}
 use Rattle.movie.specs.Entries as movie
 use Rattle.movie.specs.Named.{listIn, held, heldIn}
 use Rattle.movie.proofs.Counting.{length-after}
@@ -24,15 +24,15 @@ use Rattle.rule_lists.specs.Rules.{fiveRule}
 use Rattle.rule_lists.proofs.Forms.{form-is}
 use Rattle.judge.specs.Acceptance.{Meets}
 use Rattle.judge.proofs.Tables.{file-met}
-use Rattle.sheet.specs.Fits.{Fits}
+use Rattle.sheet.specs.Fits.{SheetFits}
 
 -- rule 5: a track has as many entries as its `stsd` says
-pub listed : {b : List ℕ} → Met fiveRule 4 TRAK b → Listed (table STSD b)
-unfolding table formIn needed kindIn parent ifEq
+pub listed : {b : List ℕ} → Met fiveRule 4 TRAK b → Listed (sampleTable STSD b)
+unfolding sampleTable formIn needed kindIn parent ifEq
 listed m = form-is _ (needed-leaf (in-stbl m) STSD refl refl)
 
 held-one : (c : ℕ) (b : List ℕ) → (c ≡ TRAK → Met fiveRule 4 TRAK b) → held c b ≡ entriesOf c b
-unfolding held entriesOf listIn table follow
+unfolding held entriesOf listIn sampleTable follow
 held-one c b m = eq-same c TRAK _ _ 0 (λ e. listed (m e) .counted)
 
 held-all : {l : List Box} → All (λ x. x .code ≡ TRAK → Met fiveRule 4 TRAK (x .body)) l → heldIn l ≡ entries l
@@ -40,7 +40,7 @@ unfolding heldIn entries
 held-all none = refl
 held-all (some {x} m a) = rw (held-one (x .code) (x .body) m, held-all a)
 
-pub accepted-fits : (xs : List ℕ) → Meets xs → Fits xs
+pub accepted-fits : (xs : List ℕ) → Meets xs → SheetFits xs
 unfolding movie.entries ifEq
 accepted-fits xs m =
     let f = file-met xs m fiveRule (m .five) in

@@ -10,7 +10,7 @@ use Rattle.wire.specs.Writing.{Put}
 use Rattle.wire.proofs.Writing.{pen-none, pen-then, pen-is}
 use Rattle.movie.specs.Entries.{Entry, entries}
 use Rattle.sheet.specs.Sheet.{slots, bodies, front, sheet, SLOTS, SLOT}
-use Rattle.sheet.specs.Fits.{Fits}
+use Rattle.sheet.specs.Fits.{SheetFits}
 use Rattle.sheet.specs.Reader.{sheetOf}
 
 -- ---- the loops
@@ -60,7 +60,7 @@ pub start-is : (n : ℕ) → n < 256 → bytes 1 1 ++ bytes 1 n ++ bytes 2 0 ≡
 unfolding bytes bytesOn
 start-is n h = let e : n % 256 ≡ n = omega arith in rw e
 
-pub sheet-put : (xs : List ℕ) → Fits xs → {n : ℕ} → n ≡ length (entries xs) → {out a b c d e after : List ℕ} {i j k l m r : ℕ} → Put (bytes 1 1) out 0 i a → Put (bytes 1 n) a i j b → Put (bytes 2 0) b j k c → Put (slots (take n (entries xs))) c k l d → Put (bytes (SLOT * (SLOTS - n)) 0) d l m e → Put (bodies (take n (entries xs))) e m r after → Put (sheetOf xs) out 0 r after
+pub sheet-put : (xs : List ℕ) → SheetFits xs → {n : ℕ} → n ≡ length (entries xs) → {out a b c d e after : List ℕ} {i j k l m r : ℕ} → Put (bytes 1 1) out 0 i a → Put (bytes 1 n) a i j b → Put (bytes 2 0) b j k c → Put (slots (take n (entries xs))) c k l d → Put (bytes (SLOT * (SLOTS - n)) 0) d l m e → Put (bodies (take n (entries xs))) e m r after → Put (sheetOf xs) out 0 r after
 unfolding sheetOf sheet front
 sheet-put xs f {n} g pa pb pc pd pe po =
     let t : take n (entries xs) ≡ entries xs = take-all n (entries xs) (omega arith) in

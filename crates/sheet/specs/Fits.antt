@@ -7,7 +7,7 @@ use Rattle.movie.specs.Movie.{tracks as tracksOf}
 use Rattle.movie.specs.Entries.{entries}
 use Rattle.sheet.specs.Sheet.{SLOTS}
 
-pub record Fits (xs : List ℕ) : Type 0 where
+pub record SheetFits (xs : List ℕ) : Type 0 where
   pub most : length xs ≤ LONGEST
   pub few : length (entries xs) ≤ SLOTS
   pub tracks : tracksOf xs ≤ 4

@@ -16,7 +16,7 @@ ghost use Rattle.rule.specs.Answers.{inRoom, outBy};
 ghost use Rattle.movie.specs.Entries.{entries};
 ghost use Rattle.movie.specs.Named.{entryAs};
 ghost use Rattle.sheet.specs.Sheet.{slot as slotText, slotOf, slots as slotsText, bodies as bodiesText};
-ghost use Rattle.sheet.specs.Fits.{Fits};
+ghost use Rattle.sheet.specs.Fits.{SheetFits};
 ghost use Rattle.sheet.specs.Reader.{sheetOf, sheetAnswer, sheetOut};
 
 // How many slots a sheet has, and how long each is.
@@ -57,7 +57,7 @@ fn put_slot_of(out: &mut [u8], at: usize, file: &[u8], e: EntryAt) -> usize
 
 // Writes the slot of entry i, where there is one.
 fn put_slot_at(out: &mut [u8], at: usize, file: &[u8], i: usize) -> usize
-    requires { ⌜ (at < 60000) × Fits (now file) ⌝ }
+    requires { ⌜ (at < 60000) × SheetFits (now file) ⌝ }
     ensures { λ r. ⌜ Put (slotsText (take 1 (drop i (entries (now (file .entry)))))) (now (out .entry)) at r (now (out .exit)) × (r ≤ at + 12) ⌝ }
 {
     match entry::entry(file, i) {
@@ -68,7 +68,7 @@ fn put_slot_at(out: &mut [u8], at: usize, file: &[u8], i: usize) -> usize
 
 // Writes the slots of the first n entries.
 fn put_slots(out: &mut [u8], from: usize, file: &[u8], n: usize) -> usize
-    requires { ⌜ (from + 12 * n < 60000) × Fits (now file) ⌝ }
+    requires { ⌜ (from + 12 * n < 60000) × SheetFits (now file) ⌝ }
     ensures { λ r. ⌜ Put (slotsText (take n (entries (now (file .entry))))) (now (out .entry)) from r (now (out .exit)) × (r ≤ from + 12 * n) ⌝ }
 {
     let mut at = from;
@@ -92,7 +92,7 @@ fn put_body_of(out: &mut [u8], at: usize, file: &[u8], e: EntryAt) -> usize
 
 // Writes entry i, where there is one.
 fn put_body_at(out: &mut [u8], at: usize, file: &[u8], i: usize) -> usize
-    requires { ⌜ (at < 2 ^ 62) × Fits (now file) ⌝ }
+    requires { ⌜ (at < 2 ^ 62) × SheetFits (now file) ⌝ }
     ensures { λ r. ⌜ Put (bodiesText (take 1 (drop i (entries (now (file .entry)))))) (now (out .entry)) at r (now (out .exit)) × (r ≤ at + LONGEST) ⌝ }
 {
     match entry::entry(file, i) {
@@ -103,7 +103,7 @@ fn put_body_at(out: &mut [u8], at: usize, file: &[u8], i: usize) -> usize
 
 // Writes the first n entries.
 fn put_bodies(out: &mut [u8], from: usize, file: &[u8], n: usize) -> usize
-    requires { ⌜ (from + LONGEST * n < 2 ^ 62) × Fits (now file) ⌝ }
+    requires { ⌜ (from + LONGEST * n < 2 ^ 62) × SheetFits (now file) ⌝ }
     ensures { λ r. ⌜ Put (bodiesText (take n (entries (now (file .entry))))) (now (out .entry)) from r (now (out .exit)) × (r ≤ from + LONGEST * n) ⌝ }
 {
     let mut at = from;
@@ -117,7 +117,7 @@ fn put_bodies(out: &mut [u8], from: usize, file: &[u8], n: usize) -> usize
 
 // Writes the sheet of a file.
 fn put_sheet(out: &mut [u8], file: &[u8]) -> usize
-    requires { ⌜ Fits (now file) ⌝ }
+    requires { ⌜ SheetFits (now file) ⌝ }
     ensures { λ r. ⌜ Put (sheetOf (now (file .entry))) (now (out .entry)) 0 r (now (out .exit)) ⌝ }
 {
     let n = entry::entries(file);
@@ -131,7 +131,7 @@ fn put_sheet(out: &mut [u8], file: &[u8]) -> usize
 
 // The same of an accepted file, where there is room for it.
 fn sheet_of(file: &[u8], out: &mut [u8]) -> Answer
-    requires { ⌜ Fits (now file) ⌝ }
+    requires { ⌜ SheetFits (now file) ⌝ }
     ensures { λ r. ⌜ (r ≡ inRoom (sheetOf (now (file .entry))) (now (out .entry))) × (now (out .exit) ≡ outBy (inRoom (sheetOf (now (file .entry))) (now (out .entry))) (sheetOf (now (file .entry))) (now (out .entry))) ⌝ }
 {
     let mut none = [0u8; 1];

@@ -21,7 +21,7 @@ use Rattle.rule.specs.Answers.{outBy}
 use Rattle.rule.proofs.Answers.{room-short, room-fits, out-kept, out-wrote, answered}
 use Rattle.sheet.specs.Sheet.{bodies}
 use Rattle.sheet_table.specs.Form.{read, unsheet, steps, formed}
-use Rattle.sheet_table.specs.Table.{own, table, ownAnswer, tableOf, tableAnswer, tableOut}
+use Rattle.sheet_table.specs.Table.{ownEntries, table, ownAnswer, trackTable, tableAnswer, tableOut}
 use Rattle.sheet_table.proofs.Opening.{Opened, opened}
 use Rattle.sheet_table.proofs.Tracks.{formed-steps, has-track, no-track}
 
@@ -65,10 +65,10 @@ module _ (k : ℕ) (s out : List ℕ) (t : ℕ) {f : ℕ} (e : f ≡ oneIf (form
   not-formed z = rw (was-nay (formed k s) f z e)
 
   pub answer-form : f ≡ 0 → (Refused 30 0 ≡ tableAnswer k s t out) × (out ≡ tableOut k s t out)
-  answer-form z = (not-formed z, out-kept (tableOf k s t) out (tableAnswer k s t out) (not-formed z))
+  answer-form z = (not-formed z, out-kept (trackTable k s t) out (tableAnswer k s t out) (not-formed z))
 
-  module _ (g : f ≡ 0 → ⊥) {n : ℕ} {xs ys : List ℕ} (o : Opened k s n xs ys) {count : ℕ} (c : count ≡ length (own t (read n xs ys))) where
-    few : count ≡ length (own t (unsheet k s))
+  module _ (g : f ≡ 0 → ⊥) {n : ℕ} {xs ys : List ℕ} (o : Opened k s n xs ys) {count : ℕ} (c : count ≡ length (ownEntries t (read n xs ys))) where
+    few : count ≡ length (ownEntries t (unsheet k s))
     few = c ∙ rw (opened o)
 
     stepped : steps 0 (unsheet k s) ≡ true
@@ -79,10 +79,10 @@ module _ (k : ℕ) (s out : List ℕ) (t : ℕ) {f : ℕ} (e : f ≡ oneIf (form
     none-there z = rw (was-yea (formed k s) f g e, ← no-track t (unsheet k s) stepped (sym few ∙ z))
 
     pub answer-track : count ≡ 0 → (Refused 20 0 ≡ tableAnswer k s t out) × (out ≡ tableOut k s t out)
-    answer-track z = (none-there z, out-kept (tableOf k s t) out (tableAnswer k s t out) (none-there z))
+    answer-track z = (none-there z, out-kept (trackTable k s t) out (tableAnswer k s t out) (none-there z))
 
-    pub answer-own : (count ≡ 0 → ⊥) → {r : Answer} {end : List ℕ} → (r ≡ ownAnswer (own t (read n xs ys)) out) × (end ≡ outBy r (table (own t (read n xs ys))) out) → (r ≡ tableAnswer k s t out) × (end ≡ tableOut k s t out)
-    unfolding tableAnswer tableOf
+    pub answer-own : (count ≡ 0 → ⊥) → {r : Answer} {end : List ℕ} → (r ≡ ownAnswer (ownEntries t (read n xs ys)) out) × (end ≡ outBy r (table (ownEntries t (read n xs ys))) out) → (r ≡ tableAnswer k s t out) × (end ≡ tableOut k s t out)
+    unfolding tableAnswer trackTable
     answer-own h (p, q) =
         rw (was-yea (formed k s) f g e, ← has-track t (unsheet k s) stepped (omega (arith, few)))
-        (answered (table (own t (unsheet k s))) out (rw (opened o) at p) (rw (opened o) at q))
+        (answered (table (ownEntries t (unsheet k s))) out (rw (opened o) at p) (rw (opened o) at q))

@@ -12,7 +12,7 @@ use Rattle.wire.proofs.Writing.{pen-none, pen-then, pen-is}
 use Rattle.movie.specs.Entries.{Entry}
 use Rattle.sheet.specs.Sheet.{bodies}
 use Rattle.sheet_table.specs.Form.{firstOf, read}
-use Rattle.sheet_table.specs.Table.{own}
+use Rattle.sheet_table.specs.Table.{ownEntries}
 use Rattle.sheet_table.proofs.Reading.{Past, read-none, read-more}
 
 if-length : (a t : ℕ) (e : Entry) (es : List Entry) → length (ifEq a t (e ∷ es) es) ≡ ifEq a t 1 0 + length es
@@ -30,23 +30,23 @@ one-most a t = eq-any (λ n. n ≤ 1) a t 1 0 (omega arith) (omega arith)
 
 -- ---- how many
 
-pub count-none : (t n : ℕ) (xs ys : List ℕ) → n ≡ 0 → 0 ≡ length (own t (read n xs ys))
-unfolding own
+pub count-none : (t n : ℕ) (xs ys : List ℕ) → n ≡ 0 → 0 ≡ length (ownEntries t (read n xs ys))
+unfolding ownEntries
 count-none t n xs ys e = rw (read-none n xs ys e)
 
 module _ (t : ℕ) {n : ℕ} {xs ys rest past : List ℕ} (h : n ≡ 0 → ⊥) (p : Past xs ys rest past) where
-  pub count-more : {a o r : ℕ} → a ≡ getD xs 1 0 → o ≡ ifEq a t 1 0 → r ≡ length (own t (read (n - 1) rest past)) → o + r ≡ length (own t (read n xs ys))
-  unfolding own
+  pub count-more : {a o r : ℕ} → a ≡ getD xs 1 0 → o ≡ ifEq a t 1 0 → r ≡ length (ownEntries t (read (n - 1) rest past)) → o + r ≡ length (ownEntries t (read n xs ys))
+  unfolding ownEntries
   count-more e f g = rw (f, e, g, read-more h p) (sym (if-length (getD xs 1 0) t (firstOf xs ys) _))
 
   -- ---- their bodies
 
-  pub own-more : {a : ℕ} {first out mid after : List ℕ} {at m r : ℕ} → a ≡ getD xs 1 0 → first ≡ take (word 4 xs 8) ys → Put (ifEq a t first []) out at m mid → Put (bodies (own t (read (n - 1) rest past))) mid m r after → Put (bodies (own t (read n xs ys))) out at r after
-  unfolding own
+  pub own-more : {a : ℕ} {first out mid after : List ℕ} {at m r : ℕ} → a ≡ getD xs 1 0 → first ≡ take (word 4 xs 8) ys → Put (ifEq a t first []) out at m mid → Put (bodies (ownEntries t (read (n - 1) rest past))) mid m r after → Put (bodies (ownEntries t (read n xs ys))) out at r after
+  unfolding ownEntries
   own-more e f a b = rw (read-more h p) (pen-is (rw (e, f) (sym (if-bodies (getD xs 1 0) t (firstOf xs ys) _))) (pen-then a b))
 
-pub own-none : (t n : ℕ) (xs ys out : List ℕ) (at : ℕ) → n ≡ 0 → Put (bodies (own t (read n xs ys))) out at at out
-unfolding own bodies
+pub own-none : (t n : ℕ) (xs ys out : List ℕ) (at : ℕ) → n ≡ 0 → Put (bodies (ownEntries t (read n xs ys))) out at at out
+unfolding ownEntries bodies
 own-none t n xs ys out at e = rw (read-none n xs ys e) (pen-none out at)
 
 -- ---- one body

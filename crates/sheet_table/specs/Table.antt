@@ -16,9 +16,9 @@ use Rattle.sheet.specs.Sheet.{bodies}
 use Rattle.sheet_table.specs.Form.{unsheet, formed}
 
 -- the entries of track t
-unfoldable pub own : ℕ → List Entry → List Entry
-own t [] = []
-own t (e ∷ es) = ifEq (e .track) t (e ∷ own t es) (own t es)
+unfoldable pub ownEntries : ℕ → List Entry → List Entry
+ownEntries t [] = []
+ownEntries t (e ∷ es) = ifEq (e .track) t (e ∷ ownEntries t es) (ownEntries t es)
 
 -- "the sheet's highest" track
 unfoldable pub highest : List Entry → ℕ
@@ -33,8 +33,8 @@ hasTrack t es = every (isLe 1 t ∷ isLe t (highest es) ∷ [])
 unfoldable pub table : List Entry → List ℕ
 table es = bytes 4 (16 + length (bodies es)) ++ bytes 4 STSD ++ bytes 4 0 ++ bytes 4 (length es) ++ bodies es
 
-unfoldable pub tableOf : ℕ → List ℕ → ℕ → List ℕ
-tableOf k xs t = table (own t (unsheet k xs))
+unfoldable pub trackTable : ℕ → List ℕ → ℕ → List ℕ
+trackTable k xs t = table (ownEntries t (unsheet k xs))
 
 -- 24, 25, of the entries of one track
 unfoldable pub ownAnswer : List Entry → List ℕ → Answer
@@ -44,8 +44,8 @@ ownAnswer es out = ifLt LONGEST (length (table es)) (Refused 24 0) (inRoom (tabl
 unfoldable pub tableAnswer : ℕ → List ℕ → ℕ → List ℕ → Answer
 tableAnswer k xs t out =
     pick (formed k xs)
-    (pick (hasTrack t (unsheet k xs)) (ownAnswer (own t (unsheet k xs)) out) (Refused 20 0))
+    (pick (hasTrack t (unsheet k xs)) (ownAnswer (ownEntries t (unsheet k xs)) out) (Refused 20 0))
     (Refused 30 0)
 
 abbrev pub tableOut : ℕ → List ℕ → ℕ → List ℕ → List ℕ
-tableOut k xs t out = outBy (tableAnswer k xs t out) (tableOf k xs t) out
+tableOut k xs t out = outBy (tableAnswer k xs t out) (trackTable k xs t) out

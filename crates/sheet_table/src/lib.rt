@@ -14,14 +14,14 @@ ghost use Rattle.wire.specs.Writing.{Put};
 ghost use Rattle.rule.specs.Answers.{outBy};
 ghost use Rattle.sheet.specs.Sheet.{SLOTS, bodies as bodiesText};
 ghost use Rattle.sheet_table.specs.Form.{read};
-ghost use Rattle.sheet_table.specs.Table.{own, table as tableText, ownAnswer, tableAnswer, tableOut};
+ghost use Rattle.sheet_table.specs.Table.{ownEntries, table as tableText, ownAnswer, tableAnswer, tableOut};
 
 pub mod form;
 pub mod slots;
 
 // How many of n slots are of a track.
 fn count_own(slots: &[u8], bodies: &[u8], n: usize, track: usize) -> usize
-    ensures { λ r. ⌜ (r ≡ length (own track (read n (now (slots .entry)) (now (bodies .entry))))) × (r ≤ n) ⌝ }
+    ensures { λ r. ⌜ (r ≡ length (ownEntries track (read n (now (slots .entry)) (now (bodies .entry))))) × (r ≤ n) ⌝ }
 {
     if n == 0 {
         return 0;
@@ -50,7 +50,7 @@ fn put_if(out: &mut [u8], at: usize, of: usize, track: usize, body: &[u8]) -> us
 // Writes the bodies of a track, of n slots.
 fn put_own(out: &mut [u8], at: usize, slots: &[u8], bodies: &[u8], n: usize, track: usize) -> usize
     requires { ⌜ at + length (now bodies) < 2 ^ 63 ⌝ }
-    ensures { λ r. ⌜ Put (bodiesText (own track (read n (now (slots .entry)) (now (bodies .entry))))) (now (out .entry)) at r (now (out .exit)) × (r ≤ at + length (now (bodies .entry))) ⌝ }
+    ensures { λ r. ⌜ Put (bodiesText (ownEntries track (read n (now (slots .entry)) (now (bodies .entry))))) (now (out .entry)) at r (now (out .exit)) × (r ≤ at + length (now (bodies .entry))) ⌝ }
 {
     if n == 0 {
         return at;
@@ -82,8 +82,8 @@ fn put_table(
     count: usize,
     size: usize,
 ) -> usize
-    requires { ⌜ (16 + length (now bodies) < 2 ^ 63) × (size < 2 ^ 63) × (count ≡ length (own track (read n (now slots) (now bodies)))) × (size ≡ length (bodiesText (own track (read n (now slots) (now bodies))))) ⌝ }
-    ensures { λ r. ⌜ Put (tableText (own track (read n (now (slots .entry)) (now (bodies .entry))))) (now (out .entry)) 0 r (now (out .exit)) ⌝ }
+    requires { ⌜ (16 + length (now bodies) < 2 ^ 63) × (size < 2 ^ 63) × (count ≡ length (ownEntries track (read n (now slots) (now bodies)))) × (size ≡ length (bodiesText (ownEntries track (read n (now slots) (now bodies))))) ⌝ }
+    ensures { λ r. ⌜ Put (tableText (ownEntries track (read n (now (slots .entry)) (now (bodies .entry))))) (now (out .entry)) 0 r (now (out .exit)) ⌝ }
 {
     let a = pen::put_number(out, 0, 4, 16 + size);
     let b = pen::put_number(out, a, 4, codes::STSD);
@@ -101,8 +101,8 @@ fn write_own(
     count: usize,
     out: &mut [u8],
 ) -> Answer
-    requires { ⌜ (16 + length (now bodies) < 2 ^ 63) × (count ≡ length (own track (read n (now slots) (now bodies)))) ⌝ }
-    ensures { λ r. ⌜ (r ≡ ownAnswer (own track (read n (now (slots .entry)) (now (bodies .entry)))) (now (out .entry))) × (now (out .exit) ≡ outBy r (tableText (own track (read n (now (slots .entry)) (now (bodies .entry))))) (now (out .entry))) ⌝ }
+    requires { ⌜ (16 + length (now bodies) < 2 ^ 63) × (count ≡ length (ownEntries track (read n (now slots) (now bodies)))) ⌝ }
+    ensures { λ r. ⌜ (r ≡ ownAnswer (ownEntries track (read n (now (slots .entry)) (now (bodies .entry)))) (now (out .entry))) × (now (out .exit) ≡ outBy r (tableText (ownEntries track (read n (now (slots .entry)) (now (bodies .entry))))) (now (out .entry))) ⌝ }
 {
     let mut none = [0u8; 1];
     let size = put_own(&mut none, 0, slots, bodies, n, track);

@@ -11,7 +11,7 @@ use sample_tables::table;
 use sample_tables::time;
 use wire::number;
 ghost use Prim.Native.Nat.{_+_, _≤_};
-ghost use Rattle.sample_tables.specs.Tables.{Table, count};
+ghost use Rattle.sample_tables.specs.Tables.{Table, items};
 ghost use Rattle.sample_tables.specs.Chunks.{Walkable, samplesOver};
 
 fn forms(stts: &[u8], stsc: &[u8], stsz: &[u8], stco: &[u8]) {
@@ -51,7 +51,7 @@ fn say_chunk(stts: &[u8], stsz: &[u8], found: Chunk)
 }
 
 fn chunks(stts: &[u8], stsc: &[u8], stsz: &[u8], stco: &[u8])
-    requires { ⌜ Table 8 (now stts) × Walkable (now stsc) (now stco) × (samplesOver (now stsc) (count (now stco)) ≤ 65536) ⌝ }
+    requires { ⌜ Table 8 (now stts) × Walkable (now stsc) (now stco) × (samplesOver (now stsc) (items (now stco)) ≤ 65536) ⌝ }
 {
     let mut walk = ChunkWalk::start();
     loop {

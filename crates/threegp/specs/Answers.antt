@@ -3,7 +3,7 @@ use Prim.Native.Nat.{ℕ, _+_, _*_, _%_}
 use mathlib.Core.List.{List, [], _∷_}
 use Rattle.rule.specs.declared.Answer.{Answer}
 use Rattle.rule.specs.declared.Answer.the-variants as answer
-use Rattle.rule.specs.Answers.{number, value, inRoom, outBy}
+use Rattle.rule.specs.Answers.{answerNumber, answerValue, inRoom, outBy}
 use Rattle.judge.specs.declared.Judgement.{Judgement}
 use Rattle.judge.specs.Judgement as judgement
 use Rattle.newer.specs.declared.Outcome.{Outcome}
@@ -14,10 +14,10 @@ unfoldable pub pair : ℕ → ℕ → ℕ
 pair n v = n % 4294967296 * 4294967296 + v % 4294967296
 
 abbrev pub packed : Answer → ℕ
-packed a = pair (number a) (value a)
+packed a = pair (answerNumber a) (answerValue a)
 
 abbrev pub judgeAnswer : Judgement → ℕ
-judgeAnswer j = pair (judgement.number j) (judgement.place j)
+judgeAnswer j = pair (judgement.judgedNumber j) (judgement.judgedPlace j)
 
 -- ---- the newer of two, as four numbers
 

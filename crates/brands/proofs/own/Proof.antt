@@ -1,5 +1,5 @@
 use borrow.Author.Needs.{needs}
-use Rattle.brands.specs.Brands.{own}
+use Rattle.brands.specs.Brands.{ownConditions}
 use Rattle.rule_tracks.proofs.Answers.{answer-yea, answer-nay}
 use Rattle.wire.proofs.Clauses.{nay}
 use mathlib.Core.Path.{refl}
@@ -8,7 +8,7 @@ use Rattle.brands.proofs.own.Statement.{statement}
 use Rattle.brands.proofs.own.Tie as tie
 
 pub own-spec : {M : Type 1} → statement M
-unfolding own
+unfolding ownConditions
 own-spec = tie.close (tie.spec
     (λ c κs. search needs)
     (λ c. answer-yea _ _ _ _ (omega arith) (c .early .ensures))

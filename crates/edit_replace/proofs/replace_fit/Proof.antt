@@ -11,7 +11,7 @@ use Rattle.edit_replace.proofs.replace_fit.Tie as tie
 pub replace-fit-spec : {M : Type 1} → statement M
 replace-fit-spec = tie.close (tie.spec
     (λ c κs. c .before .before .before .pre .0 .most)
-    (λ c. (settled-23 _ _ _ (c .before .plain .ensures) (c .if1 .taken), out-kept _ _ _ refl))
+    (λ c. (settled-23 _ _ _ (c .before .editable .ensures) (c .if1 .taken), out-kept _ _ _ refl))
     (λ c κs. search needs)
     (λ c. let s = c .before .before .before .before .before .before .pre in record-first _ _ _ _ _ (s .1) (s .2))
     (λ c κs. search needs)
@@ -22,7 +22,7 @@ replace-fit-spec = tie.close (tie.spec
     (λ c. search needs)
     (λ c. search needs)
     (λ c. let z = c .before .before .before .before in let t = z .before .before in let f = t .before .before in let s = f .before .before .before .before .before .before .before in
-    resettled _ _ _ (f .before .before .before .plain .ensures) (omega arith)
+    resettled _ _ _ (f .before .before .before .editable .ensures) (omega arith)
     (spot-replaced _ _ _ (f .before .payload .ensures) _ (f .find-spot .ensures .0) (f .find-spot .ensures .1) _ _ (t .t .given .1) (s .pre .1) (z .size .ensures)) (c .before .before .replace-at .ensures .0) (c .before .before .replace-at .ensures .1))
     (λ c. let f = c .before .before in let s = f .before .before .before .before .before .before .before in
     absurd (spot-none _ _ _ (f .before .payload .ensures) _ (f .find-spot .ensures .0) (f .find-spot .ensures .1) (c .enum-told .given .1) (s .pre .1) (s .pre .2))))

@@ -1,6 +1,6 @@
 use borrow.Author.Needs.{needs}
 use Rattle.rule_tracks.proofs.Answers.{answer-yea, answer-nay}
-use Rattle.rule_tracks.specs.Six.{tableOf}
+use Rattle.rule_tracks.specs.Six.{tableFine}
 use Rattle.wire.proofs.Clauses.{yea}
 use mathlib.Core.Path.{refl}
 use native.Mathlib.Omega.{arith}
@@ -8,7 +8,7 @@ use Rattle.rule_tracks.proofs.table_of.Statement.{statement}
 use Rattle.rule_tracks.proofs.table_of.Tie as tie
 
 pub table-of-spec : {M : Type 1} → statement M
-unfolding tableOf
+unfolding tableFine
 table-of-spec = tie.close (tie.spec
     (λ c κs. search needs)
     (λ c. answer-yea _ _ _ _ (omega arith) (c .table-form .ensures))

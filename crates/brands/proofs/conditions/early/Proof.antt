@@ -12,4 +12,4 @@ early-spec = tie.close (tie.spec
     (λ c κs. search needs)
     (λ c. nay _ (fails 0 _ (was-nay _ _ (c .if1 .taken) (c .before .few .ensures))))
     (λ c κs. search needs)
-    (λ c. c .all-plain .ensures ∙ ap oneIf (holds _ _ (was-yea _ _ (c .before .if1 .left) (c .before .before .few .ensures)) (decides _))))
+    (λ c. c .no-avc1-in .ensures ∙ ap oneIf (holds _ _ (was-yea _ _ (c .before .if1 .left) (c .before .before .few .ensures)) (decides _))))

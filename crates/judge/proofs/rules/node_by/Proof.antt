@@ -26,5 +26,5 @@ node-by-spec = tie.close (tie.spec
     (λ c. eq-nay _ _ _ _ _ (omega arith) (eq-nay _ _ _ _ _ (omega arith) (eq-nay _ _ _ _ _ (omega arith) (eq-nay _ _ _ _ _ (omega arith) (eq-nay _ _ _ _ _ (omega arith) (eq-yea _ _ _ _ _ (omega arith) (c .ten-at .ensures)))))))
     (λ c κs. search needs)
     (λ c κs. search needs)
-    (λ c. eq-nay _ _ _ _ _ (omega arith) (eq-nay _ _ _ _ _ (omega arith) (eq-nay _ _ _ _ _ (omega arith) (eq-nay _ _ _ _ _ (omega arith) (eq-nay _ _ _ _ _ (omega arith) (eq-nay _ _ _ _ _ (omega arith) (eq-yea _ _ _ _ _ (omega arith) (unless-is _ _ (c .before .plain-of .ensures) (c .unless3 .ensures)))))))))
+    (λ c. eq-nay _ _ _ _ _ (omega arith) (eq-nay _ _ _ _ _ (omega arith) (eq-nay _ _ _ _ _ (omega arith) (eq-nay _ _ _ _ _ (omega arith) (eq-nay _ _ _ _ _ (omega arith) (eq-nay _ _ _ _ _ (omega arith) (eq-yea _ _ _ _ _ (omega arith) (unless-is _ _ (c .before .editable-of .ensures) (c .unless3 .ensures)))))))))
     (λ c. eq-nay _ _ _ _ _ (c .before .before .before .before .before .before .if1 .left) (eq-nay _ _ _ _ _ (c .before .before .before .before .before .if2 .left) (eq-nay _ _ _ _ _ (c .before .before .before .before .if3 .left) (eq-nay _ _ _ _ _ (c .before .before .before .if4 .left) (eq-nay _ _ _ _ _ (c .before .before .if5 .left) (eq-nay _ _ _ _ _ (c .before .if6 .left) (eq-nay _ _ _ _ _ (c .if7 .left) refl))))))))

@@ -7,7 +7,7 @@ use Rattle.mdat.specs.Rules.{chunksIn}
 use Rattle.sample_tables.proofs.Chunks.{walk-start, walk-is, walk-chunk}
 use Rattle.sample_tables.proofs.Steps.{found-is, end-is}
 use Rattle.sample_tables.specs.Chunks.{walkAt}
-use Rattle.sample_tables.specs.Tables.{count}
+use Rattle.sample_tables.specs.Tables.{items}
 use Rattle.wire.proofs.Clauses.{yea, nay, was-yea, was-nay}
 use mathlib.Core.Bool.{true}
 use mathlib.Core.Path.{_≡_, sym, ap, _∙_}
@@ -16,10 +16,10 @@ use Rattle.mdat.proofs.chunks.eight.Statement.{statement}
 use Rattle.mdat.proofs.chunks.eight.Tie as tie
 
 abbrev Inv : tie.InvT-loop
-Inv file stsc stsz stco walk₀ walk = (walk ≡ walkAt stsc (walk .chunk)) × (walk .chunk ≤ count stco) × (chunksIn (boxes file) stsc stsz stco (walk .chunk) ≡ true)
+Inv file stsc stsz stco walk₀ walk = (walk ≡ walkAt stsc (walk .chunk)) × (walk .chunk ≤ items stco) × (chunksIn (boxes file) stsc stsz stco (walk .chunk) ≡ true)
 
 abbrev μ : tie.MeasureT-loop
-μ file stsc stsz stco walk₀ walk = count stco - walk .chunk
+μ file stsc stsz stco walk₀ walk = items stco - walk .chunk
 
 pub eight-spec : {M : Type 1} → statement M
 eight-spec = tie.close (tie.spec Inv μ

@@ -3,7 +3,7 @@ use borrow.Author.Needs.{needs}
 use Prim.Native.Nat.{_-_, _≤_}
 use Rattle.read_tracks.proofs.Reading.{offsets-none, offsets-more, offsets-all}
 use Rattle.read_tracks.specs.Reads.{offsetsTo}
-use Rattle.sample_tables.specs.Tables.{count}
+use Rattle.sample_tables.specs.Tables.{items}
 use lib.ListN.{length, drop, length-set}
 use mathlib.Core.List.{_++_}
 use mathlib.Core.Path.{_≡_}
@@ -12,7 +12,7 @@ use Rattle.read_tracks.proofs.numbers.put_offsets.Statement.{statement}
 use Rattle.read_tracks.proofs.numbers.put_offsets.Tie as tie
 
 abbrev Inv : tie.InvT-loop
-Inv stco list₀ n i₀ list i = (n ≡ count stco) × (i ≤ n) × (n ≤ length list₀) × (length list ≡ length list₀) × (list ≡ offsetsTo stco i ++ drop i list₀)
+Inv stco list₀ n i₀ list i = (n ≡ items stco) × (i ≤ n) × (n ≤ length list₀) × (length list ≡ length list₀) × (list ≡ offsetsTo stco i ++ drop i list₀)
 
 abbrev μ : tie.MeasureT-loop
 μ stco list₀ n i₀ list i = n - i

@@ -1,13 +1,13 @@
 use borrow.Author.Needs.{needs}
 use Rattle.wire.proofs.Clauses.{is-eq, not-eq, is-le, not-le, fails, done, holds, yea, nay, was-yea, was-nay}
 use Rattle.sample_tables.proofs.Rules.{walkable}
-use Rattle.sample_tables.specs.Rules.{seven}
+use Rattle.sample_tables.specs.Rules.{tablesAgree}
 use native.Mathlib.Omega.{arith}
 use Rattle.sample_tables.proofs.agree.seven.Statement.{statement}
 use Rattle.sample_tables.proofs.agree.seven.Tie as tie
 
 pub seven-spec : {M : Type 1} → statement M
-unfolding seven
+unfolding tablesAgree
 seven-spec = tie.close (tie.spec
     (λ c κs. search needs)
     (λ c κs. search needs)

@@ -4,17 +4,17 @@ use Prim.Native.Nat.{_-_, _≤_}
 use Rattle.sample_tables.proofs.Chunks.{walk-start, walk-is, walk-chunk, walk-sample}
 use Rattle.sample_tables.proofs.Steps.{found-is, end-is}
 use Rattle.sample_tables.specs.Chunks.{firstSample, walkAt}
-use Rattle.sample_tables.specs.Tables.{count}
+use Rattle.sample_tables.specs.Tables.{items}
 use mathlib.Core.Path.{_≡_, sym, ap, _∙_}
 use native.Mathlib.Omega.{arith}
 use Rattle.sample_tables.proofs.chunk.samples_over.Statement.{statement}
 use Rattle.sample_tables.proofs.chunk.samples_over.Tie as tie
 
 abbrev Inv : tie.InvT-loop
-Inv stsc stco walk₀ walk = (walk ≡ walkAt stsc (walk .chunk)) × (walk .chunk ≤ count stco)
+Inv stsc stco walk₀ walk = (walk ≡ walkAt stsc (walk .chunk)) × (walk .chunk ≤ items stco)
 
 abbrev μ : tie.MeasureT-loop
-μ stsc stco walk₀ walk = count stco - walk .chunk
+μ stsc stco walk₀ walk = items stco - walk .chunk
 
 pub samples-over-spec : {M : Type 1} → statement M
 samples-over-spec = tie.close (tie.spec Inv μ

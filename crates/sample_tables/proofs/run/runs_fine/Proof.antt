@@ -4,7 +4,7 @@ use Prim.Native.Nat.{_-_, _≤_}
 use Rattle.wire.proofs.Clauses.{yea, nay, was-yea, was-nay}
 use Rattle.sample_tables.proofs.Runs.{runs-none, runs-more, runs-fail}
 use Rattle.sample_tables.specs.Runs.{runsFine}
-use Rattle.sample_tables.specs.Tables.{count}
+use Rattle.sample_tables.specs.Tables.{items}
 use mathlib.Core.Bool.{true}
 use mathlib.Core.Path.{_≡_, sym}
 use native.Mathlib.Omega.{arith}
@@ -12,7 +12,7 @@ use Rattle.sample_tables.proofs.run.runs_fine.Statement.{statement}
 use Rattle.sample_tables.proofs.run.runs_fine.Tie as tie
 
 abbrev Inv : tie.InvT-loop
-Inv stsc chunks entries n i₀ i = (n ≡ count stsc) × (i ≤ n) × (runsFine stsc chunks entries i ≡ true)
+Inv stsc chunks entries n i₀ i = (n ≡ items stsc) × (i ≤ n) × (runsFine stsc chunks entries i ≡ true)
 
 abbrev μ : tie.MeasureT-loop
 μ stsc chunks entries n i₀ i = n - i
@@ -26,5 +26,5 @@ runs-fine-spec = tie.close (tie.spec Inv μ
     (λ c. search needs)
     (λ c. search needs)
     (λ c. (search needs, search needs, runs-more _ _ _ _ (c .before .before .before .loop .inv .2) (was-yea _ _ (c .if1 .left) (c .before .run-fine .ensures))))
-    (λ c. let e : c .before .loop .i ≡ count (c .before .before .before .before .args .stsc .now) = omega arith in
+    (λ c. let e : c .before .loop .i ≡ items (c .before .before .before .before .args .stsc .now) = omega arith in
     yea _ (rw e at (sym (c .before .loop .inv .2)))))

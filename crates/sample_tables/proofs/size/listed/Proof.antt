@@ -1,5 +1,5 @@
 use borrow.Author.Needs.{needs}
-use Rattle.sample_tables.specs.Sizes.{listed}
+use Rattle.sample_tables.specs.Sizes.{sizesListed}
 use Rattle.wire.proofs.Tests.{eq-yea, eq-nay}
 use mathlib.Core.Path.{refl}
 use native.Mathlib.Omega.{arith}
@@ -7,7 +7,7 @@ use Rattle.sample_tables.proofs.size.listed.Statement.{statement}
 use Rattle.sample_tables.proofs.size.listed.Tie as tie
 
 pub listed-spec : {M : Type 1} → statement M
-unfolding listed
+unfolding sizesListed
 listed-spec = tie.close (tie.spec
     (λ c κs. search needs)
     (λ c κs. search needs)

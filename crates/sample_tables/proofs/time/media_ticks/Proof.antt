@@ -2,7 +2,7 @@
 use borrow.Author.Needs.{needs}
 use Prim.Native.Nat.{_-_, _≤_}
 use Rattle.sample_tables.proofs.Times.{ticks-none, ticks-more, ticks-fit}
-use Rattle.sample_tables.specs.Tables.{count}
+use Rattle.sample_tables.specs.Tables.{items}
 use Rattle.sample_tables.specs.Times.{ticksTo}
 use mathlib.Core.Path.{_≡_}
 use native.Mathlib.Omega.{arith}
@@ -10,7 +10,7 @@ use Rattle.sample_tables.proofs.time.media_ticks.Statement.{statement}
 use Rattle.sample_tables.proofs.time.media_ticks.Tie as tie
 
 abbrev Inv : tie.InvT-loop
-Inv stts n i₀ sum₀ i sum = (n ≡ count stts) × (i ≤ n) × (sum ≡ ticksTo stts i)
+Inv stts n i₀ sum₀ i sum = (n ≡ items stts) × (i ≤ n) × (sum ≡ ticksTo stts i)
 
 abbrev μ : tie.MeasureT-loop
 μ stts n i₀ sum₀ i sum = n - i

@@ -2,7 +2,7 @@
 use borrow.Author.Needs.{needs}
 use Prim.Native.Nat.{_+_, _*_, _-_, _≤_}
 use Rattle.sample_tables.proofs.Times.{left-none, left-more, tick-none, tick-more, tick-most}
-use Rattle.sample_tables.specs.Tables.{count}
+use Rattle.sample_tables.specs.Tables.{items}
 use Rattle.sample_tables.specs.Times.{timedTo, ticksOf}
 use mathlib.Core.Path.{_≡_}
 use native.Mathlib.Omega.{arith}
@@ -10,7 +10,7 @@ use Rattle.sample_tables.proofs.time.tick_at.Statement.{statement}
 use Rattle.sample_tables.proofs.time.tick_at.Tie as tie
 
 abbrev Inv : tie.InvT-loop
-Inv stts sample n i₀ left₀ sum₀ i left sum = (n ≡ count stts) × (i ≤ n) × (left ≡ sample - timedTo stts i) × (sum ≡ ticksOf stts sample i) × (sum + left * 4294967295 ≤ sample * 4294967295)
+Inv stts sample n i₀ left₀ sum₀ i left sum = (n ≡ items stts) × (i ≤ n) × (left ≡ sample - timedTo stts i) × (sum ≡ ticksOf stts sample i) × (sum + left * 4294967295 ≤ sample * 4294967295)
 
 abbrev μ : tie.MeasureT-loop
 μ stts sample n i₀ left₀ sum₀ i left sum = n - i

@@ -1,7 +1,7 @@
 -- The invariant: the walk stands before a chunk that isn't past k. A step leaves fewer chunks or fewer items.
 use borrow.Author.Needs.{needs}
 use Prim.Native.Nat.{_+_, _-_, _≤_}
-use Rattle.sample_tables.specs.Tables.{count}
+use Rattle.sample_tables.specs.Tables.{items}
 use Rattle.sample_times.specs.Walks.{Timed}
 use Rattle.sample_times.proofs.Walks.{start-is}
 use Rattle.sample_times.proofs.Steps.{sounded, ticked, ended, tick-of}
@@ -14,7 +14,7 @@ abbrev Inv : tie.InvT-loop
 Inv stts stsc stco k walk₀ walk = Timed stts stsc walk × (walk .walk .chunk ≤ k)
 
 abbrev μ : tie.MeasureT-loop
-μ stts stsc stco k walk₀ walk = (count stco - walk .walk .chunk) + (count stts - walk .clock .item)
+μ stts stsc stco k walk₀ walk = (items stco - walk .walk .chunk) + (items stts - walk .clock .item)
 
 pub chunk-tick-spec : {M : Type 1} → statement M
 chunk-tick-spec = tie.close (tie.spec Inv μ

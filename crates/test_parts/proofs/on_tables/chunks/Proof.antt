@@ -7,21 +7,21 @@ use native.Mathlib.Omega.{arith}
 use Rattle.sample_tables.proofs.Chunks.{walk-start, walk-is, walk-chunk, first-more, first-mono}
 use Rattle.sample_tables.proofs.Steps.{found-is}
 use Rattle.sample_tables.specs.Chunks.{walkAt, chunkAt, samplesOver}
-use Rattle.sample_tables.specs.Tables.{count}
+use Rattle.sample_tables.specs.Tables.{items}
 use Rattle.sample_tables.specs.declared.chunk.Chunk.{Chunk}
 use Rattle.test_parts.proofs.on_tables.chunks.Statement.{statement}
 use Rattle.test_parts.proofs.on_tables.chunks.Tie as tie
 
 abbrev Inv : tie.InvT-loop
-Inv stts stsc stsz stco walk₀ walk = (walk ≡ walkAt stsc (walk .chunk)) × (walk .chunk ≤ count stco)
+Inv stts stsc stsz stco walk₀ walk = (walk ≡ walkAt stsc (walk .chunk)) × (walk .chunk ≤ items stco)
 
 abbrev μ : tie.MeasureT-loop
-μ stts stsc stsz stco walk₀ walk = count stco - walk .chunk
+μ stts stsc stsz stco walk₀ walk = items stco - walk .chunk
 
 -- a chunk's samples are among those of all chunks
-few : (stsc stco : List ℕ) (k : ℕ) (found : Chunk) → found ≡ chunkAt stsc stco k → k < count stco → samplesOver stsc (count stco) ≤ 65536 → found .first + found .samples ≤ 65536
+few : (stsc stco : List ℕ) (k : ℕ) (found : Chunk) → found ≡ chunkAt stsc stco k → k < items stco → samplesOver stsc (items stco) ≤ 65536 → found .first + found .samples ≤ 65536
 unfolding chunkAt
-few stsc stco k found e h m = rw e (omega (arith, first-more stsc k, first-mono stsc (k + 1) (count stco) (omega arith)))
+few stsc stco k found e h m = rw e (omega (arith, first-more stsc k, first-mono stsc (k + 1) (items stco) (omega arith)))
 
 pub chunks-spec : {M : Type 1} → statement M
 chunks-spec = tie.close (tie.spec Inv μ

@@ -1,10 +1,10 @@
 use borrow.Author.Needs.{needs}
 use Rattle.brands.proofs.Holding.{plain-is}
-use Rattle.brands.proofs.conditions.plain.Statement.{statement}
-use Rattle.brands.proofs.conditions.plain.Tie as tie
+use Rattle.brands.proofs.conditions.no_avc1.Statement.{statement}
+use Rattle.brands.proofs.conditions.no_avc1.Tie as tie
 
-pub plain-spec : {M : Type 1} → statement M
-plain-spec = tie.close (tie.spec
+pub no-avc1-spec : {M : Type 1} → statement M
+no-avc1-spec = tie.close (tie.spec
     (λ c κs. search needs)
     (λ c κs. search needs)
     (λ c κs. search needs)

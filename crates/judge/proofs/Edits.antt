@@ -14,21 +14,21 @@ use Rattle.rule.specs.Verdict.{unless, isFine}
 use Rattle.rule.specs.Rule.{Says}
 use Rattle.rule.proofs.Places.{placed-says}
 use Rattle.rule.proofs.Acceptance.{judge-fine}
-use Rattle.rule_shape.specs.Rules.{plainRule}
+use Rattle.rule_shape.specs.Rules.{editableRule}
 use Rattle.judge.specs.Asked.{leafBy, nodeBy, endBy, judgeBy, verdictOf}
-use Rattle.judge.specs.Acceptance.{plain}
+use Rattle.judge.specs.Acceptance.{editable}
 
-says-plain : (l : List Box) → Says (judgeBy 23 l) plainRule
+says-plain : (l : List Box) → Says (judgeBy 23 l) editableRule
 unfolding leafBy nodeBy endBy ifEq unless
-says-plain l = placed-says plainRule
+says-plain l = placed-says editableRule
 
 module _ (xs : List ℕ) {v : Verdict} (e : v ≡ verdictOf 23 xs) where
-  is-plain : isFine v ≡ plain xs
+  is-plain : isFine v ≡ editable xs
   unfolding verdictOf
-  is-plain = ap isFine e ∙ judge-fine (judgeBy 23 (boxes xs)) plainRule (says-plain (boxes xs)) DEPTH FILE xs 0 0
+  is-plain = ap isFine e ∙ judge-fine (judgeBy 23 (boxes xs)) editableRule (says-plain (boxes xs)) DEPTH FILE xs 0 0
 
-  pub plain-yea : v ≡ Fine → 1 ≡ oneIf (plain xs)
-  plain-yea f = yea _ (sym (ap isFine f) ∙ is-plain)
+  pub editable-yea : v ≡ Fine → 1 ≡ oneIf (editable xs)
+  editable-yea f = yea _ (sym (ap isFine f) ∙ is-plain)
 
-  pub plain-nay : {p : ℕ} → v ≡ Bad p → 0 ≡ oneIf (plain xs)
-  plain-nay f = nay _ (sym (ap isFine f) ∙ is-plain)
+  pub editable-nay : {p : ℕ} → v ≡ Bad p → 0 ≡ oneIf (editable xs)
+  editable-nay f = nay _ (sym (ap isFine f) ∙ is-plain)

@@ -5,12 +5,12 @@ use Rattle.wire.proofs.Clauses.{yea}
 use Rattle.boxes.specs.Containers.{FILE}
 use Rattle.codes.specs.Codes.{MOOV, TRAK, STBL}
 use Rattle.wire.specs.Tests.{ifEq}
-use Rattle.rule_shape.proofs.plain_of.Statement.{statement}
-use Rattle.rule_shape.proofs.plain_of.Tie as tie
+use Rattle.rule_shape.proofs.editable_of.Statement.{statement}
+use Rattle.rule_shape.proofs.editable_of.Tie as tie
 
-pub plain-of-spec : {M : Type 1} → statement M
+pub editable-of-spec : {M : Type 1} → statement M
 unfolding barred ifEq
-plain-of-spec = tie.close (tie.spec
+editable-of-spec = tie.close (tie.spec
     (λ c. search needs)
     (λ c κs. search needs)
     (λ c. barred-at _ FILE _ (c .before .before .if1 .taken) (c .exactly .ensures))
