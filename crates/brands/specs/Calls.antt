@@ -4,8 +4,8 @@ use mathlib.Core.List.{List}
 use Rattle.wire.specs.Clauses.{oneIf}
 use Rattle.rule.specs.declared.Answer.{Answer}
 use Rattle.rule.specs.declared.Answer.the-variants.{Done}
-use Rattle.judge.specs.Judgement.{judged, whenAccepted}
+use Rattle.judge.specs.Calls.{answerOn}
 use Rattle.brands.specs.Brands.{brandHolds}
 
 unfoldable pub brandAnswer : List ℕ → ℕ → Answer
-brandAnswer xs code = whenAccepted (judged xs) (Done (oneIf (brandHolds code xs)))
+brandAnswer xs code = answerOn xs (Done (oneIf (brandHolds code xs)))

@@ -41,6 +41,12 @@ mayShift z t = ifEq t 0 true (isTime (less t z))
 
 -- ---- the order of two times
 
+-- "whether the first is earlier, same or later", as a number
+abbrev pub orderNumber : Order → ℕ
+orderNumber Earlier = 0
+orderNumber Same = 1
+orderNumber Later = 2
+
 unfoldable pub inOrder : ℕ → ℕ → Order
 inOrder m n = ifLt m n Earlier (ifEq m n Same Later)
 

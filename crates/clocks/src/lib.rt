@@ -2,7 +2,7 @@
 ghost use mathlib.Core.Path.{_≡_};
 ghost use Prim.Native.Nat.{_+_, _^_, _<_};
 ghost use Rattle.wire.specs.Clauses.{oneIf};
-ghost use Rattle.clocks.specs.Clocks.{zonedOf};
+ghost use Rattle.clocks.specs.Clocks.{orderNumber, zonedOf};
 ghost use Rattle.clocks.specs.Zones.{Near, leaves as leavesOf, compared};
 
 // A zone in seconds, of which one number is 0.
@@ -21,6 +21,17 @@ pub enum Order {
     Earlier,
     Same,
     Later,
+}
+
+// An order as a number: 0 earlier, 1 same, 2 later.
+pub fn order_number(order: Order) -> usize
+    ensures { λ r. ⌜ r ≡ orderNumber order ⌝ }
+{
+    match order {
+        Order::Earlier => 0,
+        Order::Same => 1,
+        Order::Later => 2,
+    }
 }
 
 // The one function that looks at a sign.

@@ -1,14 +1,12 @@
 -- "Move: moov goes right after ftyp; other top-level boxes keep their order."
 use Prim.Native.Nat.{ℕ}
 use mathlib.Core.List.{List, [], _∷_, _++_}
-use Rattle.wire.specs.Tests.{pick, ifEq}
+use Rattle.wire.specs.Tests.{ifEq}
 use Rattle.codes.specs.Codes.{MOOV}
 use Rattle.boxes.specs.Box.{Box, write}
 use Rattle.boxes.specs.Boxes.{boxes}
-use Rattle.rule.specs.declared.Answer.{Answer}
-use Rattle.rule.specs.declared.Answer.the-variants.{Refused}
-use Rattle.rule.specs.Answers.{inRoom, outBy}
-use Rattle.judge.specs.Judgement.{judged, whenAccepted}
+use Rattle.rule.specs.Results.{Result}
+use Rattle.judge.specs.Calls.{resultOn}
 use Rattle.judge.specs.Acceptance.{editable}
 use Rattle.edit_offsets.specs.Settle.{settled}
 
@@ -30,8 +28,5 @@ unfoldable pub moveOf : List ℕ → List ℕ
 moveOf xs = settled xs (write (moovSecond (boxes xs)))
 
 -- "move 23, 25"
-unfoldable pub moveAnswer : List ℕ → List ℕ → Answer
-moveAnswer xs out = whenAccepted (judged xs) (pick (editable xs) (inRoom (moveOf xs) out) (Refused 23 0))
-
-abbrev pub moveOut : List ℕ → List ℕ → List ℕ
-moveOut xs out = outBy (moveAnswer xs out) (moveOf xs) out
+unfoldable pub moveResult : List ℕ → Result
+moveResult xs = resultOn xs ((23, editable xs) ∷ []) (moveOf xs)

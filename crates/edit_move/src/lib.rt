@@ -7,15 +7,15 @@ use judge::Judgement;
 use rule::Answer;
 use wire::pen;
 ghost use mathlib.Core.Path.{_≡_};
+ghost use mathlib.Core.List.{[], _∷_};
 ghost use Prim.Native.Nat.{_+_, _≤_};
 ghost use lib.ListN.{length};
-ghost use Rattle.wire.specs.Tests.{pick};
 ghost use Rattle.wire.specs.Writing.{Wrote, Put};
 ghost use Rattle.boxes.specs.Containers.{LONGEST};
-ghost use Rattle.rule.specs.declared.Answer.the-variants as answer;
-ghost use Rattle.rule.specs.Answers.{inRoom, outBy};
+ghost use Rattle.rule.specs.Results.{asked, Exact};
+ghost use Rattle.rule.specs.Results.Result.{gives};
 ghost use Rattle.judge.specs.Acceptance.{Meets, editable};
-ghost use Rattle.edit_move.specs.Moving.{moveOf, moveAnswer, moveOut};
+ghost use Rattle.edit_move.specs.Moving.{moveOf, moveResult};
 ghost use Rattle.edit_move.specs.Arrange.{arranged, shifted};
 
 // Writes a file with its box b at place f.
@@ -65,7 +65,7 @@ fn write_moved(out: &mut [u8], file: &[u8]) -> usize
 // The move of a file that was accepted.
 fn move_accepted(file: &[u8], out: &mut [u8]) -> Answer
     requires { ⌜ Meets (now file) ⌝ }
-    ensures { λ r. ⌜ (r ≡ pick (editable (now (file .entry))) (inRoom (moveOf (now (file .entry))) (now (out .entry))) (answer.Refused 23 0)) × (now (out .exit) ≡ outBy r (moveOf (now (file .entry))) (now (out .entry))) ⌝ }
+    ensures { λ r. ⌜ Exact (asked ((23, editable (now (file .entry))) ∷ []) (gives (moveOf (now (file .entry))))) (now (out .entry)) r (now (out .exit)) ⌝ }
 {
     if judge::editable(file) == 0 {
         return Answer::Refused(23, 0);
@@ -78,7 +78,7 @@ fn move_accepted(file: &[u8], out: &mut [u8]) -> Answer
 
 // Writes the file with `moov` right after `ftyp`, other top-level boxes in their order, and answers its length.
 pub fn move_moov(file: &[u8], out: &mut [u8]) -> Answer
-    ensures { λ r. ⌜ (r ≡ moveAnswer (now (file .entry)) (now (out .entry))) × (now (out .exit) ≡ moveOut (now (file .entry)) (now (out .entry))) ⌝ }
+    ensures { λ r. ⌜ Exact (moveResult (now (file .entry))) (now (out .entry)) r (now (out .exit)) ⌝ }
 {
     match judge::judge(file) {
         Judgement::Accepted => move_accepted(file, out),

@@ -4,7 +4,6 @@ use Prim.Native.Nat.{ℕ}
 use mathlib.Core.Bool.{Bool}
 use mathlib.Core.List.{List, [], _∷_}
 use lib.IntN.{ℤ}
-use Rattle.wire.specs.Tests.{pick}
 use Rattle.wire.specs.Clauses.{every}
 use Rattle.wire.specs.Numbers.{word}
 use Rattle.wire.specs.Sums.{allTo}
@@ -17,10 +16,8 @@ use Rattle.boxes.specs.Rewrite.{editIn}
 use Rattle.boxes.specs.Words.{rewordLeaf}
 use Rattle.clocks.specs.Clocks.{zoneFine, shiftTime, mayShift}
 use Rattle.movie.specs.Movie.{movie, tracks, track, mdia}
-use Rattle.rule.specs.declared.Answer.{Answer}
-use Rattle.rule.specs.declared.Answer.the-variants.{Refused}
-use Rattle.rule.specs.Answers.{inRoom, outBy}
-use Rattle.judge.specs.Judgement.{judged, whenAccepted}
+use Rattle.rule.specs.Results.{Result}
+use Rattle.judge.specs.Calls.{resultOn}
 use Rattle.judge.specs.Acceptance.{editable}
 use Rattle.edit_offsets.specs.Settle.{settled}
 
@@ -56,12 +53,6 @@ allTimes p xs = every (both p (find MVHD (movie xs)) ∷ allTo (λ t. trackTimes
 unfoldable pub shiftable : ℤ → List ℕ → Bool
 shiftable z xs = every (zoneFine z ∷ allTimes (mayShift z) xs ∷ [])
 
--- 22, 23, 25
-unfoldable pub acceptedAnswer : ℤ → List ℕ → List ℕ → Answer
-acceptedAnswer z xs out = pick (shiftable z xs) (pick (editable xs) (inRoom (shiftOf z xs) out) (Refused 23 0)) (Refused 22 0)
-
-unfoldable pub shiftAnswer : ℤ → List ℕ → List ℕ → Answer
-shiftAnswer z xs out = whenAccepted (judged xs) (acceptedAnswer z xs out)
-
-abbrev pub shiftOut : ℤ → List ℕ → List ℕ → List ℕ
-shiftOut z xs out = outBy (shiftAnswer z xs out) (shiftOf z xs) out
+-- "shift 22, 23, 25"
+unfoldable pub shiftResult : ℤ → List ℕ → Result
+shiftResult z xs = resultOn xs ((22, shiftable z xs) ∷ (23, editable xs) ∷ []) (shiftOf z xs)

@@ -16,9 +16,10 @@ ghost use lib.ListN.{length, drop};
 ghost use Rattle.wire.specs.Clauses.{oneIf};
 ghost use Rattle.boxes.specs.Words.{moved, Small};
 ghost use Rattle.clocks.specs.Zones.{Near, leaves};
+ghost use Rattle.rule.specs.Results.{Exact};
 ghost use Rattle.judge.specs.Acceptance.{Meets};
-ghost use Rattle.edit_shift.specs.Shift.{timesOf, both as bothOf, trackTimes, allTimes, allTimesBy, shiftAnswer, shiftOut};
-ghost use Rattle.edit_shift.specs.Amount.{zoneAnswer, zoneOut};
+ghost use Rattle.edit_shift.specs.Shift.{timesOf, both as bothOf, trackTimes, allTimes, allTimesBy, shiftResult};
+ghost use Rattle.edit_shift.specs.Amount.{zoneResult};
 
 // Whether both times of a header may be shifted: 1 or 0.
 fn both(head: &[u8], zone: Zone) -> usize
@@ -95,7 +96,7 @@ fn put_shifted(out: &mut [u8], file: &[u8], by: By)
 // The shift of an accepted file.
 fn shift_by(file: &[u8], zone: Zone, out: &mut [u8]) -> Answer
     requires { ⌜ (Near zone) × (Meets (now file)) ⌝ }
-    ensures { λ r. ⌜ (r ≡ zoneAnswer zone (now (file .entry)) (now (out .entry))) × (now (out .exit) ≡ zoneOut zone (now (file .entry)) (now (out .entry))) ⌝ }
+    ensures { λ r. ⌜ Exact (zoneResult zone (now (file .entry))) (now (out .entry)) r (now (out .exit)) ⌝ }
 {
     if all_times(file, zone) == 0 {
         return Answer::Refused(22, 0);
@@ -121,7 +122,7 @@ fn shift_by(file: &[u8], zone: Zone, out: &mut [u8]) -> Answer
 
 // The shift of a file by minutes.
 pub fn shift(file: &[u8], minutes: i64, out: &mut [u8]) -> Answer
-    ensures { λ r. ⌜ (r ≡ shiftAnswer minutes (now (file .entry)) (now (out .entry))) × (now (out .exit) ≡ shiftOut minutes (now (file .entry)) (now (out .entry))) ⌝ }
+    ensures { λ r. ⌜ Exact (shiftResult minutes (now (file .entry))) (now (out .entry)) r (now (out .exit)) ⌝ }
 {
     match judge::judge(file) {
         Judgement::Accepted => match clocks::zone_of(minutes) {

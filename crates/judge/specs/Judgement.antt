@@ -8,8 +8,6 @@ use Rattle.boxes.specs.Boxes.{boxes}
 use Rattle.boxes.specs.Containers.{FILE, DEPTH, LONGEST}
 use Rattle.rule.specs.declared.Verdict.{Verdict}
 use Rattle.rule.specs.declared.Verdict.the-variants.{Fine, Bad}
-use Rattle.rule.specs.declared.Answer.{Answer}
-use Rattle.rule.specs.declared.Answer.the-variants as answer
 use Rattle.rule.specs.Judge.{Judge, judgeIn}
 use Rattle.rule_shape.specs.Rules.{two, three}
 use Rattle.rule_lists.specs.Rules.{five, nine}
@@ -51,8 +49,3 @@ judgedFrom n (j ∷ js) xs = unlessBroken n (verdictBy j xs) (judgedFrom (n + 1)
 -- rule 1: "Length is 8 to 1,048,576. Place 0."; then rules 2 to 10
 unfoldable pub judged : List ℕ → Judgement
 judged xs = ifLt (length xs) 8 (Refused 1 0) (ifLt LONGEST (length xs) (Refused 1 0) (judgedFrom 2 (judges (boxes xs)) xs))
-
--- "after 1 to 10": the answer of a call on a file that is accepted, else the refusal
-unfoldable pub whenAccepted : Judgement → Answer → Answer
-whenAccepted Accepted a = a
-whenAccepted (Refused n p) a = answer.Refused n p

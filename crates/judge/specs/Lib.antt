@@ -1,3 +1,4 @@
 pub mod Judgement
+pub mod Calls
 pub mod Acceptance
 pub mod Asked

@@ -8,7 +8,7 @@ use Rattle.entry_heads.specs.Kinds.{kindOf}
 use Rattle.listing.specs.Decimal.{decimal, labelled}
 use Rattle.listing.specs.Lines.{handlerText, codeText, trackLine, entryNamed, entryPlaced, yesText, brandLine, refusedLine}
 
-the-track : trackLine 1 SOUN 160 8000 ≡ text "track 1 soun 160/8000\n"
+the-track : trackLine 1 SOUN (record { 0 = 160 }) 8000 ≡ text "track 1 soun 160/8000\n"
 unfolding trackLine labelled decimal handlerText ifEq ifLt
 the-track = refl
 

@@ -11,6 +11,7 @@ use Rattle.wire.specs.Numbers.{word}
 use Rattle.wire.specs.Clauses.{oneIf}
 use Rattle.codes.specs.Codes.{STTS}
 use Rattle.wire.proofs.Writing.{pen-none, pen-then, pen-is}
+use Rattle.sample_tables.specs.declared.time.MediaTicks.{MediaTicks}
 use Rattle.sample_tables.specs.Times.{mediaTicks}
 use Rattle.movie.specs.declared.entry.EntryAt.{EntryAt}
 use Rattle.movie.specs.declared.entry.Named.{Named}
@@ -23,6 +24,7 @@ use Rattle.judge.specs.Acceptance.{Meets}
 use Rattle.brands.specs.Brands.{brandHolds}
 use Rattle.read_tracks.specs.Tracks.{Readable}
 use Rattle.read_tracks.proofs.Accepted.{readable}
+use Rattle.read_tracks.proofs.Reading.{media-is}
 use Rattle.listing.specs.Lines.{trackLine, entryNamed, entryPlaced, entryLine, brandLine}
 use Rattle.listing.specs.Listing.{lineOf, trackLines, entryLines, firstLine, brandOf}
 use Rattle.listing.specs.Rest.{Rest}
@@ -33,10 +35,10 @@ use Rattle.listing.proofs.Pieces.{rest-all, rest-more, rest-none}
 pub track-read : (xs : List ℕ) → Meets xs → (t : ℕ) {b : List ℕ} → t < tracks xs → b ≡ track xs t → Readable b
 track-read xs m t h e = rw e (readable xs m t h)
 
-pub line-of : (t : ℕ) (b : List ℕ) {stts : List ℕ} {h m s : ℕ} → stts ≡ sampleTable STTS b → h ≡ handler b → m ≡ mediaTicks stts → s ≡ scale b
+pub line-of : (t : ℕ) (b : List ℕ) {stts : List ℕ} {h s : ℕ} {m : MediaTicks} → stts ≡ sampleTable STTS b → h ≡ handler b → m .0 ≡ mediaTicks stts → s ≡ scale b
     → {out after : List ℕ} {at r : ℕ} → Put (trackLine t h m s) out at r after → Put (lineOf t b) out at r after
 unfolding lineOf
-line-of t b f h m s p = pen-is (rw (h, m, f, s)) p
+line-of t b f h m s p = pen-is (rw (h, media-is b f m, s)) p
 
 module _ (xs : List ℕ) {out : List ℕ} {from : ℕ} where
   pub tracks-none : Put (trackLines xs 0) out from from out

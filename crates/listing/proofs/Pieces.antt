@@ -5,16 +5,17 @@ use mathlib.Core.Path.{_≡_, refl, sym, _∙_}
 use mathlib.Core.List.{List, [], _∷_, _++_}
 use lib.ListN.{length}
 use Rattle.wire.specs.Writing.{Put}
-use Rattle.wire.proofs.Writing.{pen-none, pen-then, pen-is, pen-front}
+use Rattle.wire.proofs.Writing.{pen-none, pen-then, pen-is}
 use Rattle.rule.specs.declared.Answer.{Answer}
 use Rattle.rule.specs.declared.Answer.the-variants.{Done, Refused}
-use Rattle.rule.specs.Answers.{inRoom, outBy}
-use Rattle.rule.proofs.Answers.{room-short, room-fits, out-kept, out-wrote}
+use Rattle.rule.specs.Results.{Exact}
+use Rattle.rule.specs.Results.Result.{gives}
+use Rattle.rule.proofs.Results.{told-short, told-wrote}
 use Rattle.judge.specs.declared.Judgement.{Judgement}
 use Rattle.judge.specs.declared.Judgement.the-variants as judgement
 use Rattle.judge.specs.Judgement.{judged}
 use Rattle.listing.specs.Lines.{refusedLine}
-use Rattle.listing.specs.Listing.{acceptedLines, linesFor, listing}
+use Rattle.listing.specs.Listing.{acceptedLines, linesFor, listingResult}
 use Rattle.listing.specs.Rest.{Rest}
 
 pub rest-all : (whole out : List ℕ) (from : ℕ) → Rest whole whole out from out from
@@ -33,27 +34,19 @@ nowhere {after = []} p = refl
 nowhere {after = a ∷ bs} p = absurd (omega (arith, p .same))
 
 module _ (xs out : List ℕ) {mid : List ℕ} {m : ℕ} (p : Put xs [] 0 m mid) where
-  pub too-short : length (mid ++ out) < m → (Refused 25 0 ≡ inRoom xs out) × (mid ++ out ≡ outBy (Refused 25 0) xs out)
-  too-short h =
-      let e = nowhere p in
-      let k : length out < m = rw e at h in
-      (room-short xs out (omega (arith, p .next)), rw e (out-kept xs out (Refused 25 0) refl))
+  pub too-short : length (mid ++ out) < m → Exact (gives xs) out (Refused 25 0) (mid ++ out)
+  too-short h = rw (nowhere p) (told-short xs out p (rw (nowhere p) at h))
 
-  pub all-written : {after : List ℕ} {r : ℕ} → Put xs (mid ++ out) 0 r after → m ≤ length (mid ++ out) → (Done r ≡ inRoom xs out) × (after ≡ outBy (Done r) xs out)
-  all-written {after} {r} q h =
-      let e = nowhere p in
-      let w : Put xs out 0 r after = rw e at q in
-      let k : m ≤ length out = rw e at h in
-      let s : r ≡ length xs = omega (arith, w .next) in
-      (room-fits xs out (omega (arith, p .next)) s, out-wrote xs out (Done r) refl (pen-front w (omega (arith, p .next, w .next))))
+  pub all-written : {left : List ℕ} {r : ℕ} → Put xs (mid ++ out) 0 r left → m ≤ length (mid ++ out) → Exact (gives xs) out (Done r) left
+  all-written q h = told-wrote xs out p (rw (nowhere p) at h) (rw (nowhere p) at q)
 
 -- ---- of a file that is judged
 
-module _ (xs out : List ℕ) {j : Judgement} (e : j ≡ judged xs) {r : Answer} {after : List ℕ} where
-  pub listed-accepted : j ≡ judgement.Accepted → (r ≡ inRoom (acceptedLines xs) out) × (after ≡ outBy r (acceptedLines xs) out) → (r ≡ inRoom (listing xs) out) × (after ≡ outBy (inRoom (listing xs) out) (listing xs) out)
-  unfolding linesFor
-  listed-accepted f (g, h) = rw (← e, f) (g, h ∙ rw g)
+module _ (xs out : List ℕ) {j : Judgement} (e : j ≡ judged xs) {r : Answer} {left : List ℕ} where
+  pub listed-accepted : j ≡ judgement.Accepted → Exact (gives (acceptedLines xs)) out r left → Exact (listingResult xs) out r left
+  unfolding linesFor listingResult
+  listed-accepted f x = rw (← e, f) x
 
-  pub listed-refused : {n p : ℕ} → j ≡ judgement.Refused n p → (r ≡ inRoom (refusedLine n p) out) × (after ≡ outBy r (refusedLine n p) out) → (r ≡ inRoom (listing xs) out) × (after ≡ outBy (inRoom (listing xs) out) (listing xs) out)
-  unfolding linesFor
-  listed-refused f (g, h) = rw (← e, f) (g, h ∙ rw g)
+  pub listed-refused : {n p : ℕ} → j ≡ judgement.Refused n p → Exact (gives (refusedLine n p)) out r left → Exact (listingResult xs) out r left
+  unfolding linesFor listingResult
+  listed-refused f x = rw (← e, f) x

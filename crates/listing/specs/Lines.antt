@@ -7,6 +7,7 @@ use Rattle.wire.specs.Numbers.{bytes, word}
 use Rattle.wire.specs.Text.{text}
 use Rattle.codes.specs.Codes.{VIDE, SOUN, TEXT}
 use Rattle.movie.specs.Entries.{Entry}
+use Rattle.sample_tables.specs.declared.time.MediaTicks.{MediaTicks}
 use Rattle.entry_heads.specs.Kinds.{kindOf}
 use Rattle.listing.specs.Decimal.{labelled}
 
@@ -19,8 +20,8 @@ unfoldable pub codeText : ℕ → List ℕ
 codeText c = ifEq (kindOf c) 0 (text "other") (bytes 4 c)
 
 -- "track 1 soun 160/8000"
-unfoldable pub trackLine : ℕ → ℕ → ℕ → ℕ → List ℕ
-trackLine t h ticks scale = labelled (text "track ") t ++ text " " ++ handlerText h ++ labelled (text " ") ticks ++ labelled (text "/") scale ++ text "\n"
+unfoldable pub trackLine : ℕ → ℕ → MediaTicks → ℕ → List ℕ
+trackLine t h ticks scale = labelled (text "track ") t ++ text " " ++ handlerText h ++ labelled (text " ") (ticks .0) ++ labelled (text "/") scale ++ text "\n"
 
 -- "entry 1 track 1 samr"
 unfoldable pub entryNamed : ℕ → ℕ → ℕ → List ℕ

@@ -3,19 +3,21 @@ use Prim.Native.Nat.{ℕ, zero, suc, _+_}
 use mathlib.Core.List.{List, [], _∷_, _++_}
 use Rattle.wire.specs.Text.{text}
 use Rattle.wire.specs.Clauses.{oneIf}
-use Rattle.codes.specs.Codes.{STTS, GP4, GP5, GP6, GR6}
-use Rattle.sample_tables.specs.Times.{mediaTicks}
-use Rattle.movie.specs.Movie.{tracks, track, sampleTable, handler, scale}
+use Rattle.codes.specs.Codes.{GP4, GP5, GP6, GR6}
+use Rattle.movie.specs.Movie.{tracks, track, handler, scale}
 use Rattle.movie.specs.Entries.{Entry, entries}
+use Rattle.rule.specs.Results.{Result}
+use Rattle.rule.specs.Results.Result.{gives}
 use Rattle.judge.specs.declared.Judgement.{Judgement}
 use Rattle.judge.specs.declared.Judgement.the-variants.{Accepted, Refused}
 use Rattle.judge.specs.Judgement.{judged}
+use Rattle.read_tracks.specs.Reads.{mediaOf}
 use Rattle.brands.specs.Brands.{brandHolds}
 use Rattle.listing.specs.Lines.{trackLine, entryLine, brandLine, refusedLine}
 
 -- the line of track t, whose payload is b
 unfoldable pub lineOf : ℕ → List ℕ → List ℕ
-lineOf t b = trackLine t (handler b) (mediaTicks (sampleTable STTS b)) (scale b)
+lineOf t b = trackLine t (handler b) (mediaOf b) (scale b)
 
 -- those of the first n tracks, which are numbered from 1
 unfoldable pub trackLines : List ℕ → ℕ → List ℕ
@@ -49,3 +51,7 @@ linesFor (Refused n p) xs = refusedLine n p
 
 abbrev pub listing : List ℕ → List ℕ
 listing xs = linesFor (judged xs) xs
+
+-- a refused file has a listing too: only 25 is refused
+unfoldable pub listingResult : List ℕ → Result
+listingResult xs = gives (listing xs)

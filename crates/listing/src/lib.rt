@@ -4,15 +4,15 @@ mod lines;
 
 use judge::Judgement;
 use rule::Answer;
-ghost use mathlib.Core.Path.{_≡_};
-ghost use Rattle.rule.specs.Answers.{inRoom, outBy};
+ghost use Rattle.rule.specs.Results.{Exact};
+ghost use Rattle.rule.specs.Results.Result.{gives};
 ghost use Rattle.judge.specs.Acceptance.{Meets};
 ghost use Rattle.listing.specs.Lines.{refusedLine};
-ghost use Rattle.listing.specs.Listing.{acceptedLines, listing as listingOf};
+ghost use Rattle.listing.specs.Listing.{acceptedLines, listingResult};
 
 // A refused file's line, whole or not at all: a run into no room says how long it is.
 fn list_refused(n: usize, p: usize, out: &mut [u8]) -> Answer
-    ensures { λ r. ⌜ (r ≡ inRoom (refusedLine n p) (now (out .entry))) × (now (out .exit) ≡ outBy r (refusedLine n p) (now (out .entry))) ⌝ }
+    ensures { λ r. ⌜ Exact (gives (refusedLine n p)) (now (out .entry)) r (now (out .exit)) ⌝ }
 {
     let m = line::put_refused(&mut out[0..0], n, p);
     if out.len() < m {
@@ -24,7 +24,7 @@ fn list_refused(n: usize, p: usize, out: &mut [u8]) -> Answer
 // An accepted file's lines, in the same way.
 fn list_accepted(file: &[u8], out: &mut [u8]) -> Answer
     requires { ⌜ Meets (now file) ⌝ }
-    ensures { λ r. ⌜ (r ≡ inRoom (acceptedLines (now (file .entry))) (now (out .entry))) × (now (out .exit) ≡ outBy r (acceptedLines (now (file .entry))) (now (out .entry))) ⌝ }
+    ensures { λ r. ⌜ Exact (gives (acceptedLines (now (file .entry)))) (now (out .entry)) r (now (out .exit)) ⌝ }
 {
     let m = lines::put_accepted(&mut out[0..0], file);
     if out.len() < m {
@@ -35,7 +35,7 @@ fn list_accepted(file: &[u8], out: &mut [u8]) -> Answer
 
 // The listing of any file: only 25 is refused.
 pub fn listing(file: &[u8], out: &mut [u8]) -> Answer
-    ensures { λ r. ⌜ (r ≡ inRoom (listingOf (now (file .entry))) (now (out .entry))) × (now (out .exit) ≡ outBy (inRoom (listingOf (now (file .entry))) (now (out .entry))) (listingOf (now (file .entry))) (now (out .entry))) ⌝ }
+    ensures { λ r. ⌜ Exact (listingResult (now (file .entry))) (now (out .entry)) r (now (out .exit)) ⌝ }
 {
     match judge::judge(file) {
         Judgement::Accepted => list_accepted(file, out),

@@ -1,4 +1,5 @@
 // Writers of one line and its parts. Each answers the place past its text, fit or not.
+use sample_tables::time::MediaTicks;
 use wire::pen;
 ghost use Prim.Native.Nat.{_+_, _^_, _≤_, _<_};
 ghost use lib.ListN.{length};
@@ -56,14 +57,21 @@ fn put_code(out: &mut [u8], at: usize, c: usize) -> usize
 }
 
 // A track's line.
-pub fn put_track(out: &mut [u8], at: usize, t: usize, h: usize, ticks: usize, scale: usize) -> usize
+pub fn put_track(
+    out: &mut [u8],
+    at: usize,
+    t: usize,
+    h: usize,
+    ticks: MediaTicks,
+    scale: usize,
+) -> usize
     requires { ⌜ at < 2 ^ 61 ⌝ }
     ensures { λ r. ⌜ Put (trackLine t h ticks scale) (now (out .entry)) at r (now (out .exit)) × (r ≤ at + 100) ⌝ }
 {
     let a = put_labelled(out, at, b"track ", t);
     let b = pen::put_part(out, a, b" ");
     let c = put_handler(out, b, h);
-    let d = put_labelled(out, c, b" ", ticks);
+    let d = put_labelled(out, c, b" ", ticks.0 as usize);
     let e = put_labelled(out, d, b"/", scale);
     pen::put_part(out, e, b"\n")
 }

@@ -23,7 +23,7 @@ fn put_track(out: &mut [u8], at: usize, track: &[u8], t: usize) -> usize
     let ticks = sample_tables::time::media_ticks(movie::table(track, codes::STTS));
     let handler = movie::handler(track);
     let scale = movie::scale(track);
-    line::put_track(out, at, t, handler, ticks.0 as usize, scale)
+    line::put_track(out, at, t, handler, ticks, scale)
 }
 
 // The lines of the tracks, numbered from 1.

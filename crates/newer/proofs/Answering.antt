@@ -1,5 +1,5 @@
 -- What the answer says at each step. Assumes nothing.
-use Prim.Native.Nat.{ℕ, _+_}
+use Prim.Native.Nat.{ℕ}
 use mathlib.Core.Path.{_≡_, _∙_}
 use mathlib.Core.Bool.{true, false}
 use mathlib.Core.List.{List, [], _∷_}
@@ -10,6 +10,7 @@ use Rattle.clocks.specs.declared.Zone.{Zone}
 use Rattle.clocks.specs.declared.Zoned.{Zoned}
 use Rattle.clocks.specs.declared.Zoned.the-variants.{Seconds, NoZone}
 use Rattle.clocks.specs.declared.Order.{Order}
+use Rattle.clocks.specs.declared.Order.the-variants.{Earlier, Same, Later}
 use Rattle.clocks.specs.Clocks as clocks
 use Rattle.clocks.specs.Clocks.{zoneFine}
 use Rattle.clocks.specs.Zones.{compared}
@@ -18,21 +19,31 @@ use Rattle.clocks.proofs.Whole.{compared-is}
 use Rattle.judge.specs.declared.Judgement.{Judgement}
 use Rattle.judge.specs.declared.Judgement.the-variants as judgement
 use Rattle.judge.specs.Judgement.{judged}
+use Rattle.judge.specs.Calls.{whenAccepted}
 use Rattle.newer.specs.declared.Outcome.{Outcome}
 use Rattle.newer.specs.declared.Outcome.the-variants.{Refused}
-use Rattle.newer.specs.Newer.{modified, orderOf, entryOf, inZones, whenFileAccepted, newestOf}
+use Rattle.newer.specs.Newer.{modified, orderOf, entryIn, entryOf, inZones, newestOf}
 
--- the order that was found is that of the modification times
-pub order-entry : (xs ys : List ℕ) (i : ℕ) (y z : Zone) {m n : ℕ} {o p : Order} → m ≡ modified xs → n ≡ modified ys → o ≡ compared m y n z → o ≡ p
-    → entryOf p xs ys i ≡ entryOf (compared (modified xs) y (modified ys) z) xs ys i
-order-entry xs ys i y z e f g h = rw (← h, g, e, f)
+-- the order that was found is that of the modification times, and the entry is looked up in the later file
+module _ (xs ys : List ℕ) (i : ℕ) (y z : Zone) {m n : ℕ} {o : Order} (e : m ≡ modified xs) (f : n ≡ modified ys) (g : o ≡ compared m y n z) where
+  found : o ≡ compared (modified xs) y (modified ys) z
+  found = rw (← e, ← f) g
+
+  pub order-earlier : {r : Outcome} → o ≡ Earlier → r ≡ entryIn o 2 ys i → r ≡ entryOf (compared (modified xs) y (modified ys) z) xs ys i
+  order-earlier h q = rw (← found, h) (rw h at q)
+
+  pub order-same : {r : Outcome} → o ≡ Same → r ≡ entryIn o 1 xs i → r ≡ entryOf (compared (modified xs) y (modified ys) z) xs ys i
+  order-same h q = rw (← found, h) (rw h at q)
+
+  pub order-later : {r : Outcome} → o ≡ Later → r ≡ entryIn o 1 xs i → r ≡ entryOf (compared (modified xs) y (modified ys) z) xs ys i
+  order-later h q = rw (← found, h) (rw h at q)
 
 module _ (xs : List ℕ) (y : ℤ) (ys : List ℕ) (z : ℤ) (i : ℕ) where
-  pub zone-first : {w : Zoned} → w ≡ clocks.zonedOf y → w ≡ NoZone → Refused 22 0 ≡ inZones xs y ys z i
+  pub zone-first : {w : Zoned} → w ≡ clocks.zonedOf y → w ≡ NoZone → Refused 0 22 0 ≡ inZones xs y ys z i
   unfolding inZones
   zone-first e h = let q : false ≡ every (zoneFine y ∷ zoneFine z ∷ []) = fails 0 _ (zone-missing y e h) in rw (← q)
 
-  pub zone-second : {w : Zoned} → w ≡ clocks.zonedOf z → w ≡ NoZone → Refused 22 0 ≡ inZones xs y ys z i
+  pub zone-second : {w : Zoned} → w ≡ clocks.zonedOf z → w ≡ NoZone → Refused 0 22 0 ≡ inZones xs y ys z i
   unfolding inZones
   zone-second e h = let q : false ≡ every (zoneFine y ∷ zoneFine z ∷ []) = fails 1 _ (zone-missing z e h) in rw (← q)
 
@@ -46,15 +57,15 @@ module _ (xs : List ℕ) (y : ℤ) (ys : List ℕ) (z : ℤ) (i : ℕ) where
       q ∙ rw (← c, s .1, t .1, compared-is (modified xs) y (modified ys) z)
 
   module _ {j : Judgement} (e : j ≡ judged xs) where
-    pub file-first : {n p : ℕ} → j ≡ judgement.Refused n p → Refused (256 + n) p ≡ newestOf xs y ys z i
-    unfolding newestOf whenFileAccepted
+    pub file-first : {n p : ℕ} → j ≡ judgement.Refused n p → Refused 1 n p ≡ newestOf xs y ys z i
+    unfolding newestOf whenAccepted
     file-first h = rw (← e, h)
 
     module _ (g : j ≡ judgement.Accepted) {k : Judgement} (f : k ≡ judged ys) where
-      pub file-second : {n p : ℕ} → k ≡ judgement.Refused n p → Refused (512 + n) p ≡ newestOf xs y ys z i
-      unfolding newestOf whenFileAccepted
+      pub file-second : {n p : ℕ} → k ≡ judgement.Refused n p → Refused 2 n p ≡ newestOf xs y ys z i
+      unfolding newestOf whenAccepted
       file-second h = rw (← e, g, ← f, h)
 
       pub file-both : k ≡ judgement.Accepted → {r : Outcome} → r ≡ inZones xs y ys z i → r ≡ newestOf xs y ys z i
-      unfolding newestOf whenFileAccepted
+      unfolding newestOf whenAccepted
       file-both h q = rw (← e, g, ← f, h) q

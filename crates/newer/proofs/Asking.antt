@@ -9,6 +9,7 @@ use Rattle.wire.specs.Numbers.{word}
 use Rattle.wire.proofs.Tests.{eq-yea, eq-nay}
 use Rattle.boxes.specs.Boxes.{boxes}
 use Rattle.boxes.specs.Seek.{find}
+use Rattle.clocks.specs.declared.Order.{Order}
 use Rattle.movie.specs.declared.entry.EntryAt.{EntryAt}
 use Rattle.movie.specs.declared.entry.Named.{Named}
 use Rattle.movie.specs.declared.entry.Named.the-variants.{At, Missing}
@@ -21,7 +22,7 @@ pub modified-is : (xs : List ℕ) {moov mvhd : List ℕ} {r : ℕ} → moov ≡ 
 unfolding modified
 modified-is xs e f g = rw (g, f, e)
 
-module _ (o f : ℕ) where
+module _ (o : Order) (f : ℕ) where
   -- past the first i
   among-drop : (i : ℕ) (es : List Entry) → among o f i es ≡ among o f 0 (drop i es)
   unfolding among
@@ -30,12 +31,12 @@ module _ (o f : ℕ) where
   among-drop (suc i) (e ∷ es) = among-drop i es
 
   module _ (xs : List ℕ) (i : ℕ) where
-    pub entry-none : i ≡ 0 → Refused 20 0 ≡ entryIn o f xs i
+    pub entry-none : i ≡ 0 → Refused 0 20 0 ≡ entryIn o f xs i
     unfolding entryIn
     entry-none h = eq-yea _ _ _ _ _ h refl
 
     module _ (n : i ≡ 0 → ⊥) {j : ℕ} (e : j ≡ i - 1) {w : Named} (a : NamedAs xs j w) where
-      pub entry-missing : w ≡ Missing → Refused 20 0 ≡ entryIn o f xs i
+      pub entry-missing : w ≡ Missing → Refused 0 20 0 ≡ entryIn o f xs i
       unfolding entryIn NamedAs among
       entry-missing h =
           let l : length (entries xs) ≤ j = rw h at a in

@@ -9,24 +9,41 @@ use movie::entry::Named;
 use wire::lend;
 use wire::number;
 ghost use mathlib.Core.Path.{_≡_};
+ghost use mathlib.Core.List.{[], _∷_};
 ghost use Prim.Native.Nat.{_^_, _≤_, _<_};
 ghost use lib.ListN.{length, take, drop};
 ghost use Rattle.boxes.specs.Containers.{LONGEST};
-ghost use Rattle.clocks.specs.Zones.{Near};
-ghost use Rattle.clocks.specs.Zones.{compared as comparedOf};
-ghost use Rattle.newer.specs.Newer.{modified as modifiedOf, entryIn, entryOf, inZones, newestOf, partOf, partAnswer};
+ghost use Rattle.clocks.specs.Zones.{Near, compared as comparedOf};
+ghost use Rattle.newer.specs.declared.Outcome.the-variants.{Refused};
+ghost use Rattle.newer.specs.Newer.{modified as modifiedOf, entryIn, entryOf, inZones, newestOf, toldBy, partOf};
 
-// What the first file is (0 earlier, 1 same, 2 later), and where the entry of the later one is.
+// What the first file is, and where the entry of the later one is: in file 1 or 2, at a place there, so long.
 pub struct Part {
-    pub order: usize,
+    pub order: Order,
     pub file: usize,
     pub place: usize,
     pub size: usize,
 }
 
+// A refusal of 1 to 10 names the file, 1 or 2; any other has file 0.
 pub enum Outcome {
     Found(Part),
-    Refused(usize, usize),
+    Refused {
+        file: usize,
+        number: usize,
+        place: usize,
+    },
+}
+
+// A refusal that names no file.
+fn refused(number: usize) -> Outcome
+    ensures { λ r. ⌜ r ≡ Refused 0 number 0 ⌝ }
+{
+    Outcome::Refused {
+        file: 0,
+        number,
+        place: 0,
+    }
 }
 
 // The modification time of a file.
@@ -37,13 +54,13 @@ fn modified(file: &[u8]) -> usize
     number::word32(seek::payload(moov, codes::MVHD, 0), 8)
 }
 
-// Entry i of a file, from 1, with the order's number and the file's.
-fn entry_in(file: &[u8], order: usize, which: usize, i: usize) -> Outcome
+// Entry i of a file, from 1, with the order and which file it is.
+fn entry_in(file: &[u8], order: Order, which: usize, i: usize) -> Outcome
     requires { ⌜ length (now file) ≤ LONGEST ⌝ }
     ensures { λ r. ⌜ r ≡ entryIn order which (now (file .entry)) i ⌝ }
 {
     if i == 0 {
-        return Outcome::Refused(20, 0);
+        return refused(20);
     }
     match entry::entry(file, i - 1) {
         Named::At(e) => Outcome::Found(Part {
@@ -52,7 +69,7 @@ fn entry_in(file: &[u8], order: usize, which: usize, i: usize) -> Outcome
             place: e.place,
             size: e.size,
         }),
-        Named::Missing => Outcome::Refused(20, 0),
+        Named::Missing => refused(20),
     }
 }
 
@@ -63,9 +80,9 @@ fn compared(first: &[u8], y: Zone, second: &[u8], z: Zone, i: usize) -> Outcome
 {
     let order = clocks::compare(modified(first), y, modified(second), z);
     match order {
-        Order::Earlier => entry_in(second, 0, 2, i),
-        Order::Same => entry_in(first, 1, 1, i),
-        Order::Later => entry_in(first, 2, 1, i),
+        Order::Earlier => entry_in(second, order, 2, i),
+        Order::Same => entry_in(first, order, 1, i),
+        Order::Later => entry_in(first, order, 1, i),
     }
 }
 
@@ -77,9 +94,9 @@ fn zoned(first: &[u8], y: i64, second: &[u8], z: i64, i: usize) -> Outcome
     match clocks::zone_of(y) {
         Zoned::Seconds(a) => match clocks::zone_of(z) {
             Zoned::Seconds(b) => compared(first, a, second, b, i),
-            Zoned::NoZone => Outcome::Refused(22, 0),
+            Zoned::NoZone => refused(22),
         },
-        Zoned::NoZone => Outcome::Refused(22, 0),
+        Zoned::NoZone => refused(22),
     }
 }
 
@@ -90,9 +107,17 @@ pub fn newest(first: &[u8], y: i64, second: &[u8], z: i64, i: usize) -> Outcome
     match judge::judge(first) {
         Judgement::Accepted => match judge::judge(second) {
             Judgement::Accepted => zoned(first, y, second, z, i),
-            Judgement::Refused(n, p) => Outcome::Refused(512 + n, p),
+            Judgement::Refused(number, place) => Outcome::Refused {
+                file: 2,
+                number,
+                place,
+            },
         },
-        Judgement::Refused(n, p) => Outcome::Refused(256 + n, p),
+        Judgement::Refused(number, place) => Outcome::Refused {
+            file: 1,
+            number,
+            place,
+        },
     }
 }
 
@@ -103,27 +128,40 @@ fn cut(file: &[u8], place: usize, size: usize) -> &[u8]
     lend::front(lend::rest(file, place), size)
 }
 
-// The entry as a part of the later file; the order, or the refusal, is handed back through answer.
+// Hands three numbers back.
+fn tell(answer: &mut [u64; 3], number: usize, file: usize, value: usize)
+    ensures { λ _. ⌜ now (answer .exit) ≡ number ∷ file ∷ value ∷ [] ⌝ }
+{
+    *answer = [number as u64, file as u64, value as u64];
+}
+
+// The entry as a part of the later file. Handed back through answer: 0, the entry's file and the order's number; or the
+// refusal's number, the file that it names and its place.
 pub fn newer<'a>(
     first: &'a [u8],
     y: i64,
     second: &'a [u8],
     z: i64,
     i: usize,
-    answer: &mut u64,
+    answer: &mut [u64; 3],
 ) -> &'a [u8]
-    ensures { λ r. ⌜ (now r ≡ partOf (now (first .entry)) (now (second .entry)) (newestOf (now (first .entry)) y (now (second .entry)) z i)) × (now (answer .exit) ≡ partAnswer (newestOf (now (first .entry)) y (now (second .entry)) z i)) ⌝ }
+    ensures { λ r. ⌜ (now r ≡ partOf (now (first .entry)) (now (second .entry)) (newestOf (now (first .entry)) y (now (second .entry)) z i)) × (now (answer .exit) ≡ toldBy (newestOf (now (first .entry)) y (now (second .entry)) z i)) ⌝ }
 {
     match newest(first, y, second, z, i) {
         Outcome::Found(f) => {
-            *answer = f.order as u64;
+            let order = f.order;
+            tell(answer, 0, f.file, clocks::order_number(order));
             if f.file == 1 {
                 return cut(first, f.place, f.size);
             }
             cut(second, f.place, f.size)
         }
-        Outcome::Refused(n, p) => {
-            *answer = ((n % 4294967296) * 4294967296 + p % 4294967296) as u64;
+        Outcome::Refused {
+            file,
+            number,
+            place,
+        } => {
+            tell(answer, number, file, place);
             &first[0..0]
         }
     }

@@ -1,3 +1,2 @@
 pub mod Accepted
 pub mod Reading
-pub mod Answering

@@ -2,36 +2,90 @@
 use Prim.Native.Nat.{ℕ, zero, suc, _+_, _-_, _≤_, _<_}
 use native.Mathlib.Omega.{arith}
 use native.Mathlib.Numerals.{add-one}
-use mathlib.Core.Path.{_≡_, refl, sym, _∙_}
+use mathlib.Core.Path.{_≡_, refl, sym, ap, _∙_}
+use mathlib.Core.Bool.{Bool}
 use mathlib.Core.List.{List, [], _∷_, _++_}
 use lib.ListN.{length, getD, drop, set, length-append}
 use lib.Seq.{drop-cons, set-at, sets-eq, append-snoc}
 use Rattle.wire.specs.Writing.{Wrote}
+use Rattle.wire.specs.Tests.{pick}
+use Rattle.wire.specs.Clauses.{oneIf}
+use Rattle.wire.proofs.Clauses.{not-le, is-le, le-is, fails, holds, done, clause, yea, nay, was-yea, was-nay}
 use Rattle.codes.specs.Codes.{STTS, STCO}
+use Rattle.sample_tables.specs.declared.time.MediaTicks.{MediaTicks}
 use Rattle.sample_tables.specs.Tables.{Table, items, field}
 use Rattle.sample_tables.specs.Times.{timed, mediaTicks}
-use Rattle.movie.specs.Movie.{sampleTable, handler, scale, movieTicks}
+use Rattle.judge.specs.Acceptance.{Meets}
+use Rattle.movie.specs.declared.MovieTicks.{MovieTicks}
+use Rattle.movie.specs.Movie.{tracks, track, sampleTable, handler, scale, movieTicks}
 use Rattle.read_tracks.specs.Tracks.{Readable}
-use Rattle.read_tracks.specs.Reads.{saidBy, offsetsTo, offsetsOf}
+use Rattle.read_tracks.specs.Reads.{isTrack, mediaOf, movieOf, saidBy, numbersOf, offsetsTo, offsetsOf}
+use Rattle.read_tracks.specs.declared.said.Said.{Said}
+use Rattle.read_tracks.proofs.Accepted.{readable}
 
--- ---- the four numbers
+-- ---- the track that is named
+
+module _ (xs : List ℕ) (t : ℕ) where
+  pub track-zero : t < 1 → 0 ≡ oneIf (isTrack xs t)
+  unfolding isTrack
+  track-zero h = nay _ (fails 0 _ (not-le _ _ h))
+
+  pub track-past : {n : ℕ} → n ≡ tracks xs → n < t → 0 ≡ oneIf (isTrack xs t)
+  unfolding isTrack
+  track-past e h = nay _ (fails 1 _ (not-le _ _ (omega arith)))
+
+  pub track-there : {n : ℕ} → n ≡ tracks xs → 1 ≤ t → t ≤ n → 1 ≡ oneIf (isTrack xs t)
+  unfolding isTrack
+  track-there e h k = yea _ (holds _ _ (is-le _ _ h) (holds _ _ (is-le _ _ (omega arith)) done))
+
+  module _ {i : ℕ} (e : i ≡ oneIf (isTrack xs t)) (z : i ≡ 0 → ⊥) where
+    pub track-first : 1 ≤ t
+    unfolding isTrack
+    track-first = le-is _ _ (clause 0 _ (was-yea _ _ z e))
+
+    pub track-last : t ≤ tracks xs
+    unfolding isTrack
+    track-last = le-is _ _ (clause 1 _ (was-yea _ _ z e))
+
+    -- it can be read
+    pub track-readable : Meets xs → {b : List ℕ} → b ≡ track xs (t - 1) → Readable b
+    track-readable m f = rw f (readable xs m (t - 1) (omega (arith, track-first, track-last)))
+
+-- ---- a choice that code made by the answer of a test
+
+module _ {A : Type 0} (t : Bool) (a b : A) {i : ℕ} (e : i ≡ oneIf t) where
+  pub pick-nay : i ≡ 0 → b ≡ pick t a b
+  pick-nay z = rw (was-nay t _ z e)
+
+  pub pick-yea : (i ≡ 0 → ⊥) → {r : A} → r ≡ a → r ≡ pick t a b
+  pick-yea z f = rw (was-yea t _ z e) f
+
+-- ---- what it says
 
 module _ (b : List ℕ) where
-  pub length-said : length (saidBy b) ≡ 4
-  unfolding saidBy
-  length-said = refl
-
   -- its `stts` is found as the rules say
   pub times-table : {stts : List ℕ} → stts ≡ sampleTable STTS b → Readable b → Table 8 stts × (timed stts ≤ 65536)
   times-table f r = rw f (r .times, r .few)
 
-  pub wrote-said : (out : List ℕ) {stts : List ℕ} {h m s w : ℕ} → stts ≡ sampleTable STTS b → h ≡ handler b → m ≡ mediaTicks stts → s ≡ scale b → w ≡ movieTicks b → 4 ≤ length out
-      → Wrote (saidBy b) out 4 (set (set (set (set out 0 h) 1 m) 2 s) 3 w)
-  unfolding saidBy
-  wrote-said out f h m s w k = record { size = refl; is = rw (h, m, f, s, w) (sets-eq (handler b ∷ mediaTicks (sampleTable STTS b) ∷ scale b ∷ movieTicks b ∷ []) out 0 k) }
+  pub media-is : {stts : List ℕ} → stts ≡ sampleTable STTS b → {r : MediaTicks} → r .0 ≡ mediaTicks stts → r ≡ mediaOf b
+  media-is f e = ap (λ n. record { 0 = n }) (rw f at e)
 
-pub said-as : {b d : List ℕ} → b ≡ d → {out after : List ℕ} {n : ℕ} → Wrote (saidBy b) out n after → Wrote (saidBy d) out n after
-said-as e w = rw e at w
+  pub movie-is : {r : MovieTicks} → r .0 ≡ movieTicks b → r ≡ movieOf b
+  movie-is e = ap (λ n. record { 0 = n }) e
+
+  pub said-is : {h s : ℕ} {m : MediaTicks} {w : MovieTicks} → h ≡ handler b → m ≡ mediaOf b → s ≡ scale b → w .0 ≡ movieTicks b → record { handler = h; media = m; scale = s; movie = w } ≡ saidBy b
+  said-is f g h k = rw (f, g, h, movie-is k)
+
+pub length-said : (s : Said) → length (numbersOf s) ≡ 4
+unfolding numbersOf
+length-said s = refl
+
+pub wrote-said : (s : Said) (out : List ℕ) → 4 ≤ length out → Wrote (numbersOf s) out 4 (set (set (set (set out 0 (s .handler)) 1 (s .media .0)) 2 (s .scale)) 3 (s .movie .0))
+unfolding numbersOf
+wrote-said s out k = record { size = refl; is = sets-eq (s .handler ∷ s .media .0 ∷ s .scale ∷ s .movie .0 ∷ []) out 0 k }
+
+pub said-as : {b d : List ℕ} → b ≡ d → {s : Said} → s ≡ saidBy b → {out left : List ℕ} {n : ℕ} → Wrote (numbersOf s) out n left → Wrote (numbersOf (saidBy d)) out n left
+said-as e f w = rw (f, e) at w
 
 -- ---- the offsets
 

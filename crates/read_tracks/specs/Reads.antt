@@ -1,41 +1,64 @@
 -- "Other reads": how many tracks there are, what a track says, and where its chunks are. Tracks are numbered from 1.
 use Prim.Native.Nat.{ℕ, zero, suc, _-_}
+use mathlib.Core.Bool.{Bool}
 use mathlib.Core.List.{List, [], _∷_, _++_}
-use Rattle.wire.specs.Tests.{ifEq, ifLt}
+use Rattle.wire.specs.Tests.{pick}
+use Rattle.wire.specs.Clauses.{isLe, every}
 use Rattle.codes.specs.Codes.{STTS, STCO}
+use Rattle.movie.specs.declared.MovieTicks.{MovieTicks}
+use Rattle.movie.specs.Movie.{tracks, track, sampleTable, handler, scale, movieTicks}
+use Rattle.sample_tables.specs.declared.time.MediaTicks.{MediaTicks}
 use Rattle.sample_tables.specs.Tables.{items, field}
 use Rattle.sample_tables.specs.Times.{mediaTicks}
-use Rattle.movie.specs.Movie.{tracks, track, sampleTable, handler, scale, movieTicks}
 use Rattle.rule.specs.declared.Answer.{Answer}
-use Rattle.rule.specs.declared.Answer.the-variants.{Done, Refused}
-use Rattle.rule.specs.Answers.{inRoom, outBy}
-use Rattle.judge.specs.Judgement.{judged, whenAccepted}
+use Rattle.rule.specs.declared.Answer.the-variants.{Done}
+use Rattle.rule.specs.Results.{Result}
+use Rattle.judge.specs.Judgement.{judged}
+use Rattle.judge.specs.Calls.{whenAccepted, answerOn, resultOn}
+use Rattle.read_tracks.specs.declared.said.Said.{Said}
+use Rattle.read_tracks.specs.declared.MediaLength.{MediaLength}
+use Rattle.read_tracks.specs.declared.MediaLength.the-variants as media
+use Rattle.read_tracks.specs.declared.MovieLength.{MovieLength}
+use Rattle.read_tracks.specs.declared.MovieLength.the-variants as movie
 
 unfoldable pub tracksAnswer : List ℕ → Answer
-tracksAnswer xs = whenAccepted (judged xs) (Done (tracks xs))
+tracksAnswer xs = answerOn xs (Done (tracks xs))
 
--- 20: "no such entry or track"
-unfoldable pub whenTrack : List ℕ → ℕ → Answer → Answer
-whenTrack xs t a = ifEq t 0 (Refused 20 0) (ifLt (tracks xs) t (Refused 20 0) a)
+-- else 20: "no such entry or track"
+unfoldable pub isTrack : List ℕ → ℕ → Bool
+isTrack xs t = every (isLe 1 t ∷ isLe t (tracks xs) ∷ [])
 
--- the numbers of a track, into a list that is lent: 1 to 10, 20, 25
-unfoldable pub numbersAnswer : List ℕ → ℕ → List ℕ → List ℕ → Answer
-numbersAnswer xs t numbers out = whenAccepted (judged xs) (whenTrack xs t (inRoom numbers out))
+-- the payload of track t
+abbrev pub trackBody : List ℕ → ℕ → List ℕ
+trackBody xs t = track xs (t - 1)
 
--- ---- what a track says
+-- ---- its length: "as media ticks .. and as movie ticks", two units
+
+abbrev pub mediaOf : List ℕ → MediaTicks
+mediaOf b = record { 0 = mediaTicks (sampleTable STTS b) }
+
+abbrev pub movieOf : List ℕ → MovieTicks
+movieOf b = record { 0 = movieTicks b }
+
+unfoldable pub mediaLength : List ℕ → ℕ → MediaLength
+mediaLength xs t = whenAccepted media.Refused (judged xs) (pick (isTrack xs t) (media.Ticks (mediaOf (trackBody xs t))) (media.Refused 20 0))
+
+unfoldable pub movieLength : List ℕ → ℕ → MovieLength
+movieLength xs t = whenAccepted movie.Refused (judged xs) (pick (isTrack xs t) (movie.Ticks (movieOf (trackBody xs t))) (movie.Refused 20 0))
+
+-- ---- what it says
 
 -- of the track with payload b: its handler, its length in media ticks, their time scale, its length in movie ticks
-unfoldable pub saidBy : List ℕ → List ℕ
-saidBy b = handler b ∷ mediaTicks (sampleTable STTS b) ∷ scale b ∷ movieTicks b ∷ []
+abbrev pub saidBy : List ℕ → Said
+saidBy b = record { handler = handler b; media = mediaOf b; scale = scale b; movie = movieOf b }
 
-abbrev pub trackNumbers : List ℕ → ℕ → List ℕ
-trackNumbers xs t = saidBy (track xs (t - 1))
+-- as numbers, for those who have no units
+unfoldable pub numbersOf : Said → List ℕ
+numbersOf s = s .handler ∷ s .media .0 ∷ s .scale ∷ s .movie .0 ∷ []
 
-abbrev pub trackAnswer : List ℕ → ℕ → List ℕ → Answer
-trackAnswer xs t out = numbersAnswer xs t (trackNumbers xs t) out
-
-abbrev pub trackOut : List ℕ → ℕ → List ℕ → List ℕ
-trackOut xs t out = outBy (trackAnswer xs t out) (trackNumbers xs t) out
+-- 20, 25
+unfoldable pub trackResult : List ℕ → ℕ → Result
+trackResult xs t = resultOn xs ((20, isTrack xs t) ∷ []) (numbersOf (saidBy (trackBody xs t)))
 
 -- ---- where its chunks are
 
@@ -48,11 +71,6 @@ offsetsTo stco (suc n) = offsetsTo stco n ++ field 4 0 stco n ∷ []
 unfoldable pub offsetsOf : List ℕ → List ℕ
 offsetsOf b = offsetsTo (sampleTable STCO b) (items (sampleTable STCO b))
 
-abbrev pub offsetNumbers : List ℕ → ℕ → List ℕ
-offsetNumbers xs t = offsetsOf (track xs (t - 1))
-
-abbrev pub offsetsAnswer : List ℕ → ℕ → List ℕ → Answer
-offsetsAnswer xs t list = numbersAnswer xs t (offsetNumbers xs t) list
-
-abbrev pub offsetsOut : List ℕ → ℕ → List ℕ → List ℕ
-offsetsOut xs t list = outBy (offsetsAnswer xs t list) (offsetNumbers xs t) list
+-- 20, 25
+unfoldable pub offsetsResult : List ℕ → ℕ → Result
+offsetsResult xs t = resultOn xs ((20, isTrack xs t) ∷ []) (offsetsOf (trackBody xs t))

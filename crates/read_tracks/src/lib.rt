@@ -1,12 +1,21 @@
 // Other reads of a file: its tracks, what one says, where its chunks are.
-mod numbers;
+mod offset;
+mod said;
 
 use judge::Judgement;
+use movie::MovieTicks;
 use rule::Answer;
+use sample_tables::time::MediaTicks;
 ghost use mathlib.Core.Path.{_≡_};
-ghost use Rattle.rule.specs.Answers.{inRoom, outBy};
+ghost use mathlib.Core.List.{[], _∷_};
+ghost use Rattle.wire.specs.Clauses.{oneIf};
+ghost use Rattle.wire.specs.Tests.{pick};
+ghost use Rattle.rule.specs.Results.{asked, Exact};
+ghost use Rattle.rule.specs.Results.Result.{gives};
 ghost use Rattle.judge.specs.Acceptance.{Meets};
-ghost use Rattle.read_tracks.specs.Reads.{tracksAnswer, whenTrack, trackNumbers, trackAnswer, trackOut, offsetNumbers, offsetsAnswer, offsetsOut};
+ghost use Rattle.read_tracks.specs.declared.MediaLength.the-variants as media;
+ghost use Rattle.read_tracks.specs.declared.MovieLength.the-variants as movie;
+ghost use Rattle.read_tracks.specs.Reads.{tracksAnswer, isTrack, trackBody, mediaOf, movieOf, mediaLength, movieLength, saidBy, numbersOf, trackResult, offsetsOf, offsetsResult};
 
 // How many tracks a file has.
 pub fn tracks(file: &[u8]) -> Answer
@@ -18,26 +27,85 @@ pub fn tracks(file: &[u8]) -> Answer
     }
 }
 
-// The same of a file that is accepted.
-fn track_in(file: &[u8], track: usize, out: &mut [u64]) -> Answer
-    requires { ⌜ Meets (now file) ⌝ }
-    ensures { λ r. ⌜ (r ≡ whenTrack (now (file .entry)) track (inRoom (trackNumbers (now (file .entry)) track) (now (out .entry)))) × (now (out .exit) ≡ outBy r (trackNumbers (now (file .entry)) track) (now (out .entry))) ⌝ }
+// Whether a file has a track of a number, from 1: 1 or 0.
+fn is_track(file: &[u8], track: usize) -> usize
+    ensures { λ r. ⌜ r ≡ oneIf (isTrack (now (file .entry)) track) ⌝ }
 {
-    if track == 0 {
-        return Answer::Refused(20, 0);
+    if track < 1 {
+        return 0;
     }
     if movie::tracks(file) < track {
+        return 0;
+    }
+    1
+}
+
+// A track's length in media ticks, or a refusal.
+pub enum MediaLength {
+    Ticks(MediaTicks),
+    Refused(usize, usize),
+}
+
+fn media_in(file: &[u8], track: usize) -> MediaLength
+    requires { ⌜ Meets (now file) ⌝ }
+    ensures { λ r. ⌜ r ≡ pick (isTrack (now (file .entry)) track) (media.Ticks (mediaOf (trackBody (now (file .entry)) track))) (media.Refused 20 0) ⌝ }
+{
+    if is_track(file, track) == 0 {
+        return MediaLength::Refused(20, 0);
+    }
+    MediaLength::Ticks(said::media(movie::track(file, track - 1)))
+}
+
+pub fn media_ticks(file: &[u8], track: usize) -> MediaLength
+    ensures { λ r. ⌜ r ≡ mediaLength (now (file .entry)) track ⌝ }
+{
+    match judge::judge(file) {
+        Judgement::Accepted => media_in(file, track),
+        Judgement::Refused(n, p) => MediaLength::Refused(n, p),
+    }
+}
+
+// A track's length in movie ticks, or a refusal.
+pub enum MovieLength {
+    Ticks(MovieTicks),
+    Refused(usize, usize),
+}
+
+fn movie_in(file: &[u8], track: usize) -> MovieLength
+    ensures { λ r. ⌜ r ≡ pick (isTrack (now (file .entry)) track) (movie.Ticks (movieOf (trackBody (now (file .entry)) track))) (movie.Refused 20 0) ⌝ }
+{
+    if is_track(file, track) == 0 {
+        return MovieLength::Refused(20, 0);
+    }
+    MovieLength::Ticks(movie::movie_ticks(movie::track(file, track - 1)))
+}
+
+pub fn movie_ticks(file: &[u8], track: usize) -> MovieLength
+    ensures { λ r. ⌜ r ≡ movieLength (now (file .entry)) track ⌝ }
+{
+    match judge::judge(file) {
+        Judgement::Accepted => movie_in(file, track),
+        Judgement::Refused(n, p) => MovieLength::Refused(n, p),
+    }
+}
+
+// Of a file that is accepted.
+fn track_in(file: &[u8], track: usize, out: &mut [u64]) -> Answer
+    requires { ⌜ Meets (now file) ⌝ }
+    ensures { λ r. ⌜ Exact (asked ((20, isTrack (now (file .entry)) track) ∷ []) (gives (numbersOf (saidBy (trackBody (now (file .entry)) track))))) (now (out .entry)) r (now (out .exit)) ⌝ }
+{
+    if is_track(file, track) == 0 {
         return Answer::Refused(20, 0);
     }
     if out.len() < 4 {
         return Answer::Refused(25, 0);
     }
-    Answer::Done(numbers::put_said(movie::track(file, track - 1), out))
+    Answer::Done(said::put(said::read(movie::track(file, track - 1)), out))
 }
 
 // What a track says: its handler, media ticks, time scale and movie ticks.
 pub fn track(file: &[u8], track: usize, out: &mut [u64]) -> Answer
-    ensures { λ r. ⌜ (r ≡ trackAnswer (now (file .entry)) track (now (out .entry))) × (now (out .exit) ≡ trackOut (now (file .entry)) track (now (out .entry))) ⌝ }
+    ensures { λ r. ⌜ Exact (trackResult (now (file .entry)) track) (now (out .entry)) r (now (out .exit)) ⌝ }
 {
     match judge::judge(file) {
         Judgement::Accepted => track_in(file, track, out),
@@ -45,27 +113,24 @@ pub fn track(file: &[u8], track: usize, out: &mut [u64]) -> Answer
     }
 }
 
-// The same of a file that is accepted.
+// Of a file that is accepted.
 fn offsets_in(file: &[u8], track: usize, list: &mut [u32]) -> Answer
     requires { ⌜ Meets (now file) ⌝ }
-    ensures { λ r. ⌜ (r ≡ whenTrack (now (file .entry)) track (inRoom (offsetNumbers (now (file .entry)) track) (now (list .entry)))) × (now (list .exit) ≡ outBy r (offsetNumbers (now (file .entry)) track) (now (list .entry))) ⌝ }
+    ensures { λ r. ⌜ Exact (asked ((20, isTrack (now (file .entry)) track) ∷ []) (gives (offsetsOf (trackBody (now (file .entry)) track)))) (now (list .entry)) r (now (list .exit)) ⌝ }
 {
-    if track == 0 {
-        return Answer::Refused(20, 0);
-    }
-    if movie::tracks(file) < track {
+    if is_track(file, track) == 0 {
         return Answer::Refused(20, 0);
     }
     let stco = movie::table(movie::track(file, track - 1), codes::STCO);
     if list.len() < sample_tables::table::count(stco) {
         return Answer::Refused(25, 0);
     }
-    Answer::Done(numbers::put_offsets(stco, list))
+    Answer::Done(offset::put(stco, list))
 }
 
 // The chunk offsets of a track, in order.
 pub fn offsets(file: &[u8], track: usize, list: &mut [u32]) -> Answer
-    ensures { λ r. ⌜ (r ≡ offsetsAnswer (now (file .entry)) track (now (list .entry))) × (now (list .exit) ≡ offsetsOut (now (file .entry)) track (now (list .entry))) ⌝ }
+    ensures { λ r. ⌜ Exact (offsetsResult (now (file .entry)) track) (now (list .entry)) r (now (list .exit)) ⌝ }
 {
     match judge::judge(file) {
         Judgement::Accepted => offsets_in(file, track, list),

@@ -4,3 +4,4 @@ pub mod Opened
 pub mod Keeping
 pub mod Traverse
 pub mod Answers
+pub mod Results

@@ -3,3 +3,4 @@ pub mod Judge
 pub mod Rule
 pub mod Inner
 pub mod Answers
+pub mod Results

@@ -1,6 +1,6 @@
 use borrow.Author.Needs.{needs}
 use Rattle.brands.specs.Calls.{brandAnswer}
-use Rattle.judge.proofs.Calls.{when-accepted, when-refused}
+use Rattle.judge.proofs.Calls.{answer-accepted, answer-refused}
 use Rattle.rule.specs.declared.Answer.the-variants.{Done}
 use mathlib.Core.Path.{ap}
 use Rattle.brands.proofs.brand.Statement.{statement}
@@ -13,5 +13,5 @@ brand-spec = tie.close (tie.spec
     (λ c. search needs)
     (λ c κs. search needs)
     (λ c. search needs)
-    (λ c. when-accepted _ (c .before .before .before .judge .ensures) _ (c .before .enum-told .given .1) (ap Done (c .brand-holds .ensures)))
-    (λ c. when-refused _ (c .before .before .before .judge .ensures) _ (c .before .n .given .1)))
+    (λ c. answer-accepted _ (c .before .before .before .judge .ensures) _ (c .before .enum-told .given .1) (ap Done (c .brand-holds .ensures)))
+    (λ c. answer-refused _ (c .before .before .before .judge .ensures) _ (c .before .n .given .1)))

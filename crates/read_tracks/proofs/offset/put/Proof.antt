@@ -8,8 +8,8 @@ use lib.ListN.{length, drop, length-set}
 use mathlib.Core.List.{_++_}
 use mathlib.Core.Path.{_≡_}
 use native.Mathlib.Omega.{arith}
-use Rattle.read_tracks.proofs.numbers.put_offsets.Statement.{statement}
-use Rattle.read_tracks.proofs.numbers.put_offsets.Tie as tie
+use Rattle.read_tracks.proofs.offset.put.Statement.{statement}
+use Rattle.read_tracks.proofs.offset.put.Tie as tie
 
 abbrev Inv : tie.InvT-loop
 Inv stco list₀ n i₀ list i = (n ≡ items stco) × (i ≤ n) × (n ≤ length list₀) × (length list ≡ length list₀) × (list ≡ offsetsTo stco i ++ drop i list₀)
@@ -17,8 +17,8 @@ Inv stco list₀ n i₀ list i = (n ≡ items stco) × (i ≤ n) × (n ≤ lengt
 abbrev μ : tie.MeasureT-loop
 μ stco list₀ n i₀ list i = n - i
 
-pub put-offsets-spec : {M : Type 1} → statement M
-put-offsets-spec = tie.close (tie.spec Inv μ
+pub put-spec : {M : Type 1} → statement M
+put-spec = tie.close (tie.spec Inv μ
     (λ c κs. search needs)
     (λ c. (search needs, search needs, search needs, search needs, offsets-none _ _))
     (λ c κs. search needs)

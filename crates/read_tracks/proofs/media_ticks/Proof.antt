@@ -1,0 +1,16 @@
+-- The judgement, and then the media ticks of the track.
+use borrow.Author.Needs.{needs}
+use Rattle.judge.proofs.Calls.{met, when-accepted, when-refused}
+use Rattle.read_tracks.specs.Reads.{mediaLength}
+use Rattle.read_tracks.proofs.media_ticks.Statement.{statement}
+use Rattle.read_tracks.proofs.media_ticks.Tie as tie
+
+pub media-ticks-spec : {M : Type 1} → statement M
+unfolding mediaLength
+media-ticks-spec = tie.close (tie.spec
+    (λ c κs. search needs)
+    (λ c. search needs)
+    (λ c κs. met _ (c .before .before .judge .ensures) (c .enum-told .given .1))
+    (λ c. search needs)
+    (λ c. when-accepted _ (c .before .before .before .judge .ensures) _ _ (c .before .enum-told .given .1) (c .media-in .ensures))
+    (λ c. when-refused _ (c .before .before .before .judge .ensures) _ _ (c .before .n .given .1)))

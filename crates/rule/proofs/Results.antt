@@ -1,0 +1,88 @@
+-- How a call keeps its promise, branch by branch of its code; and what is known of a call that is done. Assumes nothing.
+use Prim.Native.Nat.{ℕ, _≤_, _<_}
+use native.Mathlib.Omega.{arith}
+use mathlib.Core.Path.{_≡_, refl, sym, ap, _∙_}
+use mathlib.Core.Bool.{Bool, true, false}
+use mathlib.Core.List.{List, [], _∷_, _++_, map}
+use mathlib.Core.Logic.{_⊎_, ⊎-elim}
+use lib.ListN.{length, take, drop}
+use lib.Seq.{take-at}
+use Rattle.wire.specs.Clauses.{every, oneIf}
+use Rattle.wire.specs.Writing.{Wrote, Put}
+use Rattle.wire.proofs.Tests.{lt-yea, lt-nay, lt-ways}
+use Rattle.wire.proofs.Clauses.{was-yea, was-nay}
+use Rattle.wire.proofs.Writing.{pen-front}
+use Rattle.rule.specs.declared.Answer.{Answer}
+use Rattle.rule.specs.declared.Answer.the-variants.{Done, Refused}
+use Rattle.rule.specs.Results.{Result, asked, answerIn, leftIn, Exact}
+use Rattle.rule.specs.Results.Result.{gives, refuses}
+
+-- ---- what a call answers
+
+pub exact-refuses : (n p : ℕ) (out : List ℕ) → Exact (refuses n p) out (Refused n p) out
+unfolding answerIn leftIn
+exact-refuses n p out = record { answers = refl; leaves = refl }
+
+pub exact-short : (xs out : List ℕ) → length out < length xs → Exact (gives xs) out (Refused 25 0) out
+unfolding answerIn leftIn
+exact-short xs out h = record { answers = lt-yea _ _ _ _ _ h refl; leaves = lt-yea _ _ _ _ _ h refl }
+
+pub exact-wrote : (xs out : List ℕ) → length xs ≤ length out → {n : ℕ} {left : List ℕ} → Wrote xs out n left → Exact (gives xs) out (Done n) left
+unfolding answerIn leftIn
+exact-wrote xs out h w =
+    record { answers = lt-nay _ _ _ _ _ h (ap Done (w .size)); leaves = lt-nay _ _ _ _ _ h (w .is ∙ ap (λ (m : ℕ). xs ++ drop m out) (w .size)) }
+
+-- a text whose length a total writer told first
+module _ (xs out : List ℕ) {start mid : List ℕ} {n : ℕ} (p : Put xs start 0 n mid) where
+  pub told-short : length out < n → Exact (gives xs) out (Refused 25 0) out
+  told-short h = exact-short xs out (omega (arith, p .next))
+
+  pub told-wrote : n ≤ length out → {r : ℕ} {left : List ℕ} → Put xs out 0 r left → Exact (gives xs) out (Done r) left
+  told-wrote h q = exact-wrote xs out (omega (arith, p .next)) (pen-front q (omega (arith, p .next, q .next)))
+
+-- ---- the tests before it, each told by code as 1 or 0
+
+module _ (n : ℕ) (t : Bool) (ts : List (ℕ × Bool)) (g : Result) (out : List ℕ) where
+  pub asked-nay : {i : ℕ} → i ≡ oneIf t → i ≡ 0 → Exact (asked ((n, t) ∷ ts) g) out (Refused n 0) out
+  unfolding asked
+  asked-nay e z = rw (was-nay t _ z e) (exact-refuses n 0 out)
+
+  pub asked-yea : {i : ℕ} → i ≡ oneIf t → (i ≡ 0 → ⊥) → {r : Answer} {left : List ℕ} → Exact (asked ts g) out r left → Exact (asked ((n, t) ∷ ts) g) out r left
+  unfolding asked
+  asked-yea e z x = rw (was-yea t _ z e) x
+
+pub asked-all : (g : Result) (out : List ℕ) {r : Answer} {left : List ℕ} → Exact g out r left → Exact (asked [] g) out r left
+unfolding asked
+asked-all g out x = x
+
+-- ---- two results that the promise allows are equal
+
+pub one-answer : (g : Result) (out : List ℕ) {r s : Answer} {a b : List ℕ} → Exact g out r a → Exact g out s b → (r ≡ s) × (a ≡ b)
+one-answer g out x y = (x .answers ∙ sym (y .answers), x .leaves ∙ sym (y .leaves))
+
+-- ---- a call that is done
+
+pub refused-not : (k p n : ℕ) → Refused k p ≡ Done n → ⊥
+refused-not k p n e = let z : _≡_ {A = ℕ} 0 1 = cc in omega arith
+
+-- what it was to give stands at the front, as many numbers as it answers
+pub record Gave (xs out : List ℕ) (n : ℕ) : Type 0 where
+  pub size : n ≡ length xs
+  pub taken : take n (leftIn (gives xs) out) ≡ xs
+
+pub gives-done : (xs out : List ℕ) (n : ℕ) → answerIn (gives xs) out ≡ Done n → Gave xs out n
+unfolding answerIn leftIn
+gives-done xs out n e = ⊎-elim (λ w. absurd (refused-not 25 0 n (w .1))) (λ w. fits (w .0) (w .1)) (lt-ways _ _ _ _ _ e)
+  where
+    fits : length xs ≤ length out → Done (length xs) ≡ Done n → Gave xs out n
+    fits h q =
+        let l : n ≡ length xs = cc in
+        let f : leftIn (gives xs) out ≡ xs ++ drop (length xs) out = sym (lt-nay _ _ _ _ _ h refl) in
+        record { size = l; taken = rw f (take-at xs (drop (length xs) out) n (sym l)) }
+
+-- and every test held
+pub asked-done : (ts : List (ℕ × Bool)) (xs out : List ℕ) (n : ℕ) → answerIn (asked ts (gives xs)) out ≡ Done n → (every (map (λ t. t .1) ts) ≡ true) × (asked ts (gives xs) ≡ gives xs)
+unfolding asked every answerIn
+asked-done [] xs out n e = (refl, refl)
+asked-done ((k, true) ∷ ts) xs out n e = asked-done ts xs out n e
+asked-done ((k, false) ∷ ts) xs out n e = absurd (refused-not k 0 n e)

@@ -1,0 +1,34 @@
+-- A call that writes into a room that it was lent: what it comes to, and what every such call promises.
+use Prim.Native.Nat.{ℕ}
+use mathlib.Core.Path.{_≡_}
+use mathlib.Core.Bool.{Bool}
+use mathlib.Core.List.{List, [], _∷_, _++_}
+use lib.ListN.{length, drop}
+use Rattle.wire.specs.Tests.{pick, ifLt}
+use Rattle.rule.specs.declared.Answer.{Answer}
+use Rattle.rule.specs.declared.Answer.the-variants.{Done, Refused}
+
+-- what it is to write, or a refusal with its number and place
+pub data Result : Type 0 where
+  gives : List ℕ → Result
+  refuses : (n p : ℕ) → Result
+
+-- the tests of a call in the paper's order, each with its number: the first that fails is given, and "places for 20 and above are 0"
+unfoldable pub asked : List (ℕ × Bool) → Result → Result
+asked [] g = g
+asked (t ∷ ts) g = pick (t .1) (asked ts g) (refuses (t .0) 0)
+
+-- the answer; last of all 25: "the lent output is shorter than the result"
+unfoldable pub answerIn : Result → List ℕ → Answer
+answerIn (gives xs) out = ifLt (length out) (length xs) (Refused 25 0) (Done (length xs))
+answerIn (refuses n p) out = Refused n p
+
+-- "A refusal writes nothing. Success writes the result and nothing beyond it."
+unfoldable pub leftIn : Result → List ℕ → List ℕ
+leftIn (gives xs) out = ifLt (length out) (length xs) out (xs ++ drop (length xs) out)
+leftIn (refuses n p) out = out
+
+-- the promise: the answer, and all that the room then holds
+pub record Exact (g : Result) (out : List ℕ) (r : Answer) (left : List ℕ) : Type 0 where
+  pub answers : r ≡ answerIn g out
+  pub leaves : left ≡ leftIn g out
