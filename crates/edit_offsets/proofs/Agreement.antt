@@ -15,7 +15,7 @@ use Rattle.mdat.specs.Payloads.{inAt}
 use Rattle.rule.specs.Rule.{allIn}
 use Rattle.rule.proofs.Opened.{opened, closed}
 use Rattle.rule.proofs.Keeping.{keep}
-use Rattle.rule_shape.specs.Rules.{threeRule}
+use Rattle.rule_shape.specs.Three.{threeRule}
 use Rattle.rule_tracks.specs.Six.{sixRule}
 use Rattle.rule_tracks.specs.Seven.{sevenRule}
 use Rattle.rule_tracks.specs.Eight.{eightRule}

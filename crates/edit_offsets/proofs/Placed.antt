@@ -20,8 +20,7 @@ use Rattle.mdat.specs.Payloads.{inAt}
 use Rattle.mdat.specs.Rules.{chunkIn}
 use Rattle.mdat.proofs.Eight.{eight-at}
 use Rattle.rule.proofs.Opened.{opened}
-use Rattle.rule_shape.specs.Shape.{needed}
-use Rattle.rule_shape.specs.Rules.{threeRule}
+use Rattle.rule_shape.specs.Three.{needed, threeRule}
 use Rattle.rule_shape.proofs.Needs.{shape-one}
 use Rattle.rule_tracks.proofs.Chunked.{Chunked, stbl-six, stbl-eight}
 use Rattle.edit_offsets.proofs.Offsets.{agreeOn}

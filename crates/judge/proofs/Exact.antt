@@ -18,7 +18,8 @@ use Rattle.rule.specs.Judge.{Judge}
 use Rattle.rule.specs.Rule.{Rule, Says}
 use Rattle.rule.proofs.Places.{placed-says}
 use Rattle.rule.proofs.Acceptance.{fine-all, all-fine}
-use Rattle.rule_shape.specs.Rules.{twoRule, threeRule}
+use Rattle.rule_shape.specs.Two.{twoRule}
+use Rattle.rule_shape.specs.Three.{threeRule}
 use Rattle.rule_lists.specs.Rules.{fiveRule, nineRule}
 use Rattle.rule_lists.proofs.Rules.{five-says, nine-says}
 use Rattle.rule_headers.specs.Four.{fourRule}

@@ -7,7 +7,9 @@ use lib.ListN.{length}
 use Rattle.boxes.specs.Boxes.{boxes}
 use Rattle.boxes.specs.Containers.{FILE, DEPTH, LONGEST}
 use Rattle.rule.specs.Rule.{Rule, allIn}
-use Rattle.rule_shape.specs.Rules.{twoRule, threeRule, editableRule}
+use Rattle.rule_shape.specs.Two.{twoRule}
+use Rattle.rule_shape.specs.Three.{threeRule}
+use Rattle.rule_shape.specs.TwentyThree.{editableRule}
 use Rattle.rule_lists.specs.Rules.{fiveRule, nineRule}
 use Rattle.rule_headers.specs.Four.{fourRule}
 use Rattle.rule_tracks.specs.Six.{sixRule}

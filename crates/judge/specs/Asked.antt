@@ -7,7 +7,9 @@ use Rattle.boxes.specs.Boxes.{boxes}
 use Rattle.rule.specs.declared.Verdict.{Verdict}
 use Rattle.rule.specs.declared.Verdict.the-variants.{Fine, Bad}
 use Rattle.rule.specs.Judge.{Judge}
-use Rattle.rule_shape.specs.Rules.{two, three, editableJudge}
+use Rattle.rule_shape.specs.Two.{two}
+use Rattle.rule_shape.specs.Three.{three}
+use Rattle.rule_shape.specs.TwentyThree.{editableJudge}
 use Rattle.rule_lists.specs.Rules.{five, nine}
 use Rattle.rule_headers.specs.Four.{four}
 use Rattle.rule_tracks.specs.Six.{six}

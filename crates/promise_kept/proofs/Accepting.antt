@@ -10,8 +10,9 @@ use Rattle.boxes.specs.Box.{Box, write}
 use Rattle.boxes.specs.Boxes.{boxes}
 use Rattle.boxes.specs.Containers.{FILE, DEPTH, LONGEST}
 use Rattle.rule.specs.Rule.{Rule}
-use Rattle.rule_shape.specs.Shape.{needed, besides, shape}
-use Rattle.rule_shape.specs.Rules.{twoRule, threeRule, editableRule}
+use Rattle.rule_shape.specs.Three.{needed, besides, shape, threeRule}
+use Rattle.rule_shape.specs.Two.{twoRule}
+use Rattle.rule_shape.specs.TwentyThree.{editableRule}
 use Rattle.rule_shape.proofs.Keeping.{same-exactly, kin-2, kin-3, kin-plain}
 use Rattle.rule_lists.specs.Rules.{fiveRule, nineRule}
 use Rattle.rule_lists.proofs.Keeping.{kin-5, kin-9}

@@ -26,7 +26,7 @@ use Rattle.entry_rules.specs.Decoders.{boxRule, strayModes, periodRule, framesR
 use Rattle.entry_rules.specs.Entries.{trackRule, esdsRule, avcRule, insideRule, ruleAs, entryRule}
 use Rattle.rule.specs.Judge.{judgeList, judgeBox, judgeIn}
 use Rattle.rule.specs.Verdict.{sooner, unless}
-use Rattle.rule_shape.specs.Shape.{needed, exactly, first, besides, shape}
+use Rattle.rule_shape.specs.Three.{needed, exactly, first, besides, shape}
 use Rattle.rule_lists.specs.Forms.{listForm, formIn}
 use Rattle.rule_lists.specs.Totals.{follow, brokenAt, entriesOf, entries, overMost}
 use Rattle.rule_lists.specs.Urls.{isUrl}

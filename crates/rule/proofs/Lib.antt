@@ -4,3 +4,5 @@ pub mod Opened
 pub mod Keeping
 pub mod Traverse
 pub mod Answers
+pub mod Alike
+pub mod Bounds

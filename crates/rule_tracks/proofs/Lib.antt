@@ -3,3 +3,4 @@ pub mod Kept
 pub mod Chunks
 pub mod KeptEight
 pub mod Chunked
+pub mod Asked
