@@ -1,3 +1,4 @@
+pub mod One
 pub mod Answers
 pub mod Order
 pub mod Exact

@@ -1,3 +1,5 @@
+pub mod One
 pub mod Judgement
 pub mod Acceptance
 pub mod Asked
+pub mod Refusal

@@ -4,3 +4,4 @@ pub mod Chunks
 pub mod KeptEight
 pub mod Chunked
 pub mod Asked
+pub mod Bounded
