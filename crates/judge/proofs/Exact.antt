@@ -44,7 +44,7 @@ pub data Say : List Judge → List Rule → Type 0 where
   more : {j : Judge} {r : Rule} {js : List Judge} {rs : List Rule} → Says j r → Say js rs → Say (j ∷ js) (r ∷ rs)
 
 -- rules that all hold of a file
-data Hold (xs : List ℕ) : List Rule → Type 0 where
+pub data Hold (xs : List ℕ) : List Rule → Type 0 where
   nil : Hold xs []
   cons : {r : Rule} {rs : List Rule} → Holds r xs → Hold xs rs → Hold xs (r ∷ rs)
 
@@ -72,7 +72,7 @@ all-meet xs (cons b (cons c (cons d (cons e (cons f (cons g (cons h (cons i (con
     let a = holds-one xs b in
     record { least = a .0; most = a .1; two = c; three = d; four = e; five = f; six = g; seven = h; eight = i; nine = j; ten = k }
 
-meet-all : (xs : List ℕ) → Meets xs → Hold xs (rules (boxes xs))
+pub meet-all : (xs : List ℕ) → Meets xs → Hold xs (rules (boxes xs))
 meet-all xs m =
     cons (one-holds xs (m .least) (m .most)) (cons (m .two) (cons (m .three) (cons (m .four) (cons (m .five) (cons (m .six) (cons (m .seven) (cons (m .eight) (cons (m .nine) (cons (m .ten) nil)))))))))
 
