@@ -1,5 +1,5 @@
 -- Rules 5, 9 and 10 name places of what they judge. Assumes nothing.
-use Prim.Native.Nat.{ℕ, _+_, _≤_, _<_}
+use Prim.Native.Nat.{ℕ, _+_, _≤_}
 use native.Mathlib.Omega.{arith}
 use mathlib.Core.Path.{_≡_, refl, subst}
 use mathlib.Core.List.{List, [], _∷_}
@@ -20,7 +20,7 @@ use Rattle.rule.specs.Inner.{inFirst}
 use Rattle.rule.proofs.Bounds.{named, Bounded, unless-most, if-most, list-most}
 use Rattle.rule_lists.specs.Forms.{formIn}
 use Rattle.rule_lists.specs.Totals.{MOST, toStsd, brokenAt, entriesOf, overMost}
-use Rattle.rule_lists.specs.Urls.{isUrl, urlAt, urlsOf}
+use Rattle.rule_lists.specs.Urls.{isUrl, urlAt}
 use Rattle.rule_lists.specs.Rules.{five, nine}
 use Rattle.rule_entries.specs.Ten.{stsd, aroundIn, stsdStart, entryFine, entriesFrom, tenAt, ten}
 

@@ -14,19 +14,15 @@ use Rattle.rule.proofs.Places.{placed-says}
 use Rattle.rule.proofs.Acceptance.{fine-all, all-fine}
 use Rattle.rule_shape.specs.Two.{twoRule}
 use Rattle.rule_shape.specs.Three.{threeRule}
-use Rattle.rule_lists.specs.Rules.{fiveRule, nineRule}
 use Rattle.rule_lists.proofs.Rules.{five-says, nine-says}
-use Rattle.rule_headers.specs.Four.{fourRule}
 use Rattle.rule_headers.proofs.Rule4.{four-says}
 use Rattle.rule_tracks.specs.Six.{sixRule}
 use Rattle.rule_tracks.specs.Seven.{sevenRule}
-use Rattle.rule_tracks.specs.Eight.{eightRule}
 use Rattle.rule_tracks.proofs.KeptEight.{eight-says}
-use Rattle.rule_entries.specs.Ten.{tenRule}
 use Rattle.rule_entries.proofs.Kept.{ten-says}
 use Rattle.judge.specs.One.{oneRule}
 use Rattle.judge.specs.declared.Judgement.{Judgement}
-use Rattle.judge.specs.declared.Judgement.the-variants.{Accepted, Refused}
+use Rattle.judge.specs.declared.Judgement.the-variants.{Accepted}
 use Rattle.judge.specs.Judgement.{judges, verdictBy, unlessBroken, judgedFrom, judged}
 use Rattle.judge.specs.Acceptance.{Holds, rules, Meets}
 use Rattle.judge.proofs.One.{one-holds, holds-one}

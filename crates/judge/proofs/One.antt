@@ -9,7 +9,6 @@ use lib.ListN.{length}
 use Rattle.wire.specs.Tests.{ifEq}
 use Rattle.wire.proofs.Tests.{eq-yea, eq-nay, eq-ways}
 use Rattle.wire.proofs.Clauses.{is-le, not-le, le-is, clause, fails, holds, done}
-use Rattle.boxes.specs.Boxes.{boxes}
 use Rattle.boxes.specs.Containers.{FILE, LONGEST, parent, kindIn}
 use Rattle.boxes.proofs.Reading.{heads}
 use Rattle.boxes.proofs.Every.{all-map}

@@ -10,18 +10,15 @@ use Rattle.boxes.specs.Box.{Box}
 use Rattle.boxes.proofs.Reading.{All, Headed}
 use Rattle.sample_tables.specs.Tables.{items}
 use Rattle.sample_tables.specs.Chunks.{offsetAt, chunkAt, extentOf, extentAt}
-use Rattle.sample_tables.specs.Rules.{Seven}
 use Rattle.sample_tables.specs.declared.chunk.Chunk.{Chunk}
 use Rattle.sample_tables.specs.declared.chunk.Extent.{Extent}
 use Rattle.sample_tables.proofs.Chunks.{first-more, first-mono}
+use Rattle.sample_tables.proofs.Rules.{extent-offset}
 use Rattle.mdat.specs.Payloads.{inAt}
 use Rattle.mdat.specs.Rules.{lies, chunkIn, chunksIn, chunksLie, Ready}
-use Rattle.mdat.proofs.Inside.{lies-in}
+use Rattle.mdat.proofs.Inside.{lies-at}
 
 -- ---- the tables
-
-pub ready : {stts stsc stsz stco : List ℕ} → Seven stts stsc stsz stco → Ready stsc stco
-ready s = record { walk = s .walk; few = rw (s .total) (s .few) }
 
 pub ready-few : {stsc stco : List ℕ} → Ready stsc stco → (k : ℕ) (c : Chunk) → c ≡ chunkAt stsc stco k → k < items stco → c .first + c .samples ≤ 65536
 unfolding chunkAt
@@ -58,5 +55,5 @@ module _ (l : List Box) (stsc stsz stco : List ℕ) where
 
   -- where relocation finds it
   pub chunk-in : All Headed l → (k : ℕ) → chunkIn l stsc stsz stco k ≡ true → inAt l (offsetAt stco k) (extentAt stsc stsz stco k .bytes) ≡ true
-  unfolding chunkIn extentOf chunkAt
-  chunk-in a k e = sym (lies-in a _ _) ∙ e
+  unfolding chunkIn
+  chunk-in a k e = rw (extent-offset stsc stsz stco k) at (sym (lies-at a _ _) ∙ e)

@@ -126,5 +126,5 @@ lies-from (some {x} {l} g a) p o n =
     (λ k. lies-here x l p (p + o) n a (omega arith) ∙ held-shift p (x .code) (x .head) (size x) o n ∙ sym (in-here x l o n k))
 
 -- rule 8 holds of a place exactly where it resolves and fits
-pub lies-in : {l : List Box} → All Headed l → (o n : ℕ) → lies l 0 o n ≡ inAt l o n
-lies-in {l} a o n = let z : o ≡ 0 + o = omega arith in ap (λ (q : ℕ). lies l 0 q n) z ∙ lies-from a 0 o n
+pub lies-at : {l : List Box} → All Headed l → (o n : ℕ) → lies l 0 o n ≡ inAt l o n
+lies-at {l} a o n = let z : o ≡ 0 + o = omega arith in ap (λ (q : ℕ). lies l 0 q n) z ∙ lies-from a 0 o n

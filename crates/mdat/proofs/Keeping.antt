@@ -20,7 +20,7 @@ use Rattle.mdat.specs.Payloads.{mdats}
 use Rattle.mdat.specs.Relocate.{Relocated}
 use Rattle.mdat.specs.Rules.{chunkIn, chunksLie}
 use Rattle.mdat.specs.Samples.{joinTo, sampleIn, chunkSamples, samplesOf}
-use Rattle.mdat.proofs.Inside.{lies-in}
+use Rattle.mdat.proofs.Inside.{lies-at}
 use Rattle.mdat.proofs.Eight.{eight-at, eight-of, chunk-in}
 use Rattle.mdat.proofs.Relocating.{relocate-in, relocate-bytes}
 
@@ -65,7 +65,7 @@ module _ (l m : List Box) (same : mdats l ≡ mdats m) (f : All Headed l) (g : A
   eight-kept e =
       eight-of m stsc stsz p (λ k h.
       let n : k < items o = omega (arith, r .same) in
-      rw (r .offsets k n) (lies-in (all-map (λ x q. q .head) g) _ _ ∙ relocate-in l m same g _ _ (chunk-in l stsc stsz o f k (eight-at l stsc stsz o e k n))))
+      rw (r .offsets k n) (lies-at (all-map (λ x q. q .head) g) _ _ ∙ relocate-in l m same g _ _ (chunk-in l stsc stsz o f k (eight-at l stsc stsz o e k n))))
 
   pub samples-kept : All Good l → chunksLie l stsc stsz o ≡ true → samplesOf (write l) stsc stsz o ≡ samplesOf (write m) stsc stsz p
   unfolding samplesOf extentOf chunkAt

@@ -1,4 +1,3 @@
-pub mod Numbers
 pub mod Asking
 pub mod Answering
 pub mod Parts

@@ -10,7 +10,6 @@ use Rattle.boxes.proofs.Reading.{All}
 use Rattle.boxes.proofs.Reading.All.{none, some}
 use Rattle.boxes.proofs.Every.{all-map}
 use Rattle.rule.specs.declared.Verdict.{Verdict}
-use Rattle.rule.specs.Verdict.{sooner}
 use Rattle.rule.specs.Judge.{Judge, judgeList, judgeBox, judgeIn}
 
 list-same : (f g : Box → ℕ → Verdict) (e : ℕ → Verdict) {l : List Box} → All (λ x. (p : ℕ) → f x p ≡ g x p) l → (p : ℕ) → judgeList f e l p ≡ judgeList g e l p

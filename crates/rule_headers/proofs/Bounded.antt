@@ -1,7 +1,6 @@
 -- Rule 4 names places of what it judges. Assumes nothing.
 use Prim.Native.Nat.{ℕ, zero, suc, _+_, _≤_}
 use native.Mathlib.Omega.{arith}
-use mathlib.Core.Path.{_≡_}
 use mathlib.Core.List.{List}
 use lib.ListN.{length}
 use Rattle.codes.specs.Codes.{MOOV, TRAK, TKHD}

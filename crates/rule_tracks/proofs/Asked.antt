@@ -12,9 +12,8 @@ use Rattle.boxes.specs.Boxes.{boxes}
 use Rattle.boxes.specs.Containers.{parent, kindIn}
 use Rattle.boxes.proofs.Reading.{All}
 use Rattle.boxes.proofs.Every.{all-with}
-use Rattle.rule.specs.declared.Verdict.{Verdict}
 use Rattle.rule.specs.Verdict.{unless}
-use Rattle.rule.specs.Judge.{Judge, judgeIn}
+use Rattle.rule.specs.Judge.{judgeIn}
 use Rattle.rule.specs.Rule.{allIn}
 use Rattle.rule.proofs.Opened.{opened}
 use Rattle.rule.proofs.Alike.{same-verdict}
@@ -22,7 +21,7 @@ use Rattle.rule_shape.specs.Three.{needed}
 use Rattle.rule_shape.proofs.Descent.{Met, met-inside, needed-leaf}
 use Rattle.rule_tracks.specs.Six.{tableFine, tableIn, sixRule}
 use Rattle.rule_tracks.specs.Seven.{sevenHolds, sevenIn, sevenRule, seven}
-use Rattle.rule_tracks.specs.Eight.{eightHolds, eightAt, eight}
+use Rattle.rule_tracks.specs.Eight.{eightAt, eight}
 use Rattle.rule_tracks.specs.Asked.{sixHolds, sevenAsked, eightAsked, sevenAskedIn, eightAskedAt, askedSeven, askedEight}
 
 -- the tables of an `stbl` have their lengths where rules 3 and 6 hold of it

@@ -1,7 +1,5 @@
 -- Rule 8 names a place of the `stbl` that it judges. Assumes nothing.
-use Prim.Native.Nat.{ℕ, _+_, _≤_}
 use native.Mathlib.Omega.{arith}
-use mathlib.Core.Path.{_≡_}
 use mathlib.Core.List.{List}
 use Rattle.codes.specs.Codes.{STBL, STCO}
 use Rattle.boxes.specs.Box.{Box}

@@ -11,7 +11,6 @@ use Rattle.wire.proofs.Tests.{eq-yea, eq-nay}
 use Rattle.boxes.specs.Box.{Box}
 use Rattle.boxes.specs.Boxes.{boxes}
 use Rattle.boxes.specs.Seek.{find, placeIn}
-use Rattle.sample_tables.specs.Rules.{tablesAgree}
 use Rattle.sample_tables.proofs.Rules.{seven-is}
 use Rattle.mdat.specs.Rules.{chunksLie, Ready}
 use Rattle.rule.specs.declared.Verdict.the-variants.{Fine, Bad}
