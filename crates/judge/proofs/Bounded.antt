@@ -26,7 +26,8 @@ use Rattle.rule_entries.specs.Ten.{stsd, aroundIn, stsdStart, entryFine, entrie
 
 -- ---- a list of boxes behind the first n bytes of a payload that starts at q
 
-listed-most : (f : Box → ℕ → Verdict) → ((x : Box) (p : ℕ) → named (f x p) ≤ p + size x) → (n : ℕ) (b : List ℕ) (q : ℕ) → named (judgeList f (λ i. Fine) (boxes (drop n b)) (q + n)) ≤ q + length b
+listed-most : (f : Box → ℕ → Verdict) → ((x : Box) (p : ℕ) → named (f x p) ≤ p + size x)
+    → (n : ℕ) (b : List ℕ) (q : ℕ) → named (judgeList f (λ i. Fine) (boxes (drop n b)) (q + n)) ≤ q + length b
 unfolding judgeList
 listed-most f h n b q =
     lt-or (length b) n
@@ -45,7 +46,8 @@ broken-most : (cs : List ℕ) (b : List ℕ) (p q : ℕ) → p ≤ q → named (
 unfolding brokenAt
 broken-most [] b p q h = omega arith
 broken-most (c ∷ cs) b p q h =
-    first-most (q + length b) c (λ d i j. brokenAt cs d i j) (λ x i. omega (arith, broken-most cs (x .body) i (i + x .head) (omega arith))) (boxes b) q (omega (arith, total-is b))
+    first-most (q + length b) c (λ d i j. brokenAt cs d i j)
+    (λ x i. omega (arith, broken-most cs (x .body) i (i + x .head) (omega arith))) (boxes b) q (omega (arith, total-is b))
 
 over-most : (m most n : ℕ) (l : List Box) (p : ℕ) → p + total l ≤ m → named (overMost most n l p) ≤ m
 unfolding overMost total
@@ -68,7 +70,9 @@ five-bounded =
 pub nine-bounded : Bounded nine
 nine-bounded =
     record {
-      leaf = λ k c b p q h. if-most _ k DINF _ (if-most _ c DREF _ (listed-most urlAt (λ x i. unless-most _ (isUrl (x .code) (x .body)) i (omega arith)) FRONT b q));
+      leaf = λ k c b p q h.
+          if-most _ k DINF _ (if-most _ c DREF _
+          (listed-most urlAt (λ x i. unless-most _ (isUrl (x .code) (x .body)) i (omega arith)) FRONT b q));
       node = λ k xs home p h. omega arith;
       end = λ xs p. omega arith;
     }
@@ -89,6 +93,11 @@ ten-bounded =
       leaf = λ k c b p q h. omega arith;
       node = λ k xs home p h.
           if-most _ k MDIA _
-          (omega (arith, stsd-most xs p, listed-most (λ x i. unless (entryFine (aroundIn (boxes xs)) x) i) (λ x i. unless-most _ (entryFine (aroundIn (boxes xs)) x) i (omega arith)) FRONT (stsd (boxes xs)) (stsdStart (boxes xs) p)));
+          (omega (
+            arith,
+            stsd-most xs p,
+            listed-most (λ x i. unless (entryFine (aroundIn (boxes xs)) x) i)
+                (λ x i. unless-most _ (entryFine (aroundIn (boxes xs)) x) i (omega arith)) FRONT (stsd (boxes xs)) (stsdStart (boxes xs) p),
+          ));
       end = λ xs p. omega arith;
     }

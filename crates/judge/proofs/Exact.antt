@@ -70,7 +70,8 @@ all-meet xs (cons b (cons c (cons d (cons e (cons f (cons g (cons h (cons i (con
 
 pub meet-all : (xs : List ℕ) → Meets xs → Hold xs (rules (boxes xs))
 meet-all xs m =
-    cons (one-holds xs (m .least) (m .most)) (cons (m .two) (cons (m .three) (cons (m .four) (cons (m .five) (cons (m .six) (cons (m .seven) (cons (m .eight) (cons (m .nine) (cons (m .ten) nil)))))))))
+    cons (one-holds xs (m .least) (m .most)) (cons (m .two) (cons (m .three) (cons (m .four) (cons (m .five)
+    (cons (m .six) (cons (m .seven) (cons (m .eight) (cons (m .nine) (cons (m .ten) nil)))))))))
 
 -- ---- demand 2
 

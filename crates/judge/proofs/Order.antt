@@ -55,7 +55,11 @@ as-read : (xs : List ℕ) → judged xs ≡ judgedFrom 1 (one ∷ readJudges (bo
 unfolding judged judgedFrom
 as-read xs =
     read 1 _ _ _ (λ e. read 2 _ _ _ (λ e. read 3 _ _ _ (λ e3. read 4 _ _ _ (λ e. read 5 _ _ _ (λ e. read 6 _ _ _ (λ e6.
-    let m : Met sixRule DEPTH FILE xs = record { three = fine-all three threeRule (placed-says threeRule) DEPTH FILE xs 0 0 e3; rule = fine-all six sixRule (placed-says sixRule) DEPTH FILE xs 0 0 e6 } in
+    let m : Met sixRule DEPTH FILE xs =
+    record {
+      three = fine-all three threeRule (placed-says threeRule) DEPTH FILE xs 0 0 e3;
+      rule = fine-all six sixRule (placed-says sixRule) DEPTH FILE xs 0 0 e6;
+    } in
     rw (seven-asked DEPTH FILE xs 0 0 m) (read 7 _ _ _ (λ e7.
     rw (eight-asked (boxes xs) DEPTH FILE xs 0 0 (record { six = m; seven = fine-all seven sevenRule (placed-says sevenRule) DEPTH FILE xs 0 0 e7 }))))))))))
 

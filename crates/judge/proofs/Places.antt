@@ -33,8 +33,8 @@ data AllBounded : List Judge → Type 0 where
 
 all-bounded : (l : List Box) → AllBounded (judges l)
 all-bounded l =
-    more (placed-bounded oneRule) (more (placed-bounded twoRule) (more (placed-bounded threeRule) (more four-bounded (more five-bounded (more (placed-bounded sixRule)
-    (more (placed-bounded sevenRule) (more (eight-bounded l) (more nine-bounded (more ten-bounded none)))))))))
+    more (placed-bounded oneRule) (more (placed-bounded twoRule) (more (placed-bounded threeRule) (more four-bounded (more five-bounded
+    (more (placed-bounded sixRule) (more (placed-bounded sevenRule) (more (eight-bounded l) (more nine-bounded (more ten-bounded none)))))))))
 
 first-most : (m n : ℕ) (v : Verdict) (j : Judgement) → named v ≤ m → judgedPlace j ≤ m → judgedPlace (unlessBroken n v j) ≤ m
 unfolding unlessBroken
@@ -44,7 +44,9 @@ first-most m n (Bad p) j h g = h
 from-most : {js : List Judge} → AllBounded js → (n : ℕ) (xs : List ℕ) → judgedPlace (judgedFrom n js xs) ≤ length xs
 unfolding judgedFrom
 from-most none n xs = omega arith
-from-most (more {j} {js} b a) n xs = first-most (length xs) n (verdictBy j xs) (judgedFrom (n + 1) js xs) (omega (arith, judge-most j b DEPTH FILE xs 0 0 (omega arith))) (from-most a (n + 1) xs)
+from-most (more {j} {js} b a) n xs =
+    first-most (length xs) n (verdictBy j xs) (judgedFrom (n + 1) js xs)
+    (omega (arith, judge-most j b DEPTH FILE xs 0 0 (omega arith))) (from-most a (n + 1) xs)
 
 -- ---- the judgement of any file
 

@@ -88,8 +88,11 @@ refused-breaks xs n p e =
 pub refused-length : (xs : List ℕ) (p : ℕ) → judged xs ≡ Refused 1 p → (p ≡ 0) × (8 ≤ length xs → length xs ≤ LONGEST → ⊥)
 refused-length xs p e =
     let b = refused-breaks xs 1 p e in
-    let out : 8 ≤ length xs → length xs ≤ LONGEST → ⊥ = λ g l. b .broken (one-holds xs g l) in
-    (lt-or (length xs) 8 (λ h. bad-same (b .first) (one-short xs h)) (λ g. lt-or LONGEST (length xs) (λ h. bad-same (b .first) (one-long xs h)) (λ l. absurd (out g l))), out)
+    let out : 8 ≤ length xs → length xs ≤ LONGEST → ⊥ = λ g l. b .broken (one-holds xs g l) in (
+      lt-or (length xs) 8 (λ h. bad-same (b .first) (one-short xs h))
+          (λ g. lt-or LONGEST (length xs) (λ h. bad-same (b .first) (one-long xs h)) (λ l. absurd (out g l))),
+      out,
+    )
 
 -- and back: the first rule that is broken is the one that is told
 hold-at : {xs : List ℕ} {rs : List Rule} → Hold xs rs → (i : ℕ) → i < length rs → Holds (getD rs i tenRule) xs
@@ -107,4 +110,5 @@ breaks-refused xs n p b = go (judged xs) refl
     go Accepted e = absurd (b .broken (hold-at (meet-all xs (accepted-meets xs e)) (n - 1) (omega (arith, b .least, b .most))))
     go (Refused m q) e =
         let c = refused-breaks xs m q e in
-        lt-or n m (λ h. absurd (b .broken (c .below n (b .least) h))) (λ g. lt-or m n (λ h. absurd (c .broken (b .below m (c .least) h))) (λ l. same m q (omega arith) c))
+        lt-or n m (λ h. absurd (b .broken (c .below n (b .least) h)))
+        (λ g. lt-or m n (λ h. absurd (c .broken (b .below m (c .least) h))) (λ l. same m q (omega arith) c))

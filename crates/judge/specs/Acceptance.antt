@@ -27,6 +27,7 @@ Holds r xs = allIn r DEPTH FILE xs ≡ true
 abbrev pub rules : List Box → List Rule
 rules l = oneRule ∷ twoRule ∷ threeRule ∷ fourRule ∷ fiveRule ∷ sixRule ∷ sevenRule ∷ eightRule l ∷ nineRule ∷ tenRule ∷ []
 
+-- each of them, rule 1 as the two facts of the length
 pub record Meets (xs : List ℕ) : Type 0 where
   pub least : 8 ≤ length xs
   pub most : length xs ≤ LONGEST

@@ -48,6 +48,7 @@ unfoldable pub judgedFrom : ℕ → List Judge → List ℕ → Judgement
 judgedFrom n [] xs = Accepted
 judgedFrom n (j ∷ js) xs = unlessBroken n (verdictBy j xs) (judgedFrom (n + 1) js xs)
 
+-- all of them
 unfoldable pub judged : List ℕ → Judgement
 judged xs = judgedFrom 1 (judges (boxes xs)) xs
 

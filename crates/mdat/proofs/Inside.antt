@@ -43,7 +43,9 @@ held-shift p code start end o n = rw (le-shift start o, same) refl
 lies-before : {l : List Box} → All Headed l → (p o n : ℕ) → o ≤ p → lies l p o n ≡ false
 unfolding lies
 lies-before none p o n h = refl
-lies-before (some {x} {l} g a) p o n h = rw (← fails 1 (isEq (x .code) MDAT ∷ isLe (p + x .head) o ∷ isLe (o + n) (p + size x) ∷ []) (not-le _ _ (omega arith))) (lies-before a (p + size x) o n (omega arith))
+lies-before (some {x} {l} g a) p o n h =
+    rw (← fails 1 (isEq (x .code) MDAT ∷ isLe (p + x .head) o ∷ isLe (o + n) (p + size x) ∷ []) (not-le _ _ (omega arith)))
+    (lies-before a (p + size x) o n (omega arith))
 
 module _ (x : Box) (l : List Box) (p o n : ℕ) where
   -- up to its end the first box decides

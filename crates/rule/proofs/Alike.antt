@@ -33,7 +33,8 @@ module _ (i j : ℕ → List ℕ → ℕ → ℕ → Verdict) (leaf : ℕ → �
   same-verdict (suc d) k xs home p h =
       rw (
         node d k xs home p h,
-        list-same (judgeBox one (judgeIn one d) k) (judgeBox other (judgeIn other d) k) (end (after xs)) (all-map (λ x t q.
+        list-same (judgeBox one (judgeIn one d) k) (judgeBox other (judgeIn other d) k) (end (after xs))
+            (all-map (λ x t q.
             eq-or (kindIn k (x .code)) 0
             (λ z. sym (eq-yea _ _ _ _ _ z refl) ∙ eq-yea _ _ _ _ _ z refl)
             (λ z. sym (eq-nay _ _ _ _ _ z refl) ∙ same-verdict d (kindIn k (x .code)) (x .body) q (q + x .head) (t z) ∙ eq-nay _ _ _ _ _ z refl)) (inside d k xs h)) p,

@@ -71,7 +71,8 @@ module _ (j : Judge) (b : Bounded j) where
   judge-most zero k xs home p h = omega arith
   judge-most (suc d) k xs home p h =
       let t = total-is xs in
-      sooner-most (p + length xs) (j .node k xs home p) (judgeList (judgeBox j (judgeIn j d) k) (j .end (after xs)) (boxes xs) p) (b .node k xs home p h)
+      sooner-most (p + length xs) (j .node k xs home p) (judgeList (judgeBox j (judgeIn j d) k) (j .end (after xs)) (boxes xs) p)
+      (b .node k xs home p h)
       (list-most (p + length xs) (judgeBox j (judgeIn j d) k) (j .end (after xs))
       (λ x q. eq-any (λ v. named v ≤ q + size x) (kindIn k (x .code)) 0 _ _
       (omega (arith, b .leaf k (x .code) (x .body) q (q + x .head) (omega arith))) (omega (arith, judge-most d (kindIn k (x .code)) (x .body) q (q + x .head) (omega arith))))

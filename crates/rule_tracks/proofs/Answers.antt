@@ -46,6 +46,7 @@ module _ (l : List Box) where
   unfolding sevenAsked
   seven-shut e = rw e (yea true refl)
 
-  pub seven-open : {r : ℕ} → sixHolds l ≡ true → r ≡ oneIf (tablesAgree (find STTS l) (find STSC l) (find STSZ l) (find STCO l) (word 4 (find STSD l) 4)) → r ≡ oneIf (sevenAsked l)
+  pub seven-open : {r : ℕ} → sixHolds l ≡ true
+      → r ≡ oneIf (tablesAgree (find STTS l) (find STSC l) (find STSZ l) (find STCO l) (word 4 (find STSD l) 4)) → r ≡ oneIf (sevenAsked l)
   unfolding sevenAsked sevenHolds
   seven-open e q = rw e q

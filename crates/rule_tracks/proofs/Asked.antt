@@ -27,14 +27,17 @@ use Rattle.rule_tracks.specs.Asked.{sixHolds, sevenAsked, eightAsked, se
 -- the tables of an `stbl` have their lengths where rules 3 and 6 hold of it
 pub six-held : {d : ℕ} {xs : List ℕ} → Met sixRule (suc d) STBL xs → sixHolds (boxes xs) ≡ true
 unfolding sixHolds tableIn tableFine needed kindIn parent ifEq
-six-held m = sym (holds _ _ (needed-leaf m STTS refl refl) (holds _ _ (needed-leaf m STSC refl refl) (holds _ _ (needed-leaf m STSZ refl refl) (holds _ _ (needed-leaf m STCO refl refl) done))))
+six-held m =
+    sym (holds _ _ (needed-leaf m STTS refl refl) (holds _ _ (needed-leaf m STSC refl refl)
+    (holds _ _ (needed-leaf m STSZ refl refl) (holds _ _ (needed-leaf m STCO refl refl) done))))
 
 -- ---- rule 7
 
 seven-node : (d k : ℕ) (xs : List ℕ) (home p : ℕ) → Met sixRule (suc d) k xs → askedSeven .node k xs home p ≡ seven .node k xs home p
 unfolding sevenAskedIn sevenIn sevenAsked
 seven-node d k xs home p m =
-    ap (λ (t : Bool). unless t home) (eq-same k STBL (sevenAsked (boxes xs)) (sevenHolds (boxes xs)) true (λ e. rw (six-held (subst (λ (i : ℕ). Met sixRule (suc d) i xs) e m))))
+    ap (λ (t : Bool). unless t home) (eq-same k STBL (sevenAsked (boxes xs)) (sevenHolds (boxes xs)) true
+    (λ e. rw (six-held (subst (λ (i : ℕ). Met sixRule (suc d) i xs) e m))))
 
 pub seven-asked : (d k : ℕ) (xs : List ℕ) (home p : ℕ) → Met sixRule d k xs → judgeIn askedSeven d k xs home p ≡ judgeIn seven d k xs home p
 seven-asked = same-verdict (askedSeven .node) (seven .node) (seven .leaf) (seven .end) (Met sixRule) (λ d k xs. met-inside) seven-node

@@ -31,7 +31,8 @@ module _ (m : List Box) (s : sixHolds m ≡ true) where
   ready e = let t = seven-is _ _ _ _ _ (six-is m s) (sym asked-is ∙ e) in record { walk = t .walk; few = omega (arith, t .few, t .total) }
 
 module _ (l m : List Box) where
-  pub eight-open : {r : ℕ} → sixHolds m ≡ true → sevenAsked m ≡ true → r ≡ oneIf (chunksLie l (find STSC m) (find STSZ m) (find STCO m)) → r ≡ oneIf (eightAsked l m)
+  pub eight-open : {r : ℕ} → sixHolds m ≡ true → sevenAsked m ≡ true
+      → r ≡ oneIf (chunksLie l (find STSC m) (find STSZ m) (find STCO m)) → r ≡ oneIf (eightAsked l m)
   unfolding eightAsked eightHolds
   eight-open s e q = rw (s, sym (asked-is m s) ∙ e) q
 

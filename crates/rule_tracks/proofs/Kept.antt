@@ -47,7 +47,8 @@ module _ (G : Leaf) (t : Tables G) where
           same-table STSZ (λ z. omega arith) refl (t .stsz),
           kin-find G d STBL xs ys a STSD (λ z. omega arith) (λ u v. word 4 u 4 ≡ word 4 v 4) refl refl (t .stsd) 0,
         )
-        (seven-same _ _ _ _ (find STCO (boxes xs)) (find STCO (boxes ys)) (kin-find G d STBL xs ys a STCO (λ z. omega arith) (λ u v. word 4 u 4 ≡ word 4 v 4) refl refl (λ b b′ g. t .stco b b′ g .0) 0))
+        (seven-same _ _ _ _ (find STCO (boxes xs)) (find STCO (boxes ys))
+        (kin-find G d STBL xs ys a STCO (λ z. omega arith) (λ u v. word 4 u 4 ≡ word 4 v 4) refl refl (λ b b′ g. t .stco b b′ g .0) 0))
 
   in-kept : (d k : ℕ) (xs ys : List ℕ) → Kin G (suc d) k xs ys → sevenIn k xs ≡ true → sevenIn k ys ≡ true
   unfolding sevenIn

@@ -32,7 +32,8 @@ unfolding eightAt eightIn
 eight-says l = record { leaf = λ k c b p q. refl; node = λ k xs home p. through isFine k STBL _ Fine ∙ rw unless-fine; end = λ xs p. refl }
 
 -- from a file with the boxes l to one with the boxes m and the same payloads, where every chunk offset is relocated
-module _ (G : Leaf) (t : Tables G) (l m : List Box) (same : mdats l ≡ mdats m) (headed : All Headed l) (good : All Good m) (moved : (b b′ : List ℕ) → G STBL STCO b b′ → Relocated l m b b′) where
+module _ (G : Leaf) (t : Tables G) (l m : List Box) (same : mdats l ≡ mdats m) (headed : All Headed l) (good : All Good m)
+    (moved : (b b′ : List ℕ) → G STBL STCO b b′ → Relocated l m b b′) where
   holds-kept : (d : ℕ) (xs ys : List ℕ) → Kin G (suc d) STBL xs ys → eightHolds l (boxes xs) ≡ true → eightHolds m (boxes ys) ≡ true
   unfolding eightHolds kindIn parent ifEq
   holds-kept d xs ys a =

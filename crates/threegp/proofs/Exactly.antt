@@ -12,6 +12,8 @@ unfolding pair
 pair-exact xs = omega (arith, number-most xs, place-most xs)
 
 -- so that it tells both
-pub pair-tells : (xs ys : List ℕ) → judgeAnswer (judged xs) ≡ judgeAnswer (judged ys) → (judgedNumber (judged xs) ≡ judgedNumber (judged ys)) × (judgedPlace (judged xs) ≡ judgedPlace (judged ys))
+pub pair-tells : (xs ys : List ℕ) → judgeAnswer (judged xs) ≡ judgeAnswer (judged ys)
+    → (judgedNumber (judged xs) ≡ judgedNumber (judged ys)) × (judgedPlace (judged xs) ≡ judgedPlace (judged ys))
 unfolding pair
-pair-tells xs ys e = (omega (arith, number-most xs, place-most xs, number-most ys, place-most ys), omega (arith, number-most xs, place-most xs, number-most ys, place-most ys))
+pair-tells xs ys e =
+    (omega (arith, number-most xs, place-most xs, number-most ys, place-most ys), omega (arith, number-most xs, place-most xs, number-most ys, place-most ys))

@@ -23,7 +23,9 @@ judge-spec = tie.close (tie.spec Inv μ
     (λ c. search needs)
     (λ c. search needs)
     (λ c. search needs)
-    (λ c. let i = c .before .before .before .before .loop .inv in (passed-more _ _ (i .0) (omega arith) (c .before .before .verdict-of .ensures) (c .enum-told .given .1), i .1))
+    (λ c. let i = c .before .before .before .before .loop .inv in
+    (passed-more _ _ (i .0) (omega arith) (c .before .before .verdict-of .ensures) (c .enum-told .given .1), i .1))
     (λ c. search needs)
-    (λ c. let i = c .before .before .before .before .before .loop .inv in passed-bad _ _ (i .0) (omega arith) (c .before .before .before .verdict-of .ensures) _ (c .before .p .given .1))
+    (λ c. let i = c .before .before .before .before .before .loop .inv in
+    passed-bad _ _ (i .0) (omega arith) (c .before .before .before .verdict-of .ensures) _ (c .before .p .given .1))
     (λ c. let i = c .before .loop .inv in passed-all _ _ (i .0) (omega arith)))
