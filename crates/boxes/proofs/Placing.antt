@@ -18,21 +18,44 @@ use Rattle.boxes.specs.Boxes.{boxes, total, after}
 use Rattle.boxes.specs.Walk.{boxAt}
 use Rattle.boxes.specs.Seek.{tilingOf, count, nth, placeBy, placeIn, startIn, Cut}
 use Rattle.boxes.proofs.Whole.{Good}
-use Rattle.boxes.proofs.Reading.{All, parts, lengths, length-cons}
+use Rattle.boxes.proofs.Reading.{All, Headed, heads, parts, lengths, length-cons}
 use Rattle.boxes.proofs.Reading.All.{none, some}
-use Rattle.boxes.proofs.Every.{all-left}
-use Rattle.boxes.proofs.Numbered.{place-is, place-past}
+use Rattle.boxes.proofs.Every.{all-map, all-left}
+use Rattle.boxes.proofs.Meaning.{nth-hit, nth-next, nth-miss, place-hit, place-next, place-miss}
+use Rattle.boxes.proofs.Numbered.{by-number, place-is, place-past}
 
 -- ---- boxes written take their sizes
 
-pub length-write : {l : List Box} → All Good l → length (write l) ≡ total l
+headed-write : {l : List Box} → All Headed l → length (write l) ≡ total l
 unfolding write total
-length-write none = refl
-length-write (some {x} {l} g a) = length-cons x l ∙ omega (arith, g .head, length-write a)
+headed-write none = refl
+headed-write (some {x} {l} g a) = length-cons x l ∙ omega (arith, headed-write a)
+
+pub length-write : {l : List Box} → All Good l → length (write l) ≡ total l
+length-write a = headed-write (all-map (λ x g. g .head) a)
 
 -- the boxes of a part, and then what is past them
-pub total-is : (xs : List ℕ) → Bytes xs → total (boxes xs) + length (after xs) ≡ length xs
-total-is xs h = omega (arith, length-write (parts xs h .good), lengths xs)
+pub total-is : (xs : List ℕ) → total (boxes xs) + length (after xs) ≡ length xs
+total-is xs = omega (arith, headed-write (heads xs), lengths xs)
+
+-- where the n-th box starts, and all of its payload
+pub place-most : (c n : ℕ) (l : List Box) → placeIn c n l ≤ total l
+unfolding placeIn placeBy total
+place-most c =
+    by-number c (λ n l. placeIn c n l ≤ total l)
+    (λ n. omega arith)
+    (λ n x l e ih. rw (place-miss c x l e (λ y. 0) n) (omega arith))
+    (λ x l e. rw (place-hit c x l e (λ y. 0)) (omega arith))
+    (λ n x l e ih. rw (place-next c x l e (λ y. 0) n) (omega arith))
+
+pub start-most : (c n : ℕ) (l : List Box) → startIn c n l + length (nth c n l) ≤ total l
+unfolding startIn placeBy nth total
+start-most c =
+    by-number c (λ n l. startIn c n l + length (nth c n l) ≤ total l)
+    (λ n. omega arith)
+    (λ n x l e ih. rw (nth-miss c x l e n, place-miss c x l e (λ y. y .head) n) (omega arith))
+    (λ x l e. rw (nth-hit c x l e, place-hit c x l e (λ y. y .head)) (omega arith))
+    (λ n x l e ih. rw (nth-next c x l e n, place-next c x l e (λ y. y .head) n) (omega arith))
 
 -- ---- the n-th box
 
@@ -59,20 +82,20 @@ module _ (c n : ℕ) (xs : List ℕ) (v : Bytes xs) where
   module _ (h : count c (boxes xs) ≤ n) {r : ℕ} (e : r ≡ total (boxes xs)) where
     pub place-none : (r ≡ placeIn c n (boxes xs)) × (r ≤ length xs)
     unfolding placeIn
-    place-none = (e ∙ sym (place-past (λ x. 0) c n (boxes xs) h), omega (arith, total-is xs v))
+    place-none = (e ∙ sym (place-past (λ x. 0) c n (boxes xs) h), omega (arith, total-is xs))
 
     pub start-none : (r ≡ startIn c n (boxes xs)) × (r ≤ length xs)
     unfolding startIn
-    start-none = (e ∙ sym (place-past (λ x. x .head) c n (boxes xs) h), omega (arith, total-is xs v))
+    start-none = (e ∙ sym (place-past (λ x. x .head) c n (boxes xs) h), omega (arith, total-is xs))
 
 -- where the tiling ends
-module _ (xs : List ℕ) (v : Bytes xs) {t : Tiling} (e : t ≡ tilingOf xs) where
+module _ (xs : List ℕ) {t : Tiling} (e : t ≡ tilingOf xs) where
   pub past-whole : t ≡ Whole → length xs ≡ total (boxes xs)
   unfolding tilingOf ifEq
   past-whole q = go (eqb (length (after xs)) 0) refl (sym e ∙ q)
     where
       go : (s : Bool) → eqb (length (after xs)) 0 ≡ s → pick s Whole (Torn (length xs - length (after xs))) ≡ Whole → length xs ≡ total (boxes xs)
-      go true z w = omega (arith, total-is xs v, eqb-true (length (after xs)) 0 z)
+      go true z w = omega (arith, total-is xs, eqb-true (length (after xs)) 0 z)
       go false z w = let o : _≡_ {A = ℕ} 0 1 = cc in absurd (omega arith)
 
   pub past-torn : (p : ℕ) → t ≡ Torn p → p ≡ total (boxes xs)
@@ -81,4 +104,4 @@ module _ (xs : List ℕ) (v : Bytes xs) {t : Tiling} (e : t ≡ tilingOf xs) whe
     where
       go : (s : Bool) → pick s Whole (Torn (length xs - length (after xs))) ≡ Torn p → p ≡ total (boxes xs)
       go true w = let o : _≡_ {A = ℕ} 0 1 = cc in absurd (omega arith)
-      go false w = let z : length xs - length (after xs) ≡ p = cc in omega (arith, total-is xs v)
+      go false w = let z : length xs - length (after xs) ≡ p = cc in omega (arith, total-is xs)

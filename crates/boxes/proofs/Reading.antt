@@ -65,30 +65,40 @@ after-next xs e = rw (boxes-next xs e, size-front xs e) (sym (drop-drop (total (
 
 -- ---- lengths, whatever the part holds
 
-lengths-none : (xs : List ℕ) → whole xs ≡ false → length (write (boxes xs)) + length (after xs) ≡ length xs
-unfolding write
-lengths-none xs e = rw (boxes-stop xs e, after-stop xs e) (omega arith)
+-- what holds of a part with no box at its front, and of one with a box there where it holds of the rest, holds of every part
+module _ (P : List ℕ → Type 0) (none : (xs : List ℕ) → whole xs ≡ false → P xs) (more : (xs : List ℕ) → whole xs ≡ true → P (drop (sizeOf xs) xs) → P xs) where
+  by-length : (n : ℕ) (xs : List ℕ) → length xs ≤ n → P xs
+  by-length zero xs l = none xs (short-not xs (omega arith))
+  by-length (suc n) xs l = go (whole xs) refl (by-length n (drop (sizeOf xs) xs))
+    where
+      go : (t : Bool) → whole xs ≡ t → (length (drop (sizeOf xs) xs) ≤ n → P (drop (sizeOf xs) xs)) → P xs
+      go true e ih = let w = whole-true xs e in more xs e (ih (rw length-drop (omega arith)))
+      go false e ih = none xs e
 
-lengths-by : (n : ℕ) (xs : List ℕ) → length xs ≤ n → length (write (boxes xs)) + length (after xs) ≡ length xs
-lengths-by zero xs l = lengths-none xs (short-not xs (omega arith))
-lengths-by (suc n) xs l = go (whole xs) refl (lengths-by n (drop (sizeOf xs) xs))
-  where
-    go : (t : Bool) → whole xs ≡ t → (length (drop (sizeOf xs) xs) ≤ n → length (write (boxes (drop (sizeOf xs) xs))) + length (after (drop (sizeOf xs) xs)) ≡ length (drop (sizeOf xs) xs))
-        → length (write (boxes xs)) + length (after xs) ≡ length xs
-    go true e ih =
-        let w = whole-true xs e in
-        let d = length-drop (sizeOf xs) xs in
-        rw (boxes-next xs e, after-next xs e) (omega (arith, length-cons (frontBox xs) (boxes (drop (sizeOf xs) xs)), size-front xs e, ih (omega arith)))
-    go false e ih = lengths-none xs e
+  pub by-boxes : (xs : List ℕ) → P xs
+  by-boxes xs = by-length (length xs) xs (omega arith)
 
 pub lengths : (xs : List ℕ) → length (write (boxes xs)) + length (after xs) ≡ length xs
-lengths xs = lengths-by (length xs) xs (omega arith)
+unfolding write
+lengths =
+    by-boxes (λ xs. length (write (boxes xs)) + length (after xs) ≡ length xs)
+    (λ xs e. rw (boxes-stop xs e, after-stop xs e) (omega arith))
+    (λ xs e ih.
+    let w = whole-true xs e in
+    rw (boxes-next xs e, after-next xs e) (omega (arith, length-cons (frontBox xs) (boxes (drop (sizeOf xs) xs)), size-front xs e, length-drop (sizeOf xs) xs)))
 
 -- ---- a property of every box
 
 pub data All (P : Box → Type 0) : List Box → Type 0 where
   none : All P []
   some : {x : Box} {l : List Box} → P x → All P l → All P (x ∷ l)
+
+-- a header of eight bytes
+abbrev pub Headed : Box → Type 0
+Headed x = x .head ≡ HEAD
+
+pub heads : (xs : List ℕ) → All Headed (boxes xs)
+heads = by-boxes (λ xs. All Headed (boxes xs)) (λ xs e. rw (boxes-stop xs e) none) (λ xs e ih. rw (boxes-next xs e) (some refl ih))
 
 -- ---- of a part of bytes
 
@@ -115,16 +125,8 @@ parts-more xs h e p =
       rest = rw (after-next xs e) (p .rest);
     }
 
-parts-by : (n : ℕ) (xs : List ℕ) → Bytes xs → length xs ≤ n → Parts xs
-parts-by zero xs h l = parts-none xs (short-not xs (omega arith))
-parts-by (suc n) xs h l = go (whole xs) refl (parts-by n (drop (sizeOf xs) xs) (bytes-drop (sizeOf xs) xs h))
-  where
-    go : (t : Bool) → whole xs ≡ t → (length (drop (sizeOf xs) xs) ≤ n → Parts (drop (sizeOf xs) xs)) → Parts xs
-    go true e ih = let w = whole-true xs e in parts-more xs h e (ih (rw length-drop (omega arith)))
-    go false e ih = parts-none xs e
-
 pub parts : (xs : List ℕ) → Bytes xs → Parts xs
-parts xs h = parts-by (length xs) xs h (omega arith)
+parts = by-boxes (λ xs. Bytes xs → Parts xs) (λ xs e h. parts-none xs e) (λ xs e ih h. parts-more xs h e (ih (bytes-drop (sizeOf xs) xs h)))
 
 -- a part is its boxes, written, and what is past them
 pub write-boxes : (xs : List ℕ) → Bytes xs → write (boxes xs) ++ after xs ≡ xs

@@ -12,8 +12,8 @@ use Rattle.boxes.specs.Boxes.{boxes, after}
 use Rattle.boxes.specs.Containers.{FILE}
 use Rattle.boxes.specs.Seek.{count}
 use Rattle.rule.proofs.Opened.{opened}
-use Rattle.rule_shape.specs.Shape.{needed, first, shape}
-use Rattle.rule_shape.specs.Rules.{twoRule, threeRule}
+use Rattle.rule_shape.specs.Three.{needed, first, shape, threeRule}
+use Rattle.rule_shape.specs.Two.{twoRule}
 use Rattle.rule_shape.proofs.Needs.{shape-one, shape-first}
 use Rattle.judge.specs.Acceptance.{Meets}
 

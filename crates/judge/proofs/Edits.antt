@@ -14,7 +14,7 @@ use Rattle.rule.specs.Verdict.{unless, isFine}
 use Rattle.rule.specs.Rule.{Says}
 use Rattle.rule.proofs.Places.{placed-says}
 use Rattle.rule.proofs.Acceptance.{judge-fine}
-use Rattle.rule_shape.specs.Rules.{editableRule}
+use Rattle.rule_shape.specs.TwentyThree.{editableRule}
 use Rattle.judge.specs.Asked.{leafBy, nodeBy, endBy, judgeBy, verdictOf}
 use Rattle.judge.specs.Acceptance.{editable}
 

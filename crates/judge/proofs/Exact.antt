@@ -1,38 +1,31 @@
 -- A file is accepted exactly when it meets the rules. Assumes nothing.
-use Prim.Native.Nat.{ℕ, _+_, _≤_}
+use Prim.Native.Nat.{ℕ, _+_}
 use native.Mathlib.Omega.{arith}
-use mathlib.Core.Path.{_≡_, refl, sym}
-use mathlib.Core.Bool.{Bool, true, false}
+use mathlib.Core.Path.{_≡_, refl}
 use mathlib.Core.List.{List, [], _∷_}
-use lib.Dec.{ltb}
-use lib.ListN.{length}
-use borrow.Author.Tests.{ltb-false}
-use Rattle.wire.specs.Tests.{pick, ifLt}
-use Rattle.wire.proofs.Tests.{lt-nay}
 use Rattle.boxes.specs.Box.{Box}
 use Rattle.boxes.specs.Boxes.{boxes}
-use Rattle.boxes.specs.Containers.{FILE, DEPTH, LONGEST}
+use Rattle.boxes.specs.Containers.{FILE, DEPTH}
 use Rattle.rule.specs.declared.Verdict.{Verdict}
 use Rattle.rule.specs.declared.Verdict.the-variants.{Fine, Bad}
 use Rattle.rule.specs.Judge.{Judge}
 use Rattle.rule.specs.Rule.{Rule, Says}
 use Rattle.rule.proofs.Places.{placed-says}
 use Rattle.rule.proofs.Acceptance.{fine-all, all-fine}
-use Rattle.rule_shape.specs.Rules.{twoRule, threeRule}
-use Rattle.rule_lists.specs.Rules.{fiveRule, nineRule}
+use Rattle.rule_shape.specs.Two.{twoRule}
+use Rattle.rule_shape.specs.Three.{threeRule}
 use Rattle.rule_lists.proofs.Rules.{five-says, nine-says}
-use Rattle.rule_headers.specs.Four.{fourRule}
 use Rattle.rule_headers.proofs.Rule4.{four-says}
 use Rattle.rule_tracks.specs.Six.{sixRule}
 use Rattle.rule_tracks.specs.Seven.{sevenRule}
-use Rattle.rule_tracks.specs.Eight.{eightRule}
 use Rattle.rule_tracks.proofs.KeptEight.{eight-says}
-use Rattle.rule_entries.specs.Ten.{tenRule}
 use Rattle.rule_entries.proofs.Kept.{ten-says}
+use Rattle.judge.specs.One.{oneRule}
 use Rattle.judge.specs.declared.Judgement.{Judgement}
-use Rattle.judge.specs.declared.Judgement.the-variants.{Accepted, Refused}
+use Rattle.judge.specs.declared.Judgement.the-variants.{Accepted}
 use Rattle.judge.specs.Judgement.{judges, verdictBy, unlessBroken, judgedFrom, judged}
-use Rattle.judge.specs.Acceptance.{Holds, Meets}
+use Rattle.judge.specs.Acceptance.{Holds, rules, Meets}
+use Rattle.judge.proofs.One.{one-holds, holds-one}
 
 -- ---- some rules
 
@@ -42,12 +35,12 @@ next-fine n Fine j e = (refl, e)
 next-fine n (Bad p) j e = let z : _≡_ {A = ℕ} 0 1 = cc in absurd (omega arith)
 
 -- judges that ask what rules ask, one by one
-data Say : List Judge → List Rule → Type 0 where
+pub data Say : List Judge → List Rule → Type 0 where
   none : Say [] []
   more : {j : Judge} {r : Rule} {js : List Judge} {rs : List Rule} → Says j r → Say js rs → Say (j ∷ js) (r ∷ rs)
 
 -- rules that all hold of a file
-data Hold (xs : List ℕ) : List Rule → Type 0 where
+pub data Hold (xs : List ℕ) : List Rule → Type 0 where
   nil : Hold xs []
   cons : {r : Rule} {rs : List Rule} → Holds r xs → Hold xs rs → Hold xs (r ∷ rs)
 
@@ -63,41 +56,31 @@ unfolding judgedFrom unlessBroken
 hold-all none n xs nil = refl
 hold-all (more {j} {r} s t) n xs (cons h g) = rw (all-fine j r s DEPTH FILE xs 0 0 h, hold-all t (n + 1) xs g)
 
--- ---- rules 2 to 10
+-- ---- rules 1 to 10
 
-abbrev rules : List Box → List Rule
-rules l = twoRule ∷ threeRule ∷ fourRule ∷ fiveRule ∷ sixRule ∷ sevenRule ∷ eightRule l ∷ nineRule ∷ tenRule ∷ []
-
-rules-say : (l : List Box) → Say (judges l) (rules l)
+pub rules-say : (l : List Box) → Say (judges l) (rules l)
 rules-say l =
-    more (placed-says twoRule) (more (placed-says threeRule) (more four-says (more five-says (more (placed-says sixRule)
-    (more (placed-says sevenRule) (more (eight-says l) (more nine-says (more ten-says none))))))))
+    more (placed-says oneRule) (more (placed-says twoRule) (more (placed-says threeRule) (more four-says (more five-says (more (placed-says sixRule)
+    (more (placed-says sevenRule) (more (eight-says l) (more nine-says (more ten-says none)))))))))
 
-all-meet : (xs : List ℕ) → 8 ≤ length xs → length xs ≤ LONGEST → Hold xs (rules (boxes xs)) → Meets xs
-all-meet xs a b (cons c (cons d (cons e (cons f (cons g (cons h (cons i (cons j (cons k nil))))))))) =
-    record { least = a; most = b; two = c; three = d; four = e; five = f; six = g; seven = h; eight = i; nine = j; ten = k }
+all-meet : (xs : List ℕ) → Hold xs (rules (boxes xs)) → Meets xs
+all-meet xs (cons b (cons c (cons d (cons e (cons f (cons g (cons h (cons i (cons j (cons k nil)))))))))) =
+    let a = holds-one xs b in
+    record { least = a .0; most = a .1; two = c; three = d; four = e; five = f; six = g; seven = h; eight = i; nine = j; ten = k }
 
-meet-all : (xs : List ℕ) → Meets xs → Hold xs (rules (boxes xs))
+pub meet-all : (xs : List ℕ) → Meets xs → Hold xs (rules (boxes xs))
 meet-all xs m =
-    cons (m .two) (cons (m .three) (cons (m .four) (cons (m .five) (cons (m .six) (cons (m .seven) (cons (m .eight) (cons (m .nine) (cons (m .ten) nil))))))))
+    cons (one-holds xs (m .least) (m .most)) (cons (m .two) (cons (m .three) (cons (m .four) (cons (m .five)
+    (cons (m .six) (cons (m .seven) (cons (m .eight) (cons (m .nine) (cons (m .ten) nil)))))))))
 
 -- ---- demand 2
 
-judged-from : (xs : List ℕ) → judged xs ≡ Accepted → (8 ≤ length xs) × (length xs ≤ LONGEST) × (judgedFrom 2 (judges (boxes xs)) xs ≡ Accepted)
-unfolding judged ifLt
-judged-from xs e = go (ltb (length xs) 8) (ltb LONGEST (length xs)) refl refl e
-  where
-    go : (s t : Bool) → ltb (length xs) 8 ≡ s → ltb LONGEST (length xs) ≡ t → pick s (Refused 1 0) (pick t (Refused 1 0) (judgedFrom 2 (judges (boxes xs)) xs)) ≡ Accepted
-        → (8 ≤ length xs) × (length xs ≤ LONGEST) × (judgedFrom 2 (judges (boxes xs)) xs ≡ Accepted)
-    go true t p q e = let z : _≡_ {A = ℕ} 0 1 = cc in absurd (omega arith)
-    go false true p q e = let z : _≡_ {A = ℕ} 0 1 = cc in absurd (omega arith)
-    go false false p q e = (ltb-false _ _ p, ltb-false _ _ q, e)
-
 -- a file that is accepted meets the rules
 pub accepted-meets : (xs : List ℕ) → judged xs ≡ Accepted → Meets xs
-accepted-meets xs e = let a = judged-from xs e in all-meet xs (a .0) (a .1) (all-hold (rules-say (boxes xs)) 2 xs (a .2))
+unfolding judged
+accepted-meets xs e = all-meet xs (all-hold (rules-say (boxes xs)) 1 xs e)
 
 -- and a file that meets the rules is accepted
 pub meets-accepted : (xs : List ℕ) → Meets xs → judged xs ≡ Accepted
 unfolding judged
-meets-accepted xs m = sym (lt-nay _ _ _ _ _ (m .least) (lt-nay _ _ _ _ _ (m .most) (sym (hold-all (rules-say (boxes xs)) 2 xs (meet-all xs m)))))
+meets-accepted xs m = hold-all (rules-say (boxes xs)) 1 xs (meet-all xs m)

@@ -1,6 +1,10 @@
+pub mod One
 pub mod Answers
 pub mod Order
 pub mod Exact
+pub mod Refusals
+pub mod Bounded
+pub mod Places
 pub mod Calls
 pub mod Edits
 pub mod Tables

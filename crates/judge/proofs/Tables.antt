@@ -9,7 +9,7 @@ use Rattle.boxes.specs.Containers.{FILE, DEPTH}
 use Rattle.boxes.specs.Seek.{find}
 use Rattle.movie.specs.Movie.{tracks, track, minf}
 use Rattle.rule.specs.Rule.{Rule, allIn}
-use Rattle.rule_shape.specs.Rules.{threeRule}
+use Rattle.rule_shape.specs.Three.{threeRule}
 use Rattle.rule_shape.proofs.Descent.{Met, in-track, in-stbl}
 use Rattle.rule_tracks.specs.Six.{sixRule}
 use Rattle.rule_tracks.specs.Seven.{sevenRule}

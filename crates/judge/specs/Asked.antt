@@ -7,12 +7,13 @@ use Rattle.boxes.specs.Boxes.{boxes}
 use Rattle.rule.specs.declared.Verdict.{Verdict}
 use Rattle.rule.specs.declared.Verdict.the-variants.{Fine, Bad}
 use Rattle.rule.specs.Judge.{Judge}
-use Rattle.rule_shape.specs.Rules.{two, three, editableJudge}
+use Rattle.rule_shape.specs.Two.{two}
+use Rattle.rule_shape.specs.Three.{three}
+use Rattle.rule_shape.specs.TwentyThree.{editableJudge}
 use Rattle.rule_lists.specs.Rules.{five, nine}
 use Rattle.rule_headers.specs.Four.{four}
 use Rattle.rule_tracks.specs.Six.{six}
-use Rattle.rule_tracks.specs.Seven.{seven}
-use Rattle.rule_tracks.specs.Eight.{eight}
+use Rattle.rule_tracks.specs.Asked.{askedSeven, askedEight}
 use Rattle.rule_entries.specs.Ten.{ten}
 use Rattle.judge.specs.Judgement.{verdictBy}
 
@@ -30,8 +31,8 @@ nodeBy n l k xs home p =
     ifEq n 3 (three .node k xs home p)
     (ifEq n 4 (four .node k xs home p)
     (ifEq n 5 (five .node k xs home p)
-    (ifEq n 7 (seven .node k xs home p)
-    (ifEq n 8 (eight l .node k xs home p)
+    (ifEq n 7 (askedSeven .node k xs home p)
+    (ifEq n 8 (askedEight l .node k xs home p)
     (ifEq n 10 (ten .node k xs home p)
     (ifEq n 23 (editableJudge .node k xs home p) Fine))))))
 

@@ -1,21 +1,21 @@
 -- The judgement of a file: "The number given is the lowest whose rule is broken".
 use Prim.Native.Nat.{ℕ, _+_}
 use mathlib.Core.List.{List, [], _∷_}
-use lib.ListN.{length}
-use Rattle.wire.specs.Tests.{ifLt}
 use Rattle.boxes.specs.Box.{Box}
 use Rattle.boxes.specs.Boxes.{boxes}
-use Rattle.boxes.specs.Containers.{FILE, DEPTH, LONGEST}
+use Rattle.boxes.specs.Containers.{FILE, DEPTH}
 use Rattle.rule.specs.declared.Verdict.{Verdict}
 use Rattle.rule.specs.declared.Verdict.the-variants.{Fine, Bad}
 use Rattle.rule.specs.Judge.{Judge, judgeIn}
-use Rattle.rule_shape.specs.Rules.{two, three}
+use Rattle.rule_shape.specs.Two.{two}
+use Rattle.rule_shape.specs.Three.{three}
 use Rattle.rule_lists.specs.Rules.{five, nine}
 use Rattle.rule_headers.specs.Four.{four}
 use Rattle.rule_tracks.specs.Six.{six}
 use Rattle.rule_tracks.specs.Seven.{seven}
 use Rattle.rule_tracks.specs.Eight.{eight}
 use Rattle.rule_entries.specs.Ten.{ten}
+use Rattle.judge.specs.One.{one}
 use Rattle.judge.specs.declared.Judgement.{Judgement}
 use Rattle.judge.specs.declared.Judgement.the-variants.{Accepted, Refused}
 
@@ -28,9 +28,9 @@ abbrev pub judgedPlace : Judgement → ℕ
 judgedPlace Accepted = 0
 judgedPlace (Refused n p) = p
 
--- rules 2 to 10 in their order; rule 8 is asked in a file with the boxes l
+-- rules 1 to 10 in their order; rule 8 is asked in a file with the boxes l
 abbrev pub judges : List Box → List Judge
-judges l = two ∷ three ∷ four ∷ five ∷ six ∷ seven ∷ eight l ∷ nine ∷ ten ∷ []
+judges l = one ∷ two ∷ three ∷ four ∷ five ∷ six ∷ seven ∷ eight l ∷ nine ∷ ten ∷ []
 
 -- what a rule says of a file
 abbrev pub verdictBy : Judge → List ℕ → Verdict
@@ -46,6 +46,6 @@ unfoldable pub judgedFrom : ℕ → List Judge → List ℕ → Judgement
 judgedFrom n [] xs = Accepted
 judgedFrom n (j ∷ js) xs = unlessBroken n (verdictBy j xs) (judgedFrom (n + 1) js xs)
 
--- rule 1: "Length is 8 to 1,048,576. Place 0."; then rules 2 to 10
+-- all of them
 unfoldable pub judged : List ℕ → Judgement
-judged xs = ifLt (length xs) 8 (Refused 1 0) (ifLt LONGEST (length xs) (Refused 1 0) (judgedFrom 2 (judges (boxes xs)) xs))
+judged xs = judgedFrom 1 (judges (boxes xs)) xs

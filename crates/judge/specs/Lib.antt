@@ -1,4 +1,6 @@
+pub mod One
 pub mod Judgement
 pub mod Calls
 pub mod Acceptance
 pub mod Asked
+pub mod Refusal

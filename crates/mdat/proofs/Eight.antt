@@ -1,25 +1,24 @@
 -- Laws of rule 8, for the loop over the walk by chunk. Assumes nothing.
 use Prim.Native.Nat.{ℕ, _+_, _≤_, _<_}
 use native.Mathlib.Omega.{arith}
-use mathlib.Core.Path.{_≡_, _∙_}
+use mathlib.Core.Path.{_≡_, sym, _∙_}
 use mathlib.Core.Bool.{true, false}
 use mathlib.Core.List.{List}
 use Rattle.wire.specs.Clauses.{oneIf}
 use Rattle.wire.proofs.Sums.{all-none, all-more, all-of, all-at, all-fails}
 use Rattle.boxes.specs.Box.{Box}
+use Rattle.boxes.proofs.Reading.{All, Headed}
 use Rattle.sample_tables.specs.Tables.{items}
-use Rattle.sample_tables.specs.Chunks.{chunkAt, extentOf}
-use Rattle.sample_tables.specs.Rules.{Seven}
+use Rattle.sample_tables.specs.Chunks.{offsetAt, chunkAt, extentOf, extentAt}
 use Rattle.sample_tables.specs.declared.chunk.Chunk.{Chunk}
 use Rattle.sample_tables.specs.declared.chunk.Extent.{Extent}
 use Rattle.sample_tables.proofs.Chunks.{first-more, first-mono}
+use Rattle.sample_tables.proofs.Rules.{extent-offset}
 use Rattle.mdat.specs.Payloads.{inAt}
-use Rattle.mdat.specs.Rules.{chunkIn, chunksIn, chunksLie, Ready}
+use Rattle.mdat.specs.Rules.{lies, chunkIn, chunksIn, chunksLie, Ready}
+use Rattle.mdat.proofs.Inside.{lies-at}
 
 -- ---- the tables
-
-pub ready : {stts stsc stsz stco : List ℕ} → Seven stts stsc stsz stco → Ready stsc stco
-ready s = record { walk = s .walk; few = rw (s .total) (s .few) }
 
 pub ready-few : {stsc stco : List ℕ} → Ready stsc stco → (k : ℕ) (c : Chunk) → c ≡ chunkAt stsc stco k → k < items stco → c .first + c .samples ≤ 65536
 unfolding chunkAt
@@ -50,6 +49,11 @@ module _ (l : List Box) (stsc stsz stco : List ℕ) where
   eight-of = all-of (chunkIn l stsc stsz stco) (items stco)
 
   -- the answer of one chunk
-  pub chunk-answer : (k : ℕ) {c : Chunk} {x : Extent} {r : ℕ} → c ≡ chunkAt stsc stco k → x ≡ extentOf stsz c → r ≡ oneIf (inAt l (x .offset) (x .bytes)) → r ≡ oneIf (chunkIn l stsc stsz stco k)
+  pub chunk-answer : (k : ℕ) {c : Chunk} {x : Extent} {r : ℕ} → c ≡ chunkAt stsc stco k → x ≡ extentOf stsz c → r ≡ oneIf (lies l 0 (x .offset) (x .bytes)) → r ≡ oneIf (chunkIn l stsc stsz stco k)
   unfolding chunkIn
   chunk-answer k e f q = q ∙ rw (f, e)
+
+  -- where relocation finds it
+  pub chunk-in : All Headed l → (k : ℕ) → chunkIn l stsc stsz stco k ≡ true → inAt l (offsetAt stco k) (extentAt stsc stsz stco k .bytes) ≡ true
+  unfolding chunkIn
+  chunk-in a k e = rw (extent-offset stsc stsz stco k) at (sym (lies-at a _ _) ∙ e)

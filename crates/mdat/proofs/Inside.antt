@@ -1,11 +1,12 @@
--- Laws of bytes inside a payload, and what the loop over the walk cites. Assumes nothing.
+-- Bytes that lie inside a payload: what the loop over the walk cites, and that rule 8 and relocation mean the same by it. Assumes nothing.
 use Prim.Native.Nat.{ℕ, _+_, _-_, _≤_, _<_}
 use native.Mathlib.Omega.{arith}
-use mathlib.Core.Path.{_≡_, refl, sym, _∙_}
-use mathlib.Core.Bool.{false}
+use mathlib.Core.Path.{_≡_, refl, sym, ap, _∙_}
+use mathlib.Core.Bool.{Bool, true, false}
 use mathlib.Core.List.{List, [], _∷_}
 use lib.ListN.{length, drop}
-use Rattle.wire.specs.Clauses.{isLe}
+use Rattle.wire.specs.Tests.{pick}
+use Rattle.wire.specs.Clauses.{isEq, isLe, every}
 use Rattle.codes.specs.Codes.{MDAT}
 use Rattle.wire.proofs.Clauses.{is-eq, not-eq, is-le, not-le, fails, done, holds as and}
 use Rattle.wire.proofs.Tests.{lt-or}
@@ -14,28 +15,95 @@ use Rattle.boxes.specs.Boxes.{boxes}
 use Rattle.boxes.specs.Walk.{boxAt, Ran, Over}
 use Rattle.boxes.specs.declared.walk.Walk.{Walk}
 use Rattle.boxes.specs.declared.walk.BoxAt.{BoxAt}
+use Rattle.boxes.proofs.Reading.{All, Headed, heads}
+use Rattle.boxes.proofs.Reading.All.{none, some}
 use Rattle.boxes.proofs.Seeking.{ran-size}
-use Rattle.mdat.specs.Payloads.{mdats, Spot, nowhere, spot, past, resolve, fits, inAt, boxHolds}
+use Rattle.mdat.specs.Payloads.{mdats, Spot, nowhere, spot, past, resolve, fits, inAt}
+use Rattle.mdat.specs.Rules.{lies}
 use Rattle.mdat.proofs.Payloads.{mdat-or, resolve-here, resolve-past, mdats-hit, within-hit, within-low, within-miss, past-nowhere}
 use Rattle.mdat.proofs.Behind.{behind-some}
 
--- ---- over a list of boxes
+-- the n bytes from place o on lie in the payload of a box, by its code, its payload's place and its end
+abbrev held : (code start end o n : ℕ) → Bool
+held code start end o n = every (isEq code MDAT ∷ isLe start o ∷ isLe (o + n) end ∷ [])
 
-in-none : (o n : ℕ) → false ≡ inAt [] o n
-unfolding inAt resolve
-in-none o n = refl
+-- a box further on has them so much further on
+held-shift : (p code start end o n : ℕ) → held code (p + start) (p + end) (p + o) n ≡ held code start end o n
+held-shift p code start end o n = rw (le-shift start o, same) refl
+  where
+    le-shift : (a b : ℕ) → isLe (p + a) (p + b) ≡ isLe a b
+    le-shift a b = lt-or b a (λ k. not-le _ _ (omega arith) ∙ sym (not-le _ _ k)) (λ k. is-le _ _ (omega arith) ∙ sym (is-le _ _ k))
+
+    same : isLe (p + o + n) (p + end) ≡ isLe (o + n) end
+    same = let e : p + o + n ≡ p + (o + n) = omega arith in rw e (le-shift (o + n) end)
+
+-- ---- over a list of boxes from place p on
+
+-- no box has what stands before it
+lies-before : {l : List Box} → All Headed l → (p o n : ℕ) → o ≤ p → lies l p o n ≡ false
+unfolding lies
+lies-before none p o n h = refl
+lies-before (some {x} {l} g a) p o n h =
+    rw (← fails 1 (isEq (x .code) MDAT ∷ isLe (p + x .head) o ∷ isLe (o + n) (p + size x) ∷ []) (not-le _ _ (omega arith)))
+    (lies-before a (p + size x) o n (omega arith))
+
+module _ (x : Box) (l : List Box) (p o n : ℕ) where
+  -- up to its end the first box decides
+  lies-here : All Headed l → o ≤ p + size x → lies (x ∷ l) p o n ≡ held (x .code) (p + x .head) (p + size x) o n
+  unfolding lies
+  lies-here a h = rw (lies-before a (p + size x) o n h) (go (held (x .code) (p + x .head) (p + size x) o n))
+    where
+      go : (t : Bool) → pick t true false ≡ t
+      go true = refl
+      go false = refl
+
+  -- past it the others
+  lies-past : p + size x < o → lies (x ∷ l) p o n ≡ lies l (p + size x) o n
+  unfolding lies
+  lies-past h = rw (← fails 2 (isEq (x .code) MDAT ∷ isLe (p + x .head) o ∷ isLe (o + n) (p + size x) ∷ []) (not-le _ _ (omega arith)))
+
+-- ---- over the walk
+
+-- place o is not before place at, and is judged by the boxes from there on
+pub record Ahead (xs : List ℕ) (o n at : ℕ) : Type 0 where
+  pub left : lies (boxes xs) 0 o n ≡ lies (boxes (drop at xs)) at o n
+  pub below : at ≤ o
+
+pub ahead-all : (xs : List ℕ) (o n : ℕ) → Ahead xs o n 0
+ahead-all xs o n = record { left = refl; below = omega arith }
+
+module _ {xs : List ℕ} {o n at : ℕ} (a : Ahead xs o n at) where
+  pub ahead-over : Over xs at → false ≡ lies (boxes xs) 0 o n
+  unfolding lies
+  ahead-over v = sym (a .left ∙ rw (v .list))
+
+  module _ {b : BoxAt} {w : Walk} (s : Ran xs at b w) where
+    pub ahead-more : {end : ℕ} → end ≡ b .at + b .size → end < o → Ahead xs o n end
+    ahead-more {end} q h =
+        let i : w .at ≡ end = omega (arith, s .next, s .start) in
+        let e : at + size (boxAt xs b) ≡ end = omega (arith, ran-size s, s .start) in
+        record {
+          left = a .left ∙ rw (s .list) (lies-past (boxAt xs b) (boxes (drop (w .at) xs)) at o n (omega arith) ∙ rw (e, i));
+          below = omega arith;
+        }
+
+    pub ahead-here : o ≤ b .at + b .size → lies (boxes xs) 0 o n ≡ held (b .code) (b .at + b .head) (b .at + b .size) o n
+    ahead-here h =
+        a .left ∙ rw (s .list) (lies-here (boxAt xs b) (boxes (drop (w .at) xs)) at o n (heads (drop (w .at) xs)) (omega (arith, ran-size s, s .start))
+        ∙ rw (ran-size s, ← s .start))
+
+-- ---- as relocation finds it
 
 module _ (x : Box) (l : List Box) (o n : ℕ) where
-  hit : x .code ≡ MDAT → x .head ≤ o → isLe (o - x .head + n) (length (x .body)) ≡ boxHolds (x .code) (x .head) (size x) o n
-  unfolding boxHolds
+  hit : x .code ≡ MDAT → x .head ≤ o → isLe (o - x .head + n) (length (x .body)) ≡ held (x .code) (x .head) (size x) o n
   hit c k =
       lt-or (size x) (o + n)
       (λ e. not-le _ _ (omega arith) ∙ fails 2 _ (not-le _ _ e))
       (λ e. is-le _ _ (omega arith) ∙ and _ _ (is-eq _ _ c) (and _ _ (is-le _ _ k) (and _ _ (is-le _ _ e) done)))
 
-  -- in the first box, by its own numbers
-  in-here : o ≤ size x → inAt (x ∷ l) o n ≡ boxHolds (x .code) (x .head) (size x) o n
-  unfolding inAt boxHolds
+  -- in the first box
+  in-here : o ≤ size x → inAt (x ∷ l) o n ≡ held (x .code) (x .head) (size x) o n
+  unfolding inAt
   in-here h =
       rw (resolve-here x l o h) (mdat-or x
       (λ c. lt-or o (x .head) (λ k. rw (within-low x c o k) (fails 1 _ (not-le _ _ k))) (λ k. rw (within-hit x c o k, mdats-hit x c l) (hit c k)))
@@ -50,29 +118,15 @@ module _ (x : Box) (l : List Box) (o n : ℕ) where
       go nowhere = rw (past-nowhere x)
       go (spot j i) = behind-some x j (λ k b. rw (b .spots i, b .body l))
 
--- ---- over the walk
+lies-from : {l : List Box} → All Headed l → (p o n : ℕ) → lies l p (p + o) n ≡ inAt l o n
+unfolding lies inAt resolve
+lies-from none p o n = refl
+lies-from (some {x} {l} g a) p o n =
+    lt-or (size x) o
+    (λ k. let e : p + o ≡ p + size x + (o - size x) = omega arith in
+    lies-past x l p (p + o) n (omega arith) ∙ ap (λ (q : ℕ). lies l (p + size x) q n) e ∙ lies-from a (p + size x) (o - size x) n ∙ sym (in-past x l o n k))
+    (λ k. lies-here x l p (p + o) n a (omega arith) ∙ held-shift p (x .code) (x .head) (size x) o n ∙ sym (in-here x l o n k))
 
--- place o is not before place at, and is judged by the boxes from there on
-pub record Ahead (xs : List ℕ) (o n at : ℕ) : Type 0 where
-  pub left : inAt (boxes xs) o n ≡ inAt (boxes (drop at xs)) (o - at) n
-  pub below : at ≤ o
-
-pub ahead-all : (xs : List ℕ) (o n : ℕ) → Ahead xs o n 0
-ahead-all xs o n = let e : o - 0 ≡ o = omega arith in record { left = rw e; below = omega arith }
-
-module _ {xs : List ℕ} {o n at : ℕ} (a : Ahead xs o n at) where
-  pub ahead-over : Over xs at → false ≡ inAt (boxes xs) o n
-  ahead-over v = in-none (o - at) n ∙ sym (a .left ∙ rw (v .list))
-
-  module _ {b : BoxAt} {w : Walk} (s : Ran xs at b w) where
-    pub ahead-more : {end : ℕ} → end ≡ b .at + b .size → end < o → Ahead xs o n end
-    ahead-more {end} q h =
-        let i : w .at ≡ end = omega (arith, s .next, s .start) in
-        let e : o - at - b .size ≡ o - end = omega (arith, s .start) in
-        record {
-          left = a .left ∙ rw (s .list) (in-past (boxAt xs b) (boxes (drop (w .at) xs)) (o - at) n (omega (arith, ran-size s, s .next)) ∙ rw (ran-size s, e, i));
-          below = omega arith;
-        }
-
-    pub ahead-here : o ≤ b .at + b .size → inAt (boxes xs) o n ≡ boxHolds (b .code) (b .head) (b .size) (o - at) n
-    ahead-here h = a .left ∙ rw (s .list) (in-here (boxAt xs b) (boxes (drop (w .at) xs)) (o - at) n (omega (arith, ran-size s, s .start)) ∙ rw (ran-size s))
+-- rule 8 holds of a place exactly where it resolves and fits
+pub lies-at : {l : List Box} → All Headed l → (o n : ℕ) → lies l 0 o n ≡ inAt l o n
+lies-at {l} a o n = let z : o ≡ 0 + o = omega arith in ap (λ (q : ℕ). lies l 0 q n) z ∙ lies-from a 0 o n

@@ -1,20 +1,16 @@
 -- Places in lists of boxes that were put together. Assumes nothing.
 use Prim.Native.Nat.{ℕ, suc, _+_, _-_, _≤_, _<_}
 use native.Mathlib.Omega.{arith}
-use mathlib.Core.Path.{_≡_, refl, sym, ap, _∙_}
+use mathlib.Core.Path.{_≡_, sym, ap, _∙_}
 use mathlib.Core.List.{List, [], _∷_, _++_}
 use lib.ListN.{length, getD, List·getD-append}
 use Rattle.codes.specs.Codes.{MDAT}
-use Rattle.boxes.specs.Box.{Box, size, write}
+use Rattle.boxes.specs.Box.{Box, size}
 use Rattle.boxes.specs.Boxes.{total}
-use Rattle.boxes.proofs.Whole.{Good}
-use Rattle.boxes.proofs.Reading.{All}
-use Rattle.boxes.proofs.Reading.All.{none, some}
 use Rattle.mdat.specs.Payloads.{mdats, placeOf}
 use Rattle.mdat.proofs.Payloads.{mdat-or, mdats-hit, place-hit, mdats-miss}
 use Rattle.mdat.proofs.Behind.{front-or, behind-hit, behind-miss}
 use Rattle.mdat.proofs.Mdats.{mdats-append}
-use Rattle.mdat.proofs.Places.{write-long}
 
 -- a payload of the first list
 pub place-left : (p r : List Box) (j i : ℕ) → j < length (mdats p) → placeOf (p ++ r) j i ≡ placeOf p j i
@@ -54,10 +50,3 @@ place-behind p q z nz j i h =
     let s : length (mdats p) + (j - length (mdats p)) ≡ j = omega arith in
     ap (λ (k : ℕ). placeOf (p ++ z ∷ q) k i) (sym s) ∙ place-right p (z ∷ q) (j - length (mdats p)) i
     ∙ ap (λ (n : ℕ). total p + n) (behind-miss z nz (j - length (mdats p)) .place q i)
-
--- ---- lengths
-
-pub total-write : {l : List Box} → All Good l → total l ≡ length (write l)
-unfolding total write
-total-write none = refl
-total-write (some {x} {l} g a) = omega (arith, total-write a, write-long x l g)

@@ -79,9 +79,3 @@ module _ (l m : List Box) (same : mdats l ≡ mdats m) (g : All Good m) where
           let t = resolved l o j i e in
           let w = lands o 0 (record { j = j; i = i; found = e; room = omega (arith, t .into) }) in
           rw (relocate-to l m o j i e) (omega (arith, w .high))
-
-  -- a second relocation sees through the first
-  pub relocate-then : (k : List Box) (o n : ℕ) → inAt l o n ≡ true → relocate m k (relocate l m o) ≡ relocate l k o
-  relocate-then k o n h =
-      let s = in-lies l o n h in
-      relocate-to m k (relocate l m o) (s .j) (s .i) (relocate-found o n s) ∙ sym (relocate-to l k o (s .j) (s .i) (s .found))

@@ -6,15 +6,15 @@ use mathlib.Core.List.{List, [], _∷_, _++_}
 use Rattle.wire.specs.Tests.{ifEq, ifLt, ifLe}
 use Rattle.wire.specs.Numbers.{bytesOn, bytes, word}
 use Rattle.wire.specs.Sums.{sumTo, allTo}
-use Rattle.wire.specs.Clauses.{isLe}
+use Rattle.wire.specs.Clauses.{isEq, isLe, every}
 use Rattle.wire.specs.Text.{text}
 use Rattle.boxes.specs.Boxes.{whole, boxes}
 use Rattle.sample_tables.specs.Sizes.{sizeAt, bytesFrom}
 use Rattle.sample_tables.specs.Runs.{runAmong, runOf}
 use Rattle.sample_tables.specs.Chunks.{samplesIn, firstSample, descriptionOf, chunkAt, extentOf}
-use Rattle.mdat.specs.Payloads.{mdats, inBox, past, resolve, placeOf, inAt}
+use Rattle.mdat.specs.Payloads.{inBox, past, resolve, placeOf}
 use Rattle.mdat.specs.Relocate.{relocate}
-use Rattle.mdat.specs.Rules.{chunkIn, chunksIn, chunksLie}
+use Rattle.mdat.specs.Rules.{lies, chunkIn, chunksIn, chunksLie}
 use Rattle.mdat.specs.Samples.{joinTo, sampleIn, chunkSamples, samplesOf}
 
 abbrev media : List ℕ
@@ -42,12 +42,12 @@ eightAt o = chunksLie (boxes file) stsc stsz (stco o)
 
 -- rule 8: the chunk a byte early, in its place, a byte late
 chunks : eightAt 19 ∷ eightAt 20 ∷ eightAt 21 ∷ [] ≡ false ∷ true ∷ false ∷ []
-unfolding chunksIn allTo chunkIn inAt mdats resolve inBox past extentOf chunkAt samplesIn firstSample descriptionOf runOf runAmong sizeAt bytesFrom sumTo boxes whole word bytes bytesOn isLe ifEq ifLt ifLe
+unfolding chunksIn allTo chunkIn lies extentOf chunkAt samplesIn firstSample descriptionOf runOf runAmong sizeAt bytesFrom sumTo boxes whole word bytes bytesOn every isEq isLe ifEq ifLt ifLe
 chunks = refl
 
 -- no bytes at the payload's end, and past it
-ends : inAt (boxes file) 25 0 ∷ inAt (boxes file) 26 0 ∷ [] ≡ true ∷ false ∷ []
-unfolding inAt mdats resolve inBox past boxes whole word bytes bytesOn isLe ifEq ifLt ifLe
+ends : lies (boxes file) 0 25 0 ∷ lies (boxes file) 0 26 0 ∷ [] ≡ true ∷ false ∷ []
+unfolding lies boxes whole word bytes bytesOn every isEq isLe ifLe
 ends = refl
 
 -- without the first box the payload is 12 bytes nearer

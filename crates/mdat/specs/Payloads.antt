@@ -1,10 +1,10 @@
--- Where bytes of media stand in a file: which `mdat` of its list of top-level boxes, and how far into the payload.
+-- Where an edit finds bytes of media: which `mdat` of the list of top-level boxes, and how far into the payload.
 use Prim.Native.Nat.{ℕ, suc, _+_, _-_}
 use mathlib.Core.Bool.{Bool, false}
 use mathlib.Core.List.{List, [], _∷_}
 use lib.ListN.{length, getD}
 use Rattle.wire.specs.Tests.{ifEq, ifLt}
-use Rattle.wire.specs.Clauses.{isEq, isLe, every}
+use Rattle.wire.specs.Clauses.{isLe}
 use Rattle.codes.specs.Codes.{MDAT}
 use Rattle.boxes.specs.Box.{Box, size}
 use Rattle.boxes.specs.Seek.{byNumber}
@@ -49,10 +49,6 @@ abbrev pub fits : List (List ℕ) → ℕ → Spot → Bool
 fits ms n nowhere = false
 fits ms n (spot j i) = isLe (i + n) (length (getD ms j []))
 
--- rule 8 of n bytes from place o on: they lie inside one payload, and 0 bytes may stand at its end
+-- n bytes from place o on lie inside one payload
 unfoldable pub inAt : List Box → ℕ → ℕ → Bool
 inAt l o n = fits (mdats l) n (resolve l o)
-
--- the same of one box, by its code, its header's length and its size: n bytes from o bytes into it
-unfoldable pub boxHolds : (code head size o n : ℕ) → Bool
-boxHolds code head size o n = every (isEq code MDAT ∷ isLe head o ∷ isLe (o + n) size ∷ [])

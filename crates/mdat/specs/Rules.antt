@@ -1,16 +1,23 @@
 -- Rule 8: "Each chunk, its samples laid end to end from its offset, lies inside the payload of one top-level mdat."
-use Prim.Native.Nat.{ℕ, _≤_}
-use mathlib.Core.Bool.{Bool}
-use mathlib.Core.List.{List}
+use Prim.Native.Nat.{ℕ, _+_, _≤_}
+use mathlib.Core.Bool.{Bool, true, false}
+use mathlib.Core.List.{List, [], _∷_}
+use Rattle.wire.specs.Tests.{pick}
+use Rattle.wire.specs.Clauses.{isEq, isLe, every}
 use Rattle.wire.specs.Sums.{allTo}
-use Rattle.boxes.specs.Box.{Box}
+use Rattle.codes.specs.Codes.{MDAT}
+use Rattle.boxes.specs.Box.{Box, size}
 use Rattle.sample_tables.specs.Tables.{items}
 use Rattle.sample_tables.specs.Chunks.{samplesOver, extentAt, Walkable}
-use Rattle.mdat.specs.Payloads.{inAt}
 
--- of chunk k of a track, in a file with boxes l
+-- one of the boxes, which stand from place p on, is an `mdat` whose payload has the n bytes from place o on
+unfoldable pub lies : List Box → (p o n : ℕ) → Bool
+lies [] p o n = false
+lies (x ∷ l) p o n = pick (every (isEq (x .code) MDAT ∷ isLe (p + x .head) o ∷ isLe (o + n) (p + size x) ∷ [])) true (lies l (p + size x) o n)
+
+-- of chunk k of a track, in a file with the boxes l
 unfoldable pub chunkIn : List Box → (stsc stsz stco : List ℕ) → ℕ → Bool
-chunkIn l stsc stsz stco k = inAt l (extentAt stsc stsz stco k .offset) (extentAt stsc stsz stco k .bytes)
+chunkIn l stsc stsz stco k = lies l 0 (extentAt stsc stsz stco k .offset) (extentAt stsc stsz stco k .bytes)
 
 -- of the first n chunks
 unfoldable pub chunksIn : List Box → (stsc stsz stco : List ℕ) → ℕ → Bool

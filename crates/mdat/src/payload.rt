@@ -4,22 +4,24 @@ use boxes::walk::Step;
 use boxes::walk::Walk;
 ghost use mathlib.Core.Path.{_≡_};
 ghost use Prim.Native.Nat.{_+_, _^_, _≤_, _<_};
-ghost use Rattle.wire.specs.Clauses.{oneIf};
+ghost use mathlib.Core.List.{[], _∷_};
+ghost use Rattle.wire.specs.Clauses.{isEq, isLe, every, oneIf};
+ghost use Rattle.codes.specs.Codes.{MDAT};
 ghost use Rattle.boxes.specs.Boxes.{boxes};
-ghost use Rattle.mdat.specs.Payloads.{inAt, boxHolds};
+ghost use Rattle.mdat.specs.Rules.{lies};
 
-// Whether so many bytes, from so far into a box, lie in its payload, and it is an `mdat`: 1 or 0.
-fn holds(b: BoxAt, from: usize, bytes: usize) -> usize
-    requires { ⌜ from ≤ b .size ⌝ }
-    ensures { λ r. ⌜ r ≡ oneIf (boxHolds (b .code) (b .head) (b .size) from bytes) ⌝ }
+// Whether so many bytes from a place on lie in the payload of a box, and it is an `mdat`: 1 or 0.
+fn holds(b: BoxAt, offset: usize, bytes: usize) -> usize
+    requires { ⌜ (b .head ≤ b .size) × (b .at + b .size < 2 ^ 63) × (offset ≤ b .at + b .size) ⌝ }
+    ensures { λ r. ⌜ r ≡ oneIf (every (isEq (b .code) MDAT ∷ isLe (b .at + b .head) offset ∷ isLe (offset + bytes) (b .at + b .size) ∷ [])) ⌝ }
 {
     if b.code != codes::MDAT {
         return 0;
     }
-    if from < b.head {
+    if offset < b.at + b.head {
         return 0;
     }
-    if b.size - from < bytes {
+    if b.at + b.size - offset < bytes {
         return 0;
     }
     1
@@ -35,7 +37,7 @@ fn past(b: BoxAt) -> usize
 
 // Whether so many bytes from a place on lie inside the payload of one `mdat` of the file: 1 or 0.
 pub fn in_payload(file: &[u8], offset: usize, bytes: usize) -> usize
-    ensures { λ r. ⌜ r ≡ oneIf (inAt (boxes (now (file .entry))) offset bytes) ⌝ }
+    ensures { λ r. ⌜ r ≡ oneIf (lies (boxes (now (file .entry))) 0 offset bytes) ⌝ }
 {
     let mut w = Walk { at: 0 };
     loop {
@@ -43,7 +45,7 @@ pub fn in_payload(file: &[u8], offset: usize, bytes: usize) -> usize
             Step::Found(b, _) => {
                 let end = past(b);
                 if offset <= end {
-                    return holds(b, offset - w.at, bytes);
+                    return holds(b, offset, bytes);
                 }
                 w = Walk { at: end };
             }

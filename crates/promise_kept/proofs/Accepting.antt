@@ -9,9 +9,11 @@ use Rattle.wire.specs.Numbers.{Bytes}
 use Rattle.boxes.specs.Box.{Box, write}
 use Rattle.boxes.specs.Boxes.{boxes}
 use Rattle.boxes.specs.Containers.{FILE, DEPTH, LONGEST}
+use Rattle.boxes.proofs.Reading.{heads}
 use Rattle.rule.specs.Rule.{Rule}
-use Rattle.rule_shape.specs.Shape.{needed, besides, shape}
-use Rattle.rule_shape.specs.Rules.{twoRule, threeRule, editableRule}
+use Rattle.rule_shape.specs.Three.{needed, besides, shape, threeRule}
+use Rattle.rule_shape.specs.Two.{twoRule}
+use Rattle.rule_shape.specs.TwentyThree.{editableRule}
 use Rattle.rule_shape.proofs.Keeping.{same-exactly, kin-2, kin-3, kin-plain}
 use Rattle.rule_lists.specs.Rules.{fiveRule, nineRule}
 use Rattle.rule_lists.proofs.Keeping.{kin-5, kin-9}
@@ -72,7 +74,7 @@ module _ {A : List Box → List Box} (a : Arranges A) (xs ys : List ℕ) (w : By
         seven = to-file sevenRule (λ p. refl) (kin-7 G (s .tables) DEPTH FILE xs mid h (m .seven));
         eight =
             rw (in-order a xs ys w m c) (to-file (eightRule (A (boxes mid))) (λ p. refl)
-            (kin-8 G (s .tables) (boxes xs) (A (boxes mid)) (same-payloads a xs ys w m c) (new-good a xs ys w m c) (edit-moved a xs ys w m c) DEPTH FILE xs mid h (m .eight)));
+            (kin-8 G (s .tables) (boxes xs) (A (boxes mid)) (same-payloads a xs ys w m c) (heads xs) (new-good a xs ys w m c) (edit-moved a xs ys w m c) DEPTH FILE xs mid h (m .eight)));
         nine = to-file nineRule (λ p. p) (kin-9 G (s .urls) DEPTH FILE xs mid h (m .nine));
         ten = to-file tenRule (λ p. refl) (kin-10 G (s .described) DEPTH FILE xs mid h (m .ten));
       }

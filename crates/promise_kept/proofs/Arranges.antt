@@ -9,7 +9,7 @@ use Rattle.boxes.specs.Seek.{count, find}
 use Rattle.boxes.specs.Rewrite.{Bodies, over}
 use Rattle.boxes.proofs.Reading.{All}
 use Rattle.mdat.specs.Payloads.{mdats}
-use Rattle.rule_shape.specs.Shape.{first}
+use Rattle.rule_shape.specs.Three.{first}
 
 -- the same boxes, each with its bytes; what the rules read of the list stays, and bodies are not looked at
 pub record Arranges (A : List Box → List Box) : Type 1 where

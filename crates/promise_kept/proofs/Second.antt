@@ -10,7 +10,7 @@ use Rattle.boxes.specs.Seek.{count, nth, find}
 use Rattle.boxes.proofs.Meaning.{meant-no}
 use Rattle.mdat.specs.Payloads.{mdats}
 use Rattle.mdat.proofs.Payloads.{mdat-or, mdats-hit, mdats-miss}
-use Rattle.rule_shape.specs.Shape.{first}
+use Rattle.rule_shape.specs.Three.{first}
 use Rattle.edit_move.specs.Moving.{moovSecond}
 use Rattle.edit_move.proofs.Order.{second-length}
 use Rattle.edit_move.proofs.Sifting.{seconded, each-second}

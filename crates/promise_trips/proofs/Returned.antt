@@ -50,7 +50,7 @@ module _ (xs : List ℕ) (m : Meets xs) where
     entries-small =
         let l = lies-found MOOV 0 xs v in
         let w = bytes-lies l v in
-        small-after 0 (startIn MOOV 0 (boxes xs)) (parts (find MOOV (boxes xs)) w .filled) all-described (omega (arith, l .inside, total-is (find MOOV (boxes xs)) w, m .most))
+        small-after 0 (startIn MOOV 0 (boxes xs)) (parts (find MOOV (boxes xs)) w .filled) all-described (omega (arith, l .inside, total-is (find MOOV (boxes xs)), m .most))
 
     -- the sheet that is read from an accepted file has the form
     pub own-formed : formed SLOTS (sheetOf xs) ≡ true

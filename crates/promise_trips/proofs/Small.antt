@@ -44,7 +44,8 @@ unfolding entriesOf entriesStart
 small-of t b p v d h =
     let w = bytes-drop FRONT (sampleTable STSD b) (bytes-stsd b v) in
     let n = length-drop FRONT (sampleTable STSD b) in
-    small-from t _ (parts (drop FRONT (sampleTable STSD b)) w .good) (omega (arith, lies-stsd b v .inside, total-is (drop FRONT (sampleTable STSD b)) w, n, d .listed .room))
+    small-from t _ (parts (drop FRONT (sampleTable STSD b)) w .good)
+    (omega (arith, lies-stsd b v .inside, total-is (drop FRONT (sampleTable STSD b)), n, d .listed .room))
 
 -- ---- all of them
 

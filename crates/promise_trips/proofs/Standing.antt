@@ -11,8 +11,7 @@ use Rattle.boxes.specs.Way.{boxBy}
 use Rattle.boxes.proofs.Lying.{lies-whole, Lies, bytes-lies, lies-in}
 use Rattle.movie.specs.Movie.{tracks, track, minf, stbl, sampleTable}
 use Rattle.movie.proofs.Naming.{lies-track, lies-stbl}
-use Rattle.rule_shape.specs.Shape.{needed}
-use Rattle.rule_shape.specs.Rules.{threeRule}
+use Rattle.rule_shape.specs.Three.{needed, threeRule}
 use Rattle.rule_shape.proofs.Descent.{needed-some, in-track, in-stbl}
 use Rattle.judge.specs.Acceptance.{Meets}
 use Rattle.judge.proofs.Tables.{file-met}

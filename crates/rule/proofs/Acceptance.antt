@@ -12,7 +12,6 @@ use Rattle.rule.specs.declared.Verdict.the-variants.{Fine}
 use Rattle.rule.specs.Verdict.{isFine}
 use Rattle.rule.specs.Judge.{Judge, judgeList, judgeBox, judgeIn}
 use Rattle.rule.specs.Rule.{Rule, allList, allBox, allIn, Says}
-use Rattle.rule.specs.Inner.{inFirst, holds}
 use Rattle.rule.proofs.Places.{fine-is, sooner-fine}
 
 pub list-fine : (j : Box → ℕ → Verdict) (e : ℕ → Verdict) (f : Box → Bool) (t : Bool) → ((x : Box) (p : ℕ) → isFine (j x p) ≡ f x) → ((p : ℕ) → isFine (e p) ≡ t)
@@ -41,10 +40,3 @@ module _ (j : Judge) (r : Rule) (s : Says j r) where
 
   pub all-fine : (d k : ℕ) (xs : List ℕ) (home p : ℕ) → allIn r d k xs ≡ true → judgeIn j d k xs home p ≡ Fine
   all-fine d k xs home p e = fine-is _ (judge-fine d k xs home p ∙ e)
-
--- ---- a box inside
-
-pub within-fine : (c : ℕ) (f : List ℕ → ℕ → ℕ → Verdict) (t : List ℕ → Bool) → ((b : List ℕ) (p q : ℕ) → isFine (f b p q) ≡ t b) → (l : List Box) (p : ℕ) → isFine (inFirst c f l p) ≡ holds c t l
-unfolding inFirst holds
-within-fine c f t h [] p = refl
-within-fine c f t h (x ∷ l) p = through isFine (x .code) c (f (x .body) p (p + x .head)) (inFirst c f l (p + size x)) ∙ rw (h (x .body) p (p + x .head), within-fine c f t h l (p + size x))

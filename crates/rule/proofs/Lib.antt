@@ -5,3 +5,5 @@ pub mod Keeping
 pub mod Traverse
 pub mod Answers
 pub mod Results
+pub mod Alike
+pub mod Bounds

@@ -1,6 +1,5 @@
 -- What a container's rule says of a box inside it, with its place.
 use Prim.Native.Nat.{ℕ, _+_}
-use mathlib.Core.Bool.{Bool, true}
 use mathlib.Core.List.{List, [], _∷_}
 use Rattle.wire.specs.Tests.{ifEq}
 use Rattle.boxes.specs.Box.{Box, size}
@@ -11,8 +10,3 @@ use Rattle.rule.specs.declared.Verdict.the-variants.{Fine}
 unfoldable pub inFirst : ℕ → (List ℕ → ℕ → ℕ → Verdict) → List Box → ℕ → Verdict
 inFirst c f [] p = Fine
 inFirst c f (x ∷ l) p = ifEq (x .code) c (f (x .body) p (p + x .head)) (inFirst c f l (p + size x))
-
--- the same without places
-unfoldable pub holds : ℕ → (List ℕ → Bool) → List Box → Bool
-holds c t [] = true
-holds c t (x ∷ l) = ifEq (x .code) c (t (x .body)) (holds c t l)

@@ -14,8 +14,7 @@ use Rattle.boxes.proofs.Every.{all-with, each-nth}
 use Rattle.movie.specs.Movie.{movie, tracks, track, minf}
 use Rattle.rule.specs.Rule.{Rule, allIn}
 use Rattle.rule.proofs.Opened.{opened, leaves-of, inside-of}
-use Rattle.rule_shape.specs.Shape.{needed}
-use Rattle.rule_shape.specs.Rules.{threeRule}
+use Rattle.rule_shape.specs.Three.{needed, threeRule}
 use Rattle.rule_shape.proofs.Needs.{needs, needs-code, shape-one, shape-tracks}
 
 -- rule 3 and the rule r hold of a container of kind k, d deep
@@ -27,8 +26,12 @@ module _ {r : Rule} {d k : ℕ} {xs : List ℕ} (m : Met r (suc d) k xs) where
   pub node-met : r .node k xs ≡ true
   node-met = opened r d k xs (m .rule) .node
 
+  -- each container in it
+  pub met-inside : All (λ x. (kindIn k (x .code) ≡ 0 → ⊥) → Met r d (kindIn k (x .code)) (x .body)) (boxes xs)
+  met-inside = all-with (λ x p q z. record { three = p z; rule = q z }) (opened threeRule d k xs (m .three) .inside) (opened r d k xs (m .rule) .inside)
+
   module _ (c : ℕ) where
-    -- each container of a code in it
+    -- those of a code
     pub each-met : (c ≡ ANY → ⊥) → kindIn k c ≡ c → All (λ x. x .code ≡ c → Met r d c (x .body)) (boxes xs)
     each-met z e =
         let o : kindIn k c ≡ 0 → ⊥ = λ y. z (sym e ∙ y) in

@@ -12,8 +12,9 @@ use Rattle.boxes.specs.Kin.{Leaf, Kin}
 use Rattle.boxes.proofs.Kin.{kin-codes, kin-count}
 use Rattle.rule.specs.Rule.{allIn}
 use Rattle.rule.proofs.Keeping.{keep}
-use Rattle.rule_shape.specs.Shape.{needed, barred, exactly, first, besides, shape}
-use Rattle.rule_shape.specs.Rules.{twoRule, threeRule, editableRule}
+use Rattle.rule_shape.specs.Three.{needed, exactly, first, besides, shape, threeRule}
+use Rattle.rule_shape.specs.TwentyThree.{barred, editableRule}
+use Rattle.rule_shape.specs.Two.{twoRule}
 
 -- ---- lists of boxes with the same codes
 

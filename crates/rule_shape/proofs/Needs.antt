@@ -14,7 +14,7 @@ use Rattle.wire.proofs.Clauses.{eq-is, le-is, clause}
 use Rattle.boxes.specs.Box.{Box}
 use Rattle.boxes.specs.Containers.{FILE}
 use Rattle.boxes.specs.Seek.{ANY, count}
-use Rattle.rule_shape.specs.Shape.{needed, exactly, first, besides, shape}
+use Rattle.rule_shape.specs.Three.{needed, exactly, first, besides, shape}
 
 -- c is one of some codes
 abbrev has : ℕ → List ℕ → Bool

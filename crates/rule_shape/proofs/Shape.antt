@@ -18,7 +18,8 @@ use Rattle.boxes.specs.Boxes.{boxes}
 use Rattle.boxes.specs.Containers.{FILE}
 use Rattle.boxes.specs.Walk.{Ran, Over}
 use Rattle.boxes.specs.Seek.{count}
-use Rattle.rule_shape.specs.Shape.{needed, barred, exactly, first}
+use Rattle.rule_shape.specs.Three.{needed, exactly, first}
+use Rattle.rule_shape.specs.TwentyThree.{barred}
 
 -- there are n boxes of each code before the i-th: all hold where the rest do
 pub record Asked (n : ℕ) (cs : List ℕ) (l : List Box) (i : ℕ) : Type 0 where

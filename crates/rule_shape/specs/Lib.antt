@@ -1,2 +1,3 @@
-pub mod Shape
-pub mod Rules
+pub mod Two
+pub mod Three
+pub mod TwentyThree

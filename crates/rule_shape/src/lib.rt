@@ -6,7 +6,8 @@ use boxes::walk::Walk;
 ghost use mathlib.Core.Path.{_≡_};
 ghost use Rattle.wire.specs.Clauses.{oneIf};
 ghost use Rattle.boxes.specs.Boxes.{boxes};
-ghost use Rattle.rule_shape.specs.Shape.{exactly as exactlyOf, needed, barred, first, besides as besidesOf, shape};
+ghost use Rattle.rule_shape.specs.Three.{exactly as exactlyOf, needed, first, besides as besidesOf, shape};
+ghost use Rattle.rule_shape.specs.TwentyThree.{barred};
 
 // Whether a part has exactly n boxes of each code: 1 or 0.
 fn exactly(n: usize, part: &[u8], list: &[usize]) -> usize

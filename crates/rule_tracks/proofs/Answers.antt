@@ -13,8 +13,8 @@ use Rattle.boxes.specs.Box.{Box}
 use Rattle.boxes.specs.Seek.{find}
 use Rattle.sample_tables.specs.Rules.{tablesAgree, Six}
 use Rattle.sample_tables.proofs.Tables.{form-is}
-use Rattle.rule_tracks.specs.Six.{sixHolds}
 use Rattle.rule_tracks.specs.Seven.{sevenHolds}
+use Rattle.rule_tracks.specs.Asked.{sixHolds, sevenAsked}
 
 -- ---- a choice inside an answer
 
@@ -42,10 +42,11 @@ six-is l e = record { times = form-is _ _ (clause 0 _ e); runs = form-is _ _ (cl
 
 -- rule 7 is read where rule 6 holds
 module _ (l : List Box) where
-  pub seven-shut : sixHolds l ≡ false → 1 ≡ oneIf (sevenHolds l)
-  unfolding sevenHolds
+  pub seven-shut : sixHolds l ≡ false → 1 ≡ oneIf (sevenAsked l)
+  unfolding sevenAsked
   seven-shut e = rw e (yea true refl)
 
-  pub seven-open : {r : ℕ} → sixHolds l ≡ true → r ≡ oneIf (tablesAgree (find STTS l) (find STSC l) (find STSZ l) (find STCO l) (word 4 (find STSD l) 4)) → r ≡ oneIf (sevenHolds l)
-  unfolding sevenHolds
+  pub seven-open : {r : ℕ} → sixHolds l ≡ true
+      → r ≡ oneIf (tablesAgree (find STTS l) (find STSC l) (find STSZ l) (find STCO l) (word 4 (find STSD l) 4)) → r ≡ oneIf (sevenAsked l)
+  unfolding sevenAsked sevenHolds
   seven-open e q = rw e q

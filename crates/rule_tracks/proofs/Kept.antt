@@ -1,10 +1,10 @@
 -- Rules 6 and 7: acceptance without places, and what keeps them. Assumes nothing.
 use Prim.Native.Nat.{ℕ, suc}
 use native.Mathlib.Omega.{arith}
-use mathlib.Core.Path.{_≡_, refl, sym, ap, _∙_}
-use mathlib.Core.Bool.{Bool, true}
+use mathlib.Core.Path.{_≡_, refl, sym, _∙_}
+use mathlib.Core.Bool.{true}
 use mathlib.Core.List.{List}
-use Rattle.wire.specs.Tests.{pick, ifEq}
+use Rattle.wire.specs.Tests.{ifEq}
 use Rattle.wire.specs.Numbers.{word}
 use Rattle.codes.specs.Codes.{STBL, STSD, STTS, STSC, STSZ, STCO}
 use Rattle.boxes.specs.Boxes.{boxes}
@@ -16,7 +16,7 @@ use Rattle.sample_tables.specs.Tables.{tableForm}
 use Rattle.sample_tables.proofs.Rules.{seven-same}
 use Rattle.rule.specs.Rule.{allIn}
 use Rattle.rule.proofs.Keeping.{keep, kept-at}
-use Rattle.rule_tracks.specs.Six.{tableIn, sixRule, sixHolds}
+use Rattle.rule_tracks.specs.Six.{tableIn, sixRule}
 use Rattle.rule_tracks.specs.Seven.{sevenHolds, sevenIn, sevenRule}
 
 -- rule 6, where the lengths of tables are kept
@@ -38,27 +38,17 @@ module _ (G : Leaf) (t : Tables G) where
     pub same-table : (c : ℕ) → (c ≡ 0 → ⊥) → kindIn STBL c ≡ 0 → ((b b′ : List ℕ) → G STBL c b b′ → b ≡ b′) → find c (boxes xs) ≡ find c (boxes ys)
     same-table c z o h = kin-find G d STBL xs ys a c z (λ u v. u ≡ v) refl o h 0
 
-    pub six-kept : sixHolds (boxes xs) ≡ sixHolds (boxes ys)
-    unfolding sixHolds kindIn parent ifEq
-    six-kept =
-        rw (
-          same-table STTS (λ z. omega arith) refl (t .stts),
-          same-table STSC (λ z. omega arith) refl (t .stsc),
-          same-table STSZ (λ z. omega arith) refl (t .stsz),
-          kin-find G d STBL xs ys a STCO (λ z. omega arith) (λ u v. tableForm 4 u ≡ tableForm 4 v) refl refl (λ b b′ g. t .stco b b′ g .1) 0,
-        )
-
-    pub seven-kept : sevenHolds (boxes xs) ≡ sevenHolds (boxes ys)
+    seven-kept : sevenHolds (boxes xs) ≡ sevenHolds (boxes ys)
     unfolding sevenHolds kindIn parent ifEq
     seven-kept =
         rw (
-          six-kept,
           same-table STTS (λ z. omega arith) refl (t .stts),
           same-table STSC (λ z. omega arith) refl (t .stsc),
           same-table STSZ (λ z. omega arith) refl (t .stsz),
           kin-find G d STBL xs ys a STSD (λ z. omega arith) (λ u v. word 4 u 4 ≡ word 4 v 4) refl refl (t .stsd) 0,
         )
-        (ap (λ (s : Bool). pick (sixHolds (boxes ys)) s true) (seven-same _ _ _ _ (find STCO (boxes xs)) (find STCO (boxes ys)) (kin-find G d STBL xs ys a STCO (λ z. omega arith) (λ u v. word 4 u 4 ≡ word 4 v 4) refl refl (λ b b′ g. t .stco b b′ g .0) 0)))
+        (seven-same _ _ _ _ (find STCO (boxes xs)) (find STCO (boxes ys))
+        (kin-find G d STBL xs ys a STCO (λ z. omega arith) (λ u v. word 4 u 4 ≡ word 4 v 4) refl refl (λ b b′ g. t .stco b b′ g .0) 0))
 
   in-kept : (d k : ℕ) (xs ys : List ℕ) → Kin G (suc d) k xs ys → sevenIn k xs ≡ true → sevenIn k ys ≡ true
   unfolding sevenIn

@@ -2,9 +2,9 @@
 use Prim.Native.Nat.{ℕ, suc}
 use native.Mathlib.Omega.{arith}
 use mathlib.Core.Path.{_≡_, refl, _∙_}
-use mathlib.Core.Bool.{Bool, true, false}
+use mathlib.Core.Bool.{true}
 use mathlib.Core.List.{List}
-use Rattle.wire.specs.Tests.{pick, ifEq}
+use Rattle.wire.specs.Tests.{ifEq}
 use Rattle.codes.specs.Codes.{STBL, STSC, STSZ, STCO}
 use Rattle.wire.proofs.Tests.{through}
 use Rattle.boxes.specs.Box.{Box}
@@ -13,7 +13,7 @@ use Rattle.boxes.specs.Seek.{find}
 use Rattle.boxes.specs.Containers.{kindIn, parent}
 use Rattle.boxes.specs.Kin.{Leaf, Kin}
 use Rattle.boxes.proofs.Whole.{Good}
-use Rattle.boxes.proofs.Reading.{All}
+use Rattle.boxes.proofs.Reading.{All, Headed}
 use Rattle.boxes.proofs.Kin.{kin-find}
 use Rattle.mdat.specs.Payloads.{mdats}
 use Rattle.mdat.specs.Relocate.{Relocated}
@@ -24,35 +24,22 @@ use Rattle.rule.specs.Verdict.{isFine}
 use Rattle.rule.specs.Rule.{allIn, Says}
 use Rattle.rule.proofs.Keeping.{keep, kept-at}
 use Rattle.rule.proofs.Places.{unless-fine}
-use Rattle.rule_tracks.specs.Six.{sixHolds}
-use Rattle.rule_tracks.specs.Seven.{sevenHolds}
 use Rattle.rule_tracks.specs.Eight.{eightHolds, eightAt, eightIn, eight, eightRule}
-use Rattle.rule_tracks.proofs.Kept.{Tables, same-table, six-kept, seven-kept}
+use Rattle.rule_tracks.proofs.Kept.{Tables, same-table}
 
 pub eight-says : (l : List Box) → Says (eight l) (eightRule l)
 unfolding eightAt eightIn
 eight-says l = record { leaf = λ k c b p q. refl; node = λ k xs home p. through isFine k STBL _ Fine ∙ rw unless-fine; end = λ xs p. refl }
 
--- what is read only where two tests hold
-read-kept : (s t a b : Bool) → (a ≡ true → b ≡ true) → pick s (pick t a true) true ≡ true → pick s (pick t b true) true ≡ true
-read-kept true true a b h q = h q
-read-kept true false a b h q = refl
-read-kept false t a b h q = refl
-
 -- from a file with the boxes l to one with the boxes m and the same payloads, where every chunk offset is relocated
-module _ (G : Leaf) (t : Tables G) (l m : List Box) (same : mdats l ≡ mdats m) (good : All Good m) (moved : (b b′ : List ℕ) → G STBL STCO b b′ → Relocated l m b b′) where
+module _ (G : Leaf) (t : Tables G) (l m : List Box) (same : mdats l ≡ mdats m) (headed : All Headed l) (good : All Good m)
+    (moved : (b b′ : List ℕ) → G STBL STCO b b′ → Relocated l m b b′) where
   holds-kept : (d : ℕ) (xs ys : List ℕ) → Kin G (suc d) STBL xs ys → eightHolds l (boxes xs) ≡ true → eightHolds m (boxes ys) ≡ true
   unfolding eightHolds kindIn parent ifEq
   holds-kept d xs ys a =
-      rw (
-        ← six-kept G t d xs ys a,
-        ← seven-kept G t d xs ys a,
-        ← same-table G t d xs ys a STSC (λ z. omega arith) refl (t .stsc),
-        ← same-table G t d xs ys a STSZ (λ z. omega arith) refl (t .stsz),
-      )
-      (read-kept (sixHolds (boxes xs)) (sevenHolds (boxes xs)) _ _
-      (eight-kept l m same good (find STSC (boxes xs)) (find STSZ (boxes xs)) (find STCO (boxes xs)) (find STCO (boxes ys))
-      (kin-find G d STBL xs ys a STCO (λ z. omega arith) (Relocated l m) (relocated-none l m) refl moved 0)))
+      rw (← same-table G t d xs ys a STSC (λ z. omega arith) refl (t .stsc), ← same-table G t d xs ys a STSZ (λ z. omega arith) refl (t .stsz))
+      (eight-kept l m same headed good (find STSC (boxes xs)) (find STSZ (boxes xs)) (find STCO (boxes xs)) (find STCO (boxes ys))
+      (kin-find G d STBL xs ys a STCO (λ z. omega arith) (Relocated l m) (relocated-none l m) refl moved 0))
 
   in-kept : (d k : ℕ) (xs ys : List ℕ) → Kin G (suc d) k xs ys → eightIn l k xs ≡ true → eightIn m k ys ≡ true
   unfolding eightIn

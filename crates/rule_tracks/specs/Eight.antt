@@ -2,7 +2,7 @@
 use Prim.Native.Nat.{ℕ, _+_}
 use mathlib.Core.Bool.{Bool, true}
 use mathlib.Core.List.{List}
-use Rattle.wire.specs.Tests.{pick, ifEq}
+use Rattle.wire.specs.Tests.{ifEq}
 use Rattle.codes.specs.Codes.{STBL, STSC, STSZ, STCO}
 use Rattle.boxes.specs.Box.{Box}
 use Rattle.boxes.specs.Boxes.{boxes}
@@ -13,12 +13,10 @@ use Rattle.rule.specs.declared.Verdict.the-variants.{Fine}
 use Rattle.rule.specs.Verdict.{unless}
 use Rattle.rule.specs.Judge.{Judge}
 use Rattle.rule.specs.Rule.{Rule}
-use Rattle.rule_tracks.specs.Six.{sixHolds}
-use Rattle.rule_tracks.specs.Seven.{sevenHolds}
 
--- of the boxes m of an `stbl` in a file with the boxes l; it is read where rules 6 and 7 hold
+-- of the boxes m of an `stbl` in a file with the boxes l
 unfoldable pub eightHolds : List Box → List Box → Bool
-eightHolds l m = pick (sixHolds m) (pick (sevenHolds m) (chunksLie l (find STSC m) (find STSZ m) (find STCO m)) true) true
+eightHolds l m = chunksLie l (find STSC m) (find STSZ m) (find STCO m)
 
 unfoldable pub eightAt : List Box → ℕ → List ℕ → ℕ → Verdict
 eightAt l k xs p = ifEq k STBL (unless (eightHolds l (boxes xs)) (p + placeIn STCO 0 (boxes xs))) Fine

@@ -1,3 +1,4 @@
 pub mod Six
 pub mod Seven
 pub mod Eight
+pub mod Asked

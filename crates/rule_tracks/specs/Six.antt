@@ -1,12 +1,9 @@
 -- Rule 6: the sample tables of a track have their lengths.
 use Prim.Native.Nat.{ℕ}
 use mathlib.Core.Bool.{Bool, true}
-use mathlib.Core.List.{List, [], _∷_}
+use mathlib.Core.List.{List}
 use Rattle.wire.specs.Tests.{ifEq}
-use Rattle.wire.specs.Clauses.{every}
 use Rattle.codes.specs.Codes.{STBL, STTS, STSC, STSZ, STCO}
-use Rattle.boxes.specs.Box.{Box}
-use Rattle.boxes.specs.Seek.{find}
 use Rattle.sample_tables.specs.Tables.{tableForm}
 use Rattle.sample_tables.specs.Sizes.{sizesForm}
 use Rattle.rule.specs.Judge.{Judge}
@@ -24,7 +21,3 @@ sixRule = record { leaf = tableIn; node = λ k xs. true; end = λ xs. true }
 
 abbrev pub six : Judge
 six = placed sixRule
-
--- it holds of the tables that the boxes of an `stbl` have first
-unfoldable pub sixHolds : List Box → Bool
-sixHolds l = every (tableForm 8 (find STTS l) ∷ tableForm 12 (find STSC l) ∷ sizesForm (find STSZ l) ∷ tableForm 4 (find STCO l) ∷ [])

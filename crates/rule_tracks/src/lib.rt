@@ -11,9 +11,8 @@ ghost use Prim.Native.Nat.{_+_, _^_, _<_};
 ghost use lib.ListN.{length};
 ghost use Rattle.wire.specs.Clauses.{oneIf};
 ghost use Rattle.boxes.specs.Boxes.{boxes};
-ghost use Rattle.rule_tracks.specs.Six.{tableFine, tableIn, sixHolds};
-ghost use Rattle.rule_tracks.specs.Seven.{sevenHolds, sevenIn};
-ghost use Rattle.rule_tracks.specs.Eight.{eightHolds, eightAt};
+ghost use Rattle.rule_tracks.specs.Six.{tableFine, tableIn};
+ghost use Rattle.rule_tracks.specs.Asked.{sixHolds, sevenAsked, sevenAskedIn, eightAsked, eightAskedAt};
 
 // Whether a table has its length.
 fn table_of(c: usize, body: &[u8]) -> usize
@@ -65,7 +64,7 @@ fn six_holds(stbl: &[u8]) -> usize
 
 // Whether the tables of an `stbl` agree, where they have their lengths.
 fn seven_holds(stbl: &[u8]) -> usize
-    ensures { λ r. ⌜ r ≡ oneIf (sevenHolds (boxes (now (stbl .entry)))) ⌝ }
+    ensures { λ r. ⌜ r ≡ oneIf (sevenAsked (boxes (now (stbl .entry)))) ⌝ }
 {
     if six_holds(stbl) == 0 {
         return 1;
@@ -81,7 +80,7 @@ fn seven_holds(stbl: &[u8]) -> usize
 
 // Rule 7 of a container of kind k.
 pub fn seven_in(k: usize, part: &[u8]) -> usize
-    ensures { λ r. ⌜ r ≡ oneIf (sevenIn k (now (part .entry))) ⌝ }
+    ensures { λ r. ⌜ r ≡ oneIf (sevenAskedIn k (now (part .entry))) ⌝ }
 {
     if k == codes::STBL {
         return seven_holds(part);
@@ -91,7 +90,7 @@ pub fn seven_in(k: usize, part: &[u8]) -> usize
 
 // Whether the chunks of an `stbl` lie in the file's payloads, where its tables agree.
 fn eight_holds(file: &[u8], stbl: &[u8]) -> usize
-    ensures { λ r. ⌜ r ≡ oneIf (eightHolds (boxes (now (file .entry))) (boxes (now (stbl .entry)))) ⌝ }
+    ensures { λ r. ⌜ r ≡ oneIf (eightAsked (boxes (now (file .entry))) (boxes (now (stbl .entry)))) ⌝ }
 {
     if six_holds(stbl) == 0 {
         return 1;
@@ -110,7 +109,7 @@ fn eight_holds(file: &[u8], stbl: &[u8]) -> usize
 // Rule 8 of a container of kind k whose payload starts at base.
 pub fn eight_at(file: &[u8], k: usize, part: &[u8], base: usize) -> Verdict
     requires { ⌜ base + length (now part) < 2 ^ 62 ⌝ }
-    ensures { λ r. ⌜ r ≡ eightAt (boxes (now (file .entry))) k (now (part .entry)) base ⌝ }
+    ensures { λ r. ⌜ r ≡ eightAskedAt (boxes (now (file .entry))) k (now (part .entry)) base ⌝ }
 {
     if k == codes::STBL {
         if eight_holds(file, part) == 0 {

@@ -16,7 +16,7 @@ use Rattle.movie.specs.Movie.{movie as boxesOf, sampleTable}
 use Rattle.movie.specs.Entries as movie
 use Rattle.movie.specs.Named.{listIn, held, heldIn}
 use Rattle.movie.proofs.Counting.{length-after}
-use Rattle.rule_shape.specs.Shape.{needed}
+use Rattle.rule_shape.specs.Three.{needed}
 use Rattle.rule_shape.proofs.Descent.{Met, node-met, needed-leaf, in-moov, each-track, in-stbl, tracks-few}
 use Rattle.rule_lists.specs.Forms.{Listed, formIn}
 use Rattle.rule_lists.specs.Totals.{MOST, follow, entriesOf, entries}

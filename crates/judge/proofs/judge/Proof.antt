@@ -9,7 +9,7 @@ use Rattle.judge.proofs.judge.Statement.{statement}
 use Rattle.judge.proofs.judge.Tie as tie
 
 abbrev Inv : tie.InvT-loop
-Inv file n₀ n = Passed file n × (length file ≤ LONGEST) × (8 ≤ length file)
+Inv file n₀ n = Passed file n × (length file ≤ LONGEST)
 
 abbrev μ : tie.MeasureT-loop
 μ file n₀ n = 11 - n
@@ -17,13 +17,15 @@ abbrev μ : tie.MeasureT-loop
 pub judge-spec : {M : Type 1} → statement M
 judge-spec = tie.close (tie.spec Inv μ
     (λ c. too-short _ (omega arith))
-    (λ c. too-long _ (omega arith) (omega arith))
-    (λ c. (passed-none _, omega arith, omega arith))
+    (λ c. too-long _ (omega arith))
+    (λ c. (passed-none _ (omega arith) (omega arith), omega arith))
     (λ c κs. search needs)
     (λ c. search needs)
     (λ c. search needs)
     (λ c. search needs)
-    (λ c. let i = c .before .before .before .before .loop .inv in (passed-more _ _ (i .0) (omega arith) (c .before .before .verdict-of .ensures) (c .enum-told .given .1), i .1, i .2))
+    (λ c. let i = c .before .before .before .before .loop .inv in
+    (passed-more _ _ (i .0) (omega arith) (c .before .before .verdict-of .ensures) (c .enum-told .given .1), i .1))
     (λ c. search needs)
-    (λ c. let i = c .before .before .before .before .before .loop .inv in passed-bad _ _ (i .0) (omega arith) (c .before .before .before .verdict-of .ensures) _ (c .before .p .given .1) (i .2) (i .1))
-    (λ c. let i = c .before .loop .inv in passed-all _ _ (i .0) (omega arith) (i .2) (i .1)))
+    (λ c. let i = c .before .before .before .before .before .loop .inv in
+    passed-bad _ _ (i .0) (omega arith) (c .before .before .before .verdict-of .ensures) _ (c .before .p .given .1))
+    (λ c. let i = c .before .loop .inv in passed-all _ _ (i .0) (omega arith)))

@@ -1,5 +1,5 @@
 use borrow.Author.Needs.{needs}
-use Rattle.rule_shape.specs.Shape.{besides}
+use Rattle.rule_shape.specs.Three.{besides}
 use Rattle.wire.proofs.Clauses.{is-eq, not-eq, is-le, not-le, fails, done, holds, yea, nay}
 use Rattle.wire.proofs.Tests.{eq-yea, eq-nay}
 use mathlib.Core.Path.{refl, sym}

@@ -1,6 +1,6 @@
 use borrow.Author.Needs.{needs}
 use Rattle.rule_shape.proofs.Shape.{barred-at, barred-none}
-use Rattle.rule_shape.specs.Shape.{barred}
+use Rattle.rule_shape.specs.TwentyThree.{barred}
 use Rattle.wire.proofs.Clauses.{yea}
 use Rattle.boxes.specs.Containers.{FILE}
 use Rattle.codes.specs.Codes.{MOOV, TRAK, STBL}

@@ -1,6 +1,6 @@
 use borrow.Author.Needs.{needs}
 use Rattle.rule_shape.proofs.Shape.{ones-at, ones-none}
-use Rattle.rule_shape.specs.Shape.{needed}
+use Rattle.rule_shape.specs.Three.{needed}
 use Rattle.wire.proofs.Clauses.{yea}
 use Rattle.boxes.specs.Containers.{FILE}
 use Rattle.codes.specs.Codes.{MOOV, TRAK, MDIA, MINF, DINF, STBL}

@@ -1,5 +1,5 @@
 use borrow.Author.Needs.{needs}
-use Rattle.rule_shape.specs.Shape.{shape}
+use Rattle.rule_shape.specs.Three.{shape}
 use Rattle.wire.proofs.Clauses.{fails, done, holds, yea, nay, was-yea, was-nay}
 use Rattle.rule_shape.proofs.shape_of.Statement.{statement}
 use Rattle.rule_shape.proofs.shape_of.Tie as tie

@@ -2,7 +2,7 @@ use borrow.Author.Needs.{needs}
 use Rattle.sample_tables.specs.Sizes.{sizesForm}
 use Rattle.sample_tables.specs.Tables.{tableForm}
 use Rattle.rule_tracks.proofs.Answers.{found-yea, found-nay}
-use Rattle.rule_tracks.specs.Six.{sixHolds}
+use Rattle.rule_tracks.specs.Asked.{sixHolds}
 use Rattle.wire.proofs.Clauses.{fails, holds, done, yea, nay}
 use Rattle.rule_tracks.proofs.six_holds.Statement.{statement}
 use Rattle.rule_tracks.proofs.six_holds.Tie as tie

@@ -8,5 +8,5 @@ past-spec = tie.close (tie.spec
     (λ c κs. search needs)
     (λ c. search needs)
     (λ c. search needs)
-    (λ c. past-whole _ (λ i. c .before .before .before .shared-slice-known .given i .fits) (c .before .before .ends .ensures) (c .enum-told .given .1))
-    (λ c. past-torn _ (λ i. c .before .before .before .before .shared-slice-known .given i .fits) (c .before .before .before .ends .ensures) _ (c .before .p .given .1)))
+    (λ c. past-whole _ (c .before .before .ends .ensures) (c .enum-told .given .1))
+    (λ c. past-torn _ (c .before .before .before .ends .ensures) _ (c .before .p .given .1)))

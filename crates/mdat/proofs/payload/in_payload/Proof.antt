@@ -23,10 +23,10 @@ in-payload-spec = tie.close (tie.spec Inv μ
     (λ c κs. search needs)
     (λ c. search needs)
     (λ c κs. let s = ran _ _ _ _ _ (c .before .before .before .step .ensures) (c .before .b .given .1) in omega arith)
-    (λ c. let i = c .before .before .before .before .before .before .before .loop .inv in omega arith)
-    (λ c κs. let s = ran _ _ _ _ _ (c .before .before .before .before .before .before .step .ensures) (c .before .before .before .before .b .given .1) in omega arith)
-    (λ c. let t = c .before .before .before .before .before .before .before in
-    let s = ran _ _ _ _ _ (t .step .ensures) (c .before .before .before .before .before .b .given .1) in
+    (λ c κs. let s = ran _ _ _ _ _ (c .before .before .before .before .before .step .ensures) (c .before .before .before .b .given .1) in
+    (omega arith, omega arith, omega arith))
+    (λ c. let t = c .before .before .before .before .before .before in
+    let s = ran _ _ _ _ _ (t .step .ensures) (c .before .before .before .before .b .given .1) in
     c .holds .ensures ∙ ap oneIf (sym (ahead-here (t .before .loop .inv) s (omega arith))))
     (λ c. let t = c .before .before .before .before .before in
     let s = ran _ _ _ _ _ (t .step .ensures) (c .before .before .before .b .given .1) in

@@ -1,13 +1,16 @@
--- Rule 3 of one container: which boxes it has to have, and how many.
+-- Rule 3: which boxes each container has to have, and how many.
 use Prim.Native.Nat.{ℕ}
 use mathlib.Core.Bool.{Bool, true, false}
 use mathlib.Core.List.{List, [], _∷_}
 use Rattle.wire.specs.Tests.{pick, ifEq}
 use Rattle.wire.specs.Clauses.{isEq, isLe, every}
-use Rattle.codes.specs.Codes.{FTYP, MOOV, MVHD, TRAK, TKHD, MDIA, MDHD, HDLR, MINF, DINF, DREF, STBL, STSD, STTS, STSC, STSZ, STCO, MOOF, MFRA, SIDX, META, CO64, SAIO}
+use Rattle.codes.specs.Codes.{FTYP, MOOV, MVHD, TRAK, TKHD, MDIA, MDHD, HDLR, MINF, DINF, DREF, STBL, STSD, STTS, STSC, STSZ, STCO}
 use Rattle.boxes.specs.Box.{Box}
+use Rattle.boxes.specs.Boxes.{boxes}
 use Rattle.boxes.specs.Containers.{FILE}
 use Rattle.boxes.specs.Seek.{count}
+use Rattle.rule.specs.Judge.{Judge}
+use Rattle.rule.specs.Rule.{Rule, placed}
 
 -- the codes of which a container of kind k has exactly one
 unfoldable pub needed : ℕ → List ℕ
@@ -40,13 +43,8 @@ besides k l =
 unfoldable pub shape : ℕ → List Box → Bool
 shape k l = every (exactly 1 (needed k) l ∷ besides k l ∷ [])
 
--- ---- refusal 23
+abbrev pub threeRule : Rule
+threeRule = record { leaf = λ k c b. true; node = λ k xs. shape k (boxes xs); end = λ xs. true }
 
--- the codes of which a container of kind k has none where an edit takes the file: "top-level moof, mfra, sidx or meta, meta
--- directly in moov or trak, or co64 or saio in an stbl"
-unfoldable pub barred : ℕ → List ℕ
-barred k =
-    ifEq k FILE (MOOF ∷ MFRA ∷ SIDX ∷ META ∷ [])
-    (ifEq k MOOV (META ∷ [])
-    (ifEq k TRAK (META ∷ [])
-    (ifEq k STBL (CO64 ∷ SAIO ∷ []) [])))
+abbrev pub three : Judge
+three = placed threeRule
