@@ -19,7 +19,8 @@ use Rattle.rule.specs.Rule.{Rule, Says}
 use Rattle.rule.proofs.Places.{placed-says}
 use Rattle.rule.proofs.Acceptance.{fine-all, all-fine}
 use Rattle.rule_shape.specs.Rules.{twoRule, threeRule}
-use Rattle.rule_lists.specs.Rules.{fiveRule, nineRule}
+use Rattle.rule_lists.specs.Five.{fiveRule}
+use Rattle.rule_lists.specs.Nine.{nineRule}
 use Rattle.rule_lists.proofs.Rules.{five-says, nine-says}
 use Rattle.rule_headers.specs.Four.{fourRule}
 use Rattle.rule_headers.proofs.Rule4.{four-says}

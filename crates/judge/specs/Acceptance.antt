@@ -8,7 +8,8 @@ use Rattle.boxes.specs.Boxes.{boxes}
 use Rattle.boxes.specs.Containers.{FILE, DEPTH, LONGEST}
 use Rattle.rule.specs.Rule.{Rule, allIn}
 use Rattle.rule_shape.specs.Rules.{twoRule, threeRule, editableRule}
-use Rattle.rule_lists.specs.Rules.{fiveRule, nineRule}
+use Rattle.rule_lists.specs.Five.{fiveRule}
+use Rattle.rule_lists.specs.Nine.{nineRule}
 use Rattle.rule_headers.specs.Four.{fourRule}
 use Rattle.rule_tracks.specs.Six.{sixRule}
 use Rattle.rule_tracks.specs.Seven.{sevenRule}

@@ -8,7 +8,8 @@ use Rattle.rule.specs.declared.Verdict.{Verdict}
 use Rattle.rule.specs.declared.Verdict.the-variants.{Fine, Bad}
 use Rattle.rule.specs.Judge.{Judge}
 use Rattle.rule_shape.specs.Rules.{two, three, editableJudge}
-use Rattle.rule_lists.specs.Rules.{five, nine}
+use Rattle.rule_lists.specs.Five.{five}
+use Rattle.rule_lists.specs.Nine.{nine}
 use Rattle.rule_headers.specs.Four.{four}
 use Rattle.rule_tracks.specs.Six.{six}
 use Rattle.rule_tracks.specs.Seven.{seven}

@@ -14,7 +14,7 @@ use Rattle.boxes.specs.Boxes.{boxes}
 use Rattle.boxes.specs.Walk.{payload, boxAt, Ran, Over}
 use Rattle.boxes.specs.Seek.{meant}
 use Rattle.boxes.proofs.Meaning.{meant-or}
-use Rattle.boxes.proofs.Seeking.{ran-next, payload-length}
+use Rattle.boxes.proofs.Seeking.{ran-next}
 use Rattle.movie.specs.Ways.{toStsd, follow, placeAlong}
 use Rattle.movie.specs.Movie.{storedCount}
 use Rattle.movie.specs.Stsds.{stsdsFrom}
@@ -22,10 +22,6 @@ use Rattle.movie.proofs.Boxed.{track-code, stsds-hit, other-code, stsds-miss}
 use Rattle.rule.specs.declared.Verdict.{Verdict}
 use Rattle.rule.specs.declared.Verdict.the-variants.{Fine, Bad}
 use Rattle.rule_lists.specs.Five.{passing}
-
--- the payload of a box that was found is no longer than the part
-pub payload-few : (xs : List ℕ) (b : BoxAt) → b .head ≤ b .size → b .at + b .size ≤ length xs → {d : List ℕ} → d ≡ payload xs b → b .at + b .head + length d ≤ length xs
-payload-few xs b h k e = rw e (omega (arith, payload-length xs b h k))
 
 -- ---- one box of `moov`
 

@@ -20,7 +20,7 @@ use Rattle.rule_shape.specs.Shape.{needed}
 use Rattle.rule_shape.proofs.Descent.{Met, node-met, needed-leaf, in-moov, each-track, in-stbl, tracks-few}
 use Rattle.rule_lists.specs.Forms.{Listed, formIn}
 use Rattle.rule_lists.specs.Totals.{MOST, follow, entriesOf, entries}
-use Rattle.rule_lists.specs.Rules.{fiveRule}
+use Rattle.rule_lists.specs.Five.{fiveRule}
 use Rattle.rule_lists.proofs.Forms.{form-is}
 use Rattle.judge.specs.Acceptance.{Meets}
 use Rattle.judge.proofs.Tables.{file-met}
