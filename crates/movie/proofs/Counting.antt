@@ -8,22 +8,26 @@ use Rattle.codes.specs.Codes.{MOOV, TRAK}
 use Rattle.boxes.specs.declared.walk.Walk.{Walk}
 use Rattle.boxes.specs.declared.walk.BoxAt.{BoxAt}
 use Rattle.boxes.specs.Box.{Box, size}
-use Rattle.boxes.specs.Boxes.{boxes}
+use Rattle.boxes.specs.Boxes.{FRONT, boxes}
 use Rattle.boxes.specs.Walk.{payload, Ran, Over}
 use Rattle.boxes.specs.Seek.{ANY, count, find, startIn}
 use Rattle.boxes.proofs.Seeking.{length-payload}
 use Rattle.boxes.proofs.Meaning.{meant-or}
 use Rattle.boxes.proofs.Numbered.{found-short, count-any}
-use Rattle.movie.specs.Stsds.{stsdOf, stsdsFrom, stsds}
+use Rattle.movie.specs.Stsds.{Stsd, stsdOf, stsdsFrom, stsds}
 use Rattle.movie.specs.Entries.{entriesOf, entriesIn, entries}
 use Rattle.movie.specs.Named.{listIn, held}
 use Rattle.movie.proofs.Boxed.{length-from, held-hit, after-hit, held-miss, after-miss}
 
 -- ---- how many
 
+pub length-stsd : (s : Stsd) → length (entriesOf s) ≡ count ANY (boxes (drop FRONT (s .body)))
+unfolding entriesOf
+length-stsd s = length-from (s .track) _ _ ∙ sym (count-any _)
+
 pub length-of : (t : ℕ) (b : List ℕ) (p : ℕ) → length (entriesOf (stsdOf t b p)) ≡ count ANY (boxes (listIn b))
-unfolding entriesOf listIn
-length-of t b p = length-from t _ _ ∙ sym (count-any _)
+unfolding listIn
+length-of t b p = length-stsd (stsdOf t b p)
 
 -- the entries of boxes of `moov`
 unfoldable pub heldIn : List Box → ℕ

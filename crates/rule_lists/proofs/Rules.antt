@@ -40,7 +40,7 @@ passing-fine most n (s ∷ l) h = go (leb (n + storedCount (s .body)) most) refl
     go false e ih = let k : most < n + storedCount (s .body) = leb-false _ _ e in sym (not-le _ _ (omega arith))
 
 -- it is the same wherever the boxes of `moov` start
-counted-anywhere : (l : List Box) (t u p q : ℕ) → countedIn (stsdsFrom t l p) ≡ countedIn (stsdsFrom u l q)
+pub counted-anywhere : (l : List Box) (t u p q : ℕ) → countedIn (stsdsFrom t l p) ≡ countedIn (stsdsFrom u l q)
 unfolding stsdsFrom countedIn
 counted-anywhere [] t u p q = refl
 counted-anywhere (x ∷ l) t u p q =
