@@ -2,8 +2,8 @@
 use Prim.Native.Nat.{ℕ, _+_, _-_, _≤_, _<_, min}
 use native.Mathlib.Omega.{arith}
 use mathlib.Core.Path.{_≡_, refl, sym, ap, _∙_}
-use mathlib.Core.List.{List, _++_}
-use lib.ListN.{length, getD, take, drop, length-append, length-take, length-drop}
+use mathlib.Core.List.{List, _∷_, _++_}
+use lib.ListN.{length, take, drop, length-append, length-take, length-drop}
 use lib.Seq.{length-take-le}
 use borrow.Rule.Slice.PartMut.{midOf}
 use Rattle.wire.specs.Numbers.{bytes}
@@ -70,8 +70,8 @@ around-put xs b ys p q s h = pen-then p (pen-then q (pen-is (tail-is xs (b .at +
 pub turn-room : (m : ℕ) (xs : List ℕ) {out mid : List ℕ} {at j : ℕ} → m ≤ length xs → Put (take m xs) out at j mid → j + length (midOf m (length xs - m) xs) ≡ at + length xs
 turn-room m xs h p = rw (tail-is xs m h, length-drop) (omega (arith, p .next, length-take m xs))
 
-pub way-put : (way : List Turn) (i : ℕ) (h : List ℕ → List ℕ) (xs : List ℕ) (t : Turn) {m at j r : ℕ} {out mid after : List ℕ}
-    → i < length way → t ≡ getD way i (record { skip = 0; code = 0; nth = 0 }) → m ≡ min (t .skip) (length xs) → Put (take m xs) out at j mid → Put (overNth (t .code) (t .nth) (editWay (drop (i + 1) way) h) (midOf m (length xs - m) xs)) mid j r after → Put (editWay (drop i way) h xs) out at r after
-way-put way i h xs t {m} l e q p s =
-    pen-is (way-more way i h xs t l e)
-    (pen-then (pen-is (ap (λ (k : ℕ). take k xs) q ∙ take-min (t .skip) xs) p) (pen-is (ap (overNth (t .code) (t .nth) (editWay (drop (i + 1) way) h)) (tail-is xs m (omega arith) ∙ ap (λ (k : ℕ). drop k xs) q ∙ drop-min (t .skip) xs)) s))
+pub way-put : (t : Turn) (w : List Turn) {v : List Turn} → v ≡ t ∷ w → (h : List ℕ → List ℕ) (xs : List ℕ) {m at j r : ℕ} {out mid after : List ℕ}
+    → m ≡ min (t .skip) (length xs) → Put (take m xs) out at j mid → Put (overNth (t .code) (t .nth) (editWay w h) (midOf m (length xs - m) xs)) mid j r after → Put (editWay v h xs) out at r after
+way-put t w e h xs {m} q p s =
+    pen-is (way-more t w e h xs)
+    (pen-then (pen-is (ap (λ (k : ℕ). take k xs) q ∙ take-min (t .skip) xs) p) (pen-is (ap (overNth (t .code) (t .nth) (editWay w h)) (tail-is xs m (omega arith) ∙ ap (λ (k : ℕ). drop k xs) q ∙ drop-min (t .skip) xs)) s))

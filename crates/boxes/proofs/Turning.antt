@@ -1,10 +1,9 @@
 -- Laws of rewriting one box by the way to it. Assumes nothing.
-use Prim.Native.Nat.{ℕ, _+_, _-_, _≤_, _<_}
+use Prim.Native.Nat.{ℕ, suc, _+_, _-_, _≤_, _<_}
 use native.Mathlib.Omega.{arith}
-use native.Mathlib.Numerals.{add-one}
-use mathlib.Core.Path.{_≡_, sym, ap, _∙_}
+use mathlib.Core.Path.{_≡_, refl, sym, ap, _∙_}
 use mathlib.Core.List.{List, [], _∷_, _++_, append-assoc}
-use lib.ListN.{length, getD, take, drop, length-append, length-take, length-drop, drop-of-length-le}
+use lib.ListN.{length, getD, take, drop, length-append, length-take, length-drop}
 use lib.Seq.{drop-cons}
 use Rattle.wire.specs.Numbers.{Bytes, bytes}
 use Rattle.wire.specs.Writing.{Put}
@@ -15,7 +14,7 @@ use Rattle.boxes.specs.Box.{Box, size, header, remade}
 use Rattle.boxes.specs.Boxes.{HEAD, boxes, after}
 use Rattle.boxes.specs.Walk.{payload, boxAt}
 use Rattle.boxes.specs.Seek.{count, Cut}
-use Rattle.boxes.specs.Way.{overNth, overTurn, editWay, tailBy, boxBy, around, Under}
+use Rattle.boxes.specs.Way.{turns, overNth, overTurn, editWay, tailBy, boxBy, around, Under}
 use Rattle.boxes.proofs.Whole.{length-header}
 use Rattle.boxes.proofs.OneOfList.{nth-by, nth-by-none}
 use Rattle.boxes.proofs.OneOfPart.{over-nth-length}
@@ -45,14 +44,30 @@ module _ (c n : ℕ) (f : List ℕ → List ℕ) (xs : List ℕ) where
 
 -- ---- the turns of a way
 
-pub way-end : (way : List Turn) (i : ℕ) (h : List ℕ → List ℕ) (xs : List ℕ) → length way ≤ i → h xs ≡ editWay (drop i way) h xs
-unfolding editWay
-way-end way i h xs e = rw (drop-of-length-le way {i = i} e)
+-- fewer than three numbers are none
+turns-few : (l : List ℕ) → length l < 3 → turns l ≡ []
+unfolding turns
+turns-few [] h = refl
+turns-few (s ∷ []) h = refl
+turns-few (s ∷ c ∷ []) h = refl
+turns-few (s ∷ c ∷ n ∷ l) h = absurd (omega arith)
 
-pub way-more : (way : List Turn) (i : ℕ) (h : List ℕ → List ℕ) (xs : List ℕ) (t : Turn) → i < length way → t ≡ getD way i (record { skip = 0; code = 0; nth = 0 })
-    → take (t .skip) xs ++ overNth (t .code) (t .nth) (editWay (drop (i + 1) way) h) (drop (t .skip) xs) ≡ editWay (drop i way) h xs
+pub turns-more : (way : List ℕ) (i : ℕ) → i + 3 ≤ length way → {s c n : ℕ} → s ≡ getD way i 0 → c ≡ getD way (i + 1) 0 → n ≡ getD way (i + 2) 0
+    → turns (drop i way) ≡ record { skip = s; code = c; nth = n } ∷ turns (drop (i + 3) way)
+unfolding turns
+turns-more way i h e f g =
+    let a : i + 1 ≡ suc i = omega arith in
+    let b : i + 2 ≡ suc (suc i) = omega arith in
+    let c : i + 3 ≡ suc (suc (suc i)) = omega arith in
+    rw (drop-cons way i 0 (omega arith), drop-cons way (suc i) 0 (omega arith), drop-cons way (suc (suc i)) 0 (omega arith), e, f, g, a, b, c)
+
+pub way-end : (way : List ℕ) (i : ℕ) (h : List ℕ → List ℕ) (xs : List ℕ) → length way - i < 3 → h xs ≡ editWay (turns (drop i way)) h xs
+unfolding editWay
+way-end way i h xs e = rw (turns-few (drop i way) (omega (arith, length-drop i way)))
+
+pub way-more : (t : Turn) (w : List Turn) {v : List Turn} → v ≡ t ∷ w → (h : List ℕ → List ℕ) (xs : List ℕ) → take (t .skip) xs ++ overNth (t .code) (t .nth) (editWay w h) (drop (t .skip) xs) ≡ editWay v h xs
 unfolding editWay overTurn
-way-more way i h xs t l e = rw (drop-cons way i (record { skip = 0; code = 0; nth = 0 }) l, ← e, add-one)
+way-more t w e h xs = rw e
 
 -- a way adds no more than is new
 pub way-length : (way : List Turn) (n : ℕ) (new xs : List ℕ) → length (editWay way (tailBy n new) xs) ≤ length xs + length new

@@ -24,6 +24,13 @@ overNth c n f xs = write (nthBy c n f (boxes xs)) ++ after xs
 unfoldable pub overTurn : Turn → (List ℕ → List ℕ) → List ℕ → List ℕ
 overTurn t f xs = take (t .skip) xs ++ overNth (t .code) (t .nth) f (drop (t .skip) xs)
 
+-- a way of three numbers to a turn
+unfoldable pub turns : List ℕ → List Turn
+turns [] = []
+turns (s ∷ []) = []
+turns (s ∷ c ∷ []) = []
+turns (s ∷ c ∷ n ∷ l) = record { skip = s; code = c; nth = n } ∷ turns l
+
 -- the body at the end of the way by h
 unfoldable pub editWay : List Turn → (List ℕ → List ℕ) → List ℕ → List ℕ
 editWay [] h xs = h xs

@@ -6,11 +6,12 @@ use crate::walk::BoxAt;
 use wire::number;
 use wire::pen;
 ghost use mathlib.Core.Path.{_≡_};
+ghost use mathlib.Core.List.{_∷_};
 ghost use Prim.Native.Nat.{_+_, _-_, _^_, _≤_, _<_};
 ghost use lib.ListN.{length, drop};
 ghost use Rattle.wire.specs.Writing.{Put};
 ghost use Rattle.boxes.specs.Walk.{payload};
-ghost use Rattle.boxes.specs.Way.{Under, boxBy, around, tailBy, overNth, editWay};
+ghost use Rattle.boxes.specs.Way.{Under, turns, boxBy, around, tailBy, overNth, editWay};
 
 // One turn: past the first `skip` bytes, into the n-th box of a code.
 pub struct Turn {
@@ -19,8 +20,17 @@ pub struct Turn {
     pub nth: usize,
 }
 
-// How many turns a way has.
-pub const TURNS: usize = 7;
+// The turn that three numbers of a way say, from the i-th on.
+fn turn_at(way: &[usize], i: usize) -> Turn
+    requires { ⌜ i + 3 ≤ length (now way) ⌝ }
+    ensures { λ r. ⌜ turns (drop i (now (way .entry))) ≡ r ∷ turns (drop (i + 3) (now (way .entry))) ⌝ }
+{
+    Turn {
+        skip: way[i],
+        code: way[i + 1],
+        nth: way[i + 2],
+    }
+}
 
 // Puts the header of a box that ends at place r, where the box fits.
 fn put_header(out: &mut [u8], at: usize, r: usize, code: usize)
@@ -49,13 +59,13 @@ fn put_box(
     at: usize,
     body: &[u8],
     code: usize,
-    way: [Turn; 7],
+    way: &[usize],
     i: usize,
     keep: usize,
     new: &[u8],
 ) -> usize
-    requires { ⌜ (i ≤ 7) × (at + 8 + length (now body) + length (now new) < 2 ^ 62) ⌝ }
-    ensures { λ r. ⌜ Put (boxBy code (editWay (drop i way) (tailBy keep (now (new .entry))) (now (body .entry)))) (now (out .entry)) at r (now (out .exit)) ⌝ }
+    requires { ⌜ (i ≤ length (now way)) × (at + 8 + length (now body) + length (now new) < 2 ^ 62) ⌝ }
+    ensures { λ r. ⌜ Put (boxBy code (editWay (turns (drop i (now (way .entry)))) (tailBy keep (now (new .entry))) (now (body .entry)))) (now (out .entry)) at r (now (out .exit)) ⌝ }
 {
     let r = put_way(out, at + walk::HEAD, body, way, i, keep, new);
     put_header(out, at, r, code);
@@ -68,13 +78,13 @@ fn put_around(
     at: usize,
     src: &[u8],
     b: BoxAt,
-    way: [Turn; 7],
+    way: &[usize],
     i: usize,
     keep: usize,
     new: &[u8],
 ) -> usize
-    requires { ⌜ (i ≤ 7) × (b .head ≡ 8) × (b .head ≤ b .size) × (b .at + b .size ≤ length (now src)) × (at + length (now src) + length (now new) < 2 ^ 62) ⌝ }
-    ensures { λ r. ⌜ Put (around (now (src .entry)) b (editWay (drop i way) (tailBy keep (now (new .entry))) (payload (now (src .entry)) b))) (now (out .entry)) at r (now (out .exit)) ⌝ }
+    requires { ⌜ (i ≤ length (now way)) × (b .head ≡ 8) × (b .head ≤ b .size) × (b .at + b .size ≤ length (now src)) × (at + length (now src) + length (now new) < 2 ^ 62) ⌝ }
+    ensures { λ r. ⌜ Put (around (now (src .entry)) b (editWay (turns (drop i (now (way .entry)))) (tailBy keep (now (new .entry))) (payload (now (src .entry)) b))) (now (out .entry)) at r (now (out .exit)) ⌝ }
 {
     let before = b.at;
     let past = b.at + b.size;
@@ -89,13 +99,13 @@ fn put_turn(
     at: usize,
     src: &[u8],
     t: Turn,
-    way: [Turn; 7],
+    way: &[usize],
     i: usize,
     keep: usize,
     new: &[u8],
 ) -> usize
-    requires { ⌜ (i ≤ 7) × (at + length (now src) + length (now new) < 2 ^ 62) ⌝ }
-    ensures { λ r. ⌜ Put (overNth (t .code) (t .nth) (editWay (drop i way) (tailBy keep (now (new .entry)))) (now (src .entry))) (now (out .entry)) at r (now (out .exit)) ⌝ }
+    requires { ⌜ (i ≤ length (now way)) × (at + length (now src) + length (now new) < 2 ^ 62) ⌝ }
+    ensures { λ r. ⌜ Put (overNth (t .code) (t .nth) (editWay (turns (drop i (now (way .entry)))) (tailBy keep (now (new .entry)))) (now (src .entry))) (now (out .entry)) at r (now (out .exit)) ⌝ }
 {
     match seek::nth(src, t.code, t.nth) {
         Seen::At(b) => put_around(out, at, src, b, way, i, keep, new),
@@ -103,24 +113,24 @@ fn put_turn(
     }
 }
 
-// A part from the i-th turn of the way on.
+// A part by a way of three numbers to a turn, from the i-th number on.
 pub fn put_way(
     out: &mut [u8],
     at: usize,
     src: &[u8],
-    way: [Turn; 7],
+    way: &[usize],
     i: usize,
     keep: usize,
     new: &[u8],
 ) -> usize
-    requires { ⌜ (i ≤ 7) × (at + length (now src) + length (now new) < 2 ^ 62) ⌝ }
-    ensures { λ r. ⌜ Put (editWay (drop i way) (tailBy keep (now (new .entry))) (now (src .entry))) (now (out .entry)) at r (now (out .exit)) ⌝ }
+    requires { ⌜ (i ≤ length (now way)) × (at + length (now src) + length (now new) < 2 ^ 62) ⌝ }
+    ensures { λ r. ⌜ Put (editWay (turns (drop i (now (way .entry)))) (tailBy keep (now (new .entry))) (now (src .entry))) (now (out .entry)) at r (now (out .exit)) ⌝ }
 {
-    if TURNS <= i {
+    if way.len() - i < 3 {
         return put_tail(out, at, src, keep, new);
     }
-    let t = way[i];
+    let t = turn_at(way, i);
     let n = number::least(t.skip, src.len());
     let j = pen::put_part(out, at, &src[..n]);
-    put_turn(out, j, &src[n..], t, way, i + 1, keep, new)
+    put_turn(out, j, &src[n..], t, way, i + 3, keep, new)
 }

@@ -4,15 +4,13 @@ use native.Mathlib.Omega.{arith}
 use mathlib.Core.Path.{_≡_, refl, _∙_}
 use mathlib.Core.Bool.{true, false}
 use mathlib.Core.List.{List, [], _∷_, _++_}
-use Rattle.wire.specs.Numbers.{word}
 use Rattle.wire.specs.Clauses.{isEq, oneIf}
-use Rattle.codes.specs.Codes.{MOOV, STSD, AVC1}
+use Rattle.codes.specs.Codes.{MOOV, AVC1}
 use Rattle.wire.proofs.Clauses.{is-lt, not-lt}
 use Rattle.boxes.specs.Box.{Box}
 use Rattle.boxes.specs.Boxes.{boxes}
 use Rattle.boxes.specs.Seek.{ANY, count}
 use Rattle.boxes.proofs.Numbered.{count-any}
-use Rattle.movie.specs.Movie.{sampleTable}
 use Rattle.movie.specs.Named.{listIn}
 use Rattle.brands.specs.Brands.{timesListed, brandListed, oneEntry, noAvc1, second, ready}
 
@@ -29,7 +27,7 @@ module _ (c : ℕ) (ftyp : List ℕ) {b : List ℕ} {r : ℕ} (f : b ≡ ftyp) (
 
 -- ---- a track's entries
 
-pub one-is : (b : List ℕ) {stsd : List ℕ} {n r : ℕ} → stsd ≡ sampleTable STSD b → n ≡ word 4 stsd 4 → r ≡ oneIf (isEq n 1) → r ≡ oneIf (oneEntry b)
+pub one-is : (b : List ℕ) {list : List ℕ} {n r : ℕ} → list ≡ listIn b → n ≡ count ANY (boxes list) → r ≡ oneIf (isEq n 1) → r ≡ oneIf (oneEntry b)
 unfolding oneEntry
 one-is b f g e = e ∙ rw (g, f)
 

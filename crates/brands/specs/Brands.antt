@@ -7,11 +7,11 @@ use Rattle.wire.specs.Tests.{ifEq}
 use Rattle.wire.specs.Numbers.{word}
 use Rattle.wire.specs.Clauses.{isEq, isLt, isLe, every, oneIf}
 use Rattle.wire.specs.Sums.{sumTo, allTo}
-use Rattle.codes.specs.Codes.{FTYP, MOOV, STSD, AVC1, VIDE, SOUN, TEXT, ISOM, GP4, GP5, GP6, GR6}
+use Rattle.codes.specs.Codes.{FTYP, MOOV, AVC1, VIDE, SOUN, TEXT, ISOM, GP4, GP5, GP6, GR6}
 use Rattle.boxes.specs.Box.{Box}
 use Rattle.boxes.specs.Boxes.{boxes}
-use Rattle.boxes.specs.Seek.{count, find}
-use Rattle.movie.specs.Movie.{tracks, track, sampleTable, handler}
+use Rattle.boxes.specs.Seek.{ANY, count, find}
+use Rattle.movie.specs.Movie.{tracks, track, handler}
 use Rattle.movie.specs.Named.{listIn}
 
 -- ---- the compatible list of an `ftyp` payload: after the major brand and the minor version
@@ -35,9 +35,9 @@ handledTo h xs n = sumTo (λ t. oneIf (isEq (handler (track xs t)) h)) n
 abbrev pub handled : ℕ → List ℕ → ℕ
 handled h xs = handledTo h xs (tracks xs)
 
--- the count that a track's `stsd` stores is 1: rule 5 makes it the number of its sample entries
+-- one entry stands in a track's `stsd`
 unfoldable pub oneEntry : List ℕ → Bool
-oneEntry b = isEq (word 4 (sampleTable STSD b) 4) 1
+oneEntry b = isEq (count ANY (boxes (listIn b))) 1
 
 -- "one sample entry in each vide and soun track"
 unfoldable pub single : List ℕ → Bool

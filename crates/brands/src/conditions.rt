@@ -2,7 +2,6 @@
 use crate::compatible;
 use boxes::seek;
 use boxes::seek::Seen;
-use wire::number;
 ghost use mathlib.Core.Path.{_≡_};
 ghost use Rattle.wire.specs.Clauses.{oneIf};
 ghost use Rattle.boxes.specs.Boxes.{boxes};
@@ -27,7 +26,7 @@ fn handled(file: &[u8], h: usize) -> usize
 fn one_entry(track: &[u8]) -> usize
     ensures { λ r. ⌜ r ≡ oneIf (oneEntry (now (track .entry))) ⌝ }
 {
-    compatible::equal(number::word32(movie::table(track, codes::STSD), 4), 1)
+    compatible::equal(seek::count(movie::entry::list(track), seek::ANY), 1)
 }
 
 // Whether it has one if it is to have one.

@@ -2,7 +2,7 @@
 use Prim.Native.Nat.{ℕ, _<_}
 use native.Mathlib.Omega.{arith}
 use mathlib.Core.Path.{_≡_, refl}
-use mathlib.Core.List.{List, [], _∷_}
+use mathlib.Core.List.{List, [], _∷_, map}
 use lib.ListN.{length, take}
 use Rattle.wire.specs.Tests.{ifEq}
 use Rattle.codes.specs.Codes.{MOOV, TRAK, MDIA, MINF, STBL, STSD}
@@ -16,19 +16,20 @@ use Rattle.boxes.specs.Kin.{Kin}
 use Rattle.boxes.specs.Boxes.{FRONT}
 use Rattle.boxes.proofs.Down.{Down, last, into, Once, endOf, way-bytes, kin-way}
 use Rattle.movie.specs.declared.entry.Spot.the-variants.{In}
+use Rattle.movie.specs.Ways.{toStsd, follow}
 use Rattle.movie.specs.Movie.{track, sampleTable}
 use Rattle.edit_replace.specs.Replace.{turn, wayTo, recordAt}
 
 -- ---- the way
 
 -- to the `stsd` of track t, and on to its entry n
-abbrev pub toStsd : ℕ → List Turn
-toStsd t = turn MOOV 0 ∷ turn TRAK t ∷ turn MDIA 0 ∷ turn MINF 0 ∷ turn STBL 0 ∷ turn STSD 0 ∷ []
+abbrev pub stsdWay : ℕ → List Turn
+stsdWay t = turn MOOV 0 ∷ turn TRAK t ∷ map (λ c. turn c 0) toStsd
 
 abbrev pub toEntry : ℕ → List Turn
 toEntry n = record { skip = FRONT; code = ANY; nth = n } ∷ []
 
-pub down-stsd : (t : ℕ) → Down DEPTH FILE (toStsd t) STBL STSD
+pub down-stsd : (t : ℕ) → Down DEPTH FILE (stsdWay t) STBL STSD
 unfolding kindIn parent ifEq
 down-stsd t =
     into 5 FILE MOOV 0 (λ z. omega arith) (λ z. omega arith)
@@ -39,11 +40,11 @@ down-stsd t =
     (last 0 STBL STSD 0 (λ z. omega arith) refl)))))
 
 -- where it ends, and where it is parted
-pub stsd-end : (t : ℕ) (xs : List ℕ) → endOf (toStsd t) xs ≡ sampleTable STSD (track xs t)
-unfolding endOf sampleTable track
+pub stsd-end : (t : ℕ) (xs : List ℕ) → endOf (stsdWay t) xs ≡ sampleTable STSD (track xs t)
+unfolding endOf sampleTable follow track
 stsd-end t xs = refl
 
-pub by-stsd : (t n keep : ℕ) (new xs : List ℕ) → recordAt (In t n) keep new xs ≡ editWay (toStsd t) (editWay (toEntry n) (tailBy keep new)) xs
+pub by-stsd : (t n keep : ℕ) (new xs : List ℕ) → recordAt (In t n) keep new xs ≡ editWay (stsdWay t) (editWay (toEntry n) (tailBy keep new)) xs
 unfolding editWay
 by-stsd t n keep new xs = refl
 
@@ -64,5 +65,5 @@ module _ (t n keep : ℕ) (new xs : List ℕ) (w : Bytes new) (v : Bytes xs) whe
 
   module _ (s : length (recordAt (In t n) keep new xs) < 4294967296) where
     -- every opaque box but one `stsd` is as it was
-    pub record-kin : Kin (Once STBL STSD (endOf (toStsd t) xs) (entryBy (endOf (toStsd t) xs))) DEPTH FILE xs (recordAt (In t n) keep new xs)
+    pub record-kin : Kin (Once STBL STSD (endOf (stsdWay t) xs) (entryBy (endOf (stsdWay t) xs))) DEPTH FILE xs (recordAt (In t n) keep new xs)
     record-kin = let q = by-stsd t n keep new xs in rw q (kin-way entryBy entry-bytes (down-stsd t) xs v (rw q at s))

@@ -13,12 +13,12 @@ use Rattle.wire.proofs.Tests.{eq-any}
 use Rattle.boxes.specs.declared.walk.BoxAt.{BoxAt}
 use Rattle.boxes.specs.Boxes.{HEAD, boxes}
 use Rattle.boxes.specs.Containers.{FILE, DEPTH}
-use Rattle.boxes.specs.Seek.{find, Cut}
+use Rattle.boxes.specs.Seek.{find, startIn, Cut}
 use Rattle.boxes.specs.Rewrite.{editIn}
 use Rattle.boxes.specs.Words.{moved, rewordLeaf}
 use Rattle.movie.specs.declared.entry.Spot.{Spot}
 use Rattle.movie.specs.declared.entry.Spot.the-variants.{In, Past}
-use Rattle.movie.specs.Movie.{movie}
+use Rattle.movie.specs.Stsds.{stsdsFrom, stsds}
 use Rattle.movie.specs.Entries.{entries}
 use Rattle.movie.specs.Named.{spotIn, SpotAs}
 use Rattle.movie.proofs.Asking.{spot-past, named-none}
@@ -49,11 +49,12 @@ module _ (xs : List ℕ) (t n keep : ℕ) (new out : List ℕ) (f : Fits xs t n 
 
 -- ---- the spot
 
-module _ (xs : List ℕ) (i : ℕ) (new : List ℕ) {moov : List ℕ} (e : moov ≡ find MOOV (boxes xs)) (r : Spot) (s : SpotAs moov (i - 1) r) (q : r ≡ spotIn 0 (boxes moov) (i - 1)) where
+module _ (xs : List ℕ) (i : ℕ) (new : List ℕ) {moov : List ℕ} (e : moov ≡ find MOOV (boxes xs)) (r : Spot) (s : SpotAs moov (i - 1) r) (q : (p : ℕ) → r ≡ spotIn (stsdsFrom 0 (boxes moov) p) (i - 1)) where
   pub spot-replaced : (t n : ℕ) → r ≡ In t n → {kind size : ℕ} → kind ≡ kindAt xs i → size ≡ headSize kind → settled xs (recordAt (In t n) (size - HEAD) new xs) ≡ replaceOf xs i new
-  unfolding replaceOf recordReplaced
+  unfolding replaceOf recordReplaced stsds
   spot-replaced t n f g h =
-      let u : In t n ≡ spotIn 0 (movie xs) (i - 1) = sym f ∙ q ∙ ap (λ (m : List ℕ). spotIn 0 (boxes m) (i - 1)) e in
+      let p = startIn MOOV 0 (boxes xs) in
+      let u : In t n ≡ spotIn (stsds xs) (i - 1) = sym f ∙ q p ∙ ap (λ (m : List ℕ). spotIn (stsdsFrom 0 (boxes m) p) (i - 1)) e in
       rw (← u, ← g, ← h)
 
   pub spot-none : r ≡ Past → {kind : ℕ} → kind ≡ kindAt xs i → recordRule kind FRAMES new ≡ 1 → ⊥

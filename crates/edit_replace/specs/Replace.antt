@@ -2,12 +2,12 @@
 -- the same code. Enclosing sizes follow."
 use Prim.Native.Nat.{ℕ, _-_}
 use mathlib.Core.Bool.{Bool, true}
-use mathlib.Core.List.{List, [], _∷_}
+use mathlib.Core.List.{List, [], _∷_, _++_, map}
 use lib.ListN.{length}
 use Rattle.wire.specs.Tests.{pick, ifEq, ifLt}
 use Rattle.wire.specs.Clauses.{isEq, isLt, every}
 use Rattle.wire.specs.Numbers.{word}
-use Rattle.codes.specs.Codes.{MOOV, TRAK, MDIA, MINF, STBL, STSD, DAMR, D263}
+use Rattle.codes.specs.Codes.{MOOV, TRAK, DAMR, D263}
 use Rattle.boxes.specs.declared.way.Turn.{Turn}
 use Rattle.boxes.specs.Boxes.{HEAD, FRONT}
 use Rattle.boxes.specs.Seek.{ANY}
@@ -15,7 +15,8 @@ use Rattle.boxes.specs.Way.{editWay, tailBy}
 use Rattle.boxes.specs.Containers.{LONGEST}
 use Rattle.movie.specs.declared.entry.Spot.{Spot}
 use Rattle.movie.specs.declared.entry.Spot.the-variants.{In, Past}
-use Rattle.movie.specs.Movie.{movie}
+use Rattle.movie.specs.Ways.{toStsd}
+use Rattle.movie.specs.Stsds.{stsds}
 use Rattle.movie.specs.Entries.{entries}
 use Rattle.movie.specs.Named.{spotIn, bytesAt}
 use Rattle.entry_heads.specs.Kinds.{kindOf}
@@ -46,7 +47,7 @@ turn c n = record { skip = 0; code = c; nth = n }
 
 -- the way to entry n of track t, both from 0
 abbrev pub wayTo : ℕ → ℕ → List Turn
-wayTo t n = turn MOOV 0 ∷ turn TRAK t ∷ turn MDIA 0 ∷ turn MINF 0 ∷ turn STBL 0 ∷ turn STSD 0 ∷ record { skip = FRONT; code = ANY; nth = n } ∷ []
+wayTo t n = turn MOOV 0 ∷ turn TRAK t ∷ (map (λ c. turn c 0) toStsd ++ (record { skip = FRONT; code = ANY; nth = n } ∷ []))
 
 -- the record is what stands behind the first `keep` bytes of the entry's payload
 abbrev pub recordAt : Spot → ℕ → List ℕ → List ℕ → List ℕ
@@ -54,7 +55,7 @@ recordAt (In t n) keep new xs = editWay (wayTo t n) (tailBy keep new) xs
 recordAt Past keep new xs = xs
 
 unfoldable pub recordReplaced : List ℕ → ℕ → List ℕ → List ℕ
-recordReplaced xs i new = recordAt (spotIn 0 (movie xs) (i - 1)) (headSize (kindAt xs i) - HEAD) new xs
+recordReplaced xs i new = recordAt (spotIn (stsds xs) (i - 1)) (headSize (kindAt xs i) - HEAD) new xs
 
 unfoldable pub replaceOf : List ℕ → ℕ → List ℕ → List ℕ
 replaceOf xs i new = settled xs (recordReplaced xs i new)

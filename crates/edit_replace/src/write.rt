@@ -4,7 +4,6 @@ use boxes::seek::Seen;
 use boxes::walk;
 use boxes::walk::BoxAt;
 use boxes::way;
-use boxes::way::Turn;
 use boxes::words::By;
 use movie::entry;
 ghost use mathlib.Core.Path.{_≡_};
@@ -14,34 +13,38 @@ ghost use Rattle.codes.specs.Codes.{MOOV};
 ghost use Rattle.wire.specs.Writing.{Wrote, Put};
 ghost use Rattle.boxes.specs.Seek.{Cut};
 ghost use Rattle.boxes.specs.Containers.{LONGEST};
+ghost use Rattle.boxes.specs.Way.{turns};
 ghost use Rattle.movie.specs.declared.entry.Spot.the-variants.{In};
 ghost use Rattle.edit_offsets.specs.Settle.{settled};
 ghost use Rattle.edit_replace.specs.Replace.{wayTo, recordAt};
 ghost use Rattle.edit_replace.specs.Fitting.{Fits};
 
-// A turn past nothing.
-fn turn(code: usize, nth: usize) -> Turn
-    ensures { λ r. ⌜ r ≡ record { skip = 0; code = code; nth = nth } ⌝ }
-{
-    Turn { skip: 0, code, nth }
-}
-
-// The way to entry n of track t, both from 0.
-fn way_to(t: usize, n: usize) -> [Turn; 7]
-    ensures { λ r. ⌜ r ≡ wayTo t n ⌝ }
+// The way to entry n of track t, both from 0: three numbers to a turn.
+fn way_to(t: usize, n: usize) -> [usize; 21]
+    ensures { λ r. ⌜ turns r ≡ wayTo t n ⌝ }
 {
     [
-        turn(codes::MOOV, 0),
-        turn(codes::TRAK, t),
-        turn(codes::MDIA, 0),
-        turn(codes::MINF, 0),
-        turn(codes::STBL, 0),
-        turn(codes::STSD, 0),
-        Turn {
-            skip: walk::FRONT,
-            code: seek::ANY,
-            nth: n,
-        },
+        0,
+        codes::MOOV,
+        0,
+        0,
+        codes::TRAK,
+        t,
+        0,
+        codes::MDIA,
+        0,
+        0,
+        codes::MINF,
+        0,
+        0,
+        codes::STBL,
+        0,
+        0,
+        codes::STSD,
+        0,
+        walk::FRONT,
+        seek::ANY,
+        n,
     ]
 }
 
@@ -50,7 +53,8 @@ fn put_record(out: &mut [u8], file: &[u8], t: usize, n: usize, keep: usize, new:
     requires { ⌜ (lengthOf (now file) ≤ LONGEST) × (lengthOf (now new) ≤ 31) ⌝ }
     ensures { λ r. ⌜ Put (recordAt (In t n) keep (now (new .entry)) (now (file .entry))) (now (out .entry)) 0 r (now (out .exit)) ⌝ }
 {
-    way::put_way(out, 0, file, way_to(t, n), 0, keep, new)
+    let way = way_to(t, n);
+    way::put_way(out, 0, file, &way, 0, keep, new)
 }
 
 // The length of a file with another record.

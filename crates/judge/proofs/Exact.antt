@@ -14,6 +14,8 @@ use Rattle.rule.proofs.Places.{placed-says}
 use Rattle.rule.proofs.Acceptance.{fine-all, all-fine}
 use Rattle.rule_shape.specs.Two.{twoRule}
 use Rattle.rule_shape.specs.Three.{threeRule}
+use Rattle.rule_lists.specs.Five.{fiveRule}
+use Rattle.rule_lists.specs.Nine.{nineRule}
 use Rattle.rule_lists.proofs.Rules.{five-says, nine-says}
 use Rattle.rule_headers.proofs.Rule4.{four-says}
 use Rattle.rule_tracks.specs.Six.{sixRule}

@@ -11,7 +11,8 @@ use Rattle.rule.specs.Rule.{Rule, allIn}
 use Rattle.rule_shape.specs.Two.{twoRule}
 use Rattle.rule_shape.specs.Three.{threeRule}
 use Rattle.rule_shape.specs.TwentyThree.{editableRule}
-use Rattle.rule_lists.specs.Rules.{fiveRule, nineRule}
+use Rattle.rule_lists.specs.Five.{fiveRule}
+use Rattle.rule_lists.specs.Nine.{nineRule}
 use Rattle.rule_headers.specs.Four.{fourRule}
 use Rattle.rule_tracks.specs.Six.{sixRule}
 use Rattle.rule_tracks.specs.Seven.{sevenRule}

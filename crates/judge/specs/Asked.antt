@@ -10,7 +10,8 @@ use Rattle.rule.specs.Judge.{Judge}
 use Rattle.rule_shape.specs.Two.{two}
 use Rattle.rule_shape.specs.Three.{three}
 use Rattle.rule_shape.specs.TwentyThree.{editableJudge}
-use Rattle.rule_lists.specs.Rules.{five, nine}
+use Rattle.rule_lists.specs.Five.{five}
+use Rattle.rule_lists.specs.Nine.{nine}
 use Rattle.rule_headers.specs.Four.{four}
 use Rattle.rule_tracks.specs.Six.{six}
 use Rattle.rule_tracks.specs.Asked.{askedSeven, askedEight}

@@ -9,7 +9,8 @@ use Rattle.rule.specs.declared.Verdict.the-variants.{Fine, Bad}
 use Rattle.rule.specs.Judge.{Judge, judgeIn}
 use Rattle.rule_shape.specs.Two.{two}
 use Rattle.rule_shape.specs.Three.{three}
-use Rattle.rule_lists.specs.Rules.{five, nine}
+use Rattle.rule_lists.specs.Five.{five}
+use Rattle.rule_lists.specs.Nine.{nine}
 use Rattle.rule_headers.specs.Four.{four}
 use Rattle.rule_tracks.specs.Six.{six}
 use Rattle.rule_tracks.specs.Seven.{seven}

@@ -4,11 +4,11 @@ use native.Mathlib.Omega.{arith}
 use mathlib.Core.Path.{_≡_, refl, ap, subst, _∙_}
 use mathlib.Core.List.{List}
 use lib.ListN.{length, drop, length-drop}
-use Rattle.codes.specs.Codes.{MOOV, TRAK, MDIA, MINF, STBL, STSD}
+use Rattle.codes.specs.Codes.{MOOV, TRAK, STSD}
 use Rattle.boxes.specs.declared.walk.BoxAt.{BoxAt}
 use Rattle.boxes.specs.declared.seek.Seen.{Seen}
 use Rattle.boxes.specs.declared.seek.Seen.the-variants as seen
-use Rattle.boxes.specs.Boxes.{boxes, FRONT}
+use Rattle.boxes.specs.Boxes.{boxes, HEAD, FRONT}
 use Rattle.boxes.specs.Seek.{ANY, find, nth, startIn, SeenAs}
 use Rattle.boxes.proofs.Numbered.{found-short}
 use Rattle.boxes.proofs.Cutting.{cut-as, none-as}
@@ -17,15 +17,16 @@ use Rattle.movie.specs.declared.entry.Named.{Named}
 use Rattle.movie.specs.declared.entry.Named.the-variants.{At, Missing}
 use Rattle.movie.specs.declared.entry.Spot.{Spot}
 use Rattle.movie.specs.declared.entry.Spot.the-variants.{In, Past}
-use Rattle.movie.specs.Movie.{movie, mdia, minf, stbl, track, sampleTable}
-use Rattle.movie.specs.Entries.{entriesStart, entries}
-use Rattle.movie.specs.Named.{listIn, heldIn, listStart, InTrack, SpotAs, PlacedAs, EntryIs, NamedAs}
-use Rattle.movie.proofs.Counting.{length-after}
+use Rattle.movie.specs.Ways.{toStsd, placeAlong}
+use Rattle.movie.specs.Movie.{track, sampleTable}
+use Rattle.movie.specs.Stsds.{stsdsFrom, stsds}
+use Rattle.movie.specs.Entries.{entriesIn, entries}
+use Rattle.movie.specs.Named.{listIn, listStart, InTrack, SpotAs, PlacedAs, EntryIs, NamedAs}
 
 -- ---- as code asks
 
 pub list-is : (b stsd list : List ℕ) → stsd ≡ sampleTable STSD b → length stsd ≤ length b → list ≡ drop FRONT stsd → (list ≡ listIn b) × (length list ≤ length b)
-unfolding listIn
+unfolding listIn sampleTable
 list-is b stsd list e h f = (f ∙ ap (drop FRONT) e, omega (arith, ap length f ∙ length-drop FRONT stsd))
 
 pub spot-in : (xs : List ℕ) {moov : List ℕ} → moov ≡ find MOOV (boxes xs) → (i : ℕ) (r : Spot) (t n : ℕ) → SpotAs moov i r → r ≡ In t n → InTrack (find MOOV (boxes xs)) i t n
@@ -35,22 +36,12 @@ pub spot-small : (xs : List ℕ) {i t n : ℕ} → InTrack (find MOOV (boxes xs)
 spot-small xs s = omega (arith, s .small, found-short MOOV 0 xs refl)
 
 pub spot-past : (xs : List ℕ) {moov : List ℕ} → moov ≡ find MOOV (boxes xs) → (i : ℕ) (r : Spot) → SpotAs moov i r → r ≡ Past → NamedAs xs i Missing
-unfolding entries NamedAs
+unfolding stsds entries NamedAs
 spot-past xs {moov} e i r s f =
-    let g : heldIn (boxes moov) ≤ i = subst (SpotAs moov i) f s in
-    let h : heldIn (movie xs) ≤ i = rw e at g in
-    rw (length-after 0 (movie xs) (startIn MOOV 0 (boxes xs))) h
+    let g : (p : ℕ) → length (entriesIn (stsdsFrom 0 (boxes moov) p)) ≤ i = subst (SpotAs moov i) f s in
+    rw e at (g (startIn MOOV 0 (boxes xs)))
 
--- where they start, and no number on the way there is large
-module _ (b : List ℕ) {mdia minf stbl : List ℕ} (e : mdia ≡ find MDIA (boxes b)) (f : minf ≡ find MINF (boxes mdia)) (g : stbl ≡ find STBL (boxes minf)) where
-  pub starts-are : {i j k m : ℕ} → i ≡ startIn MDIA 0 (boxes b) → j ≡ startIn MINF 0 (boxes mdia) → k ≡ startIn STBL 0 (boxes minf) → m ≡ startIn STSD 0 (boxes stbl) → i + j + k + m + FRONT ≡ entriesStart b
-  unfolding entriesStart
-  starts-are o p q r = rw (o, p, q, r, g, f, e)
-
-  pub starts-few : (length mdia ≤ length b) × (length minf ≤ length b) × (length stbl ≤ length b)
-  starts-few = let h = found-short MDIA 0 b e in let k = found-short MINF 0 mdia f in let l = found-short STBL 0 minf g in (h, omega arith, omega arith)
-
-pub list-start-is : (xs : List ℕ) (t : ℕ) {moov b : List ℕ} → moov ≡ find MOOV (boxes xs) → b ≡ track xs t → {i j k : ℕ} → i ≡ startIn MOOV 0 (boxes xs) → j ≡ startIn TRAK t (boxes moov) → k ≡ entriesStart b → i + j + k ≡ listStart xs t
+pub list-start-is : (xs : List ℕ) (t : ℕ) {moov b : List ℕ} → moov ≡ find MOOV (boxes xs) → b ≡ track xs t → {i j k : ℕ} → i ≡ startIn MOOV 0 (boxes xs) → j ≡ startIn TRAK t (boxes moov) → k ≡ placeAlong toStsd b → i + j + k + HEAD + FRONT ≡ listStart xs t
 unfolding listStart
 list-start-is xs t e f o p q = rw (o, p, q, f, e)
 

@@ -16,7 +16,8 @@ use Rattle.boxes.specs.Seek.{ANY, meant, count, Cut}
 use Rattle.boxes.proofs.Placing.{total-before}
 use Rattle.boxes.proofs.Meaning.{meant-yes, meant-is}
 use Rattle.boxes.proofs.Numbered.{count-any}
-use Rattle.movie.specs.Entries.{entriesFrom, entriesOf, entriesAfter}
+use Rattle.movie.specs.Stsds.{stsdOf, stsdsFrom}
+use Rattle.movie.specs.Entries.{entriesFrom, entriesOf, entriesIn}
 use Rattle.movie.specs.Named.{listIn, held}
 
 pub length-from : (t : ℕ) (l : List Box) (p : ℕ) → length (entriesFrom t l p) ≡ length l
@@ -37,30 +38,35 @@ from-cut t p {xs} {n} {b} v s =
     let e : n ≡ length (s .p) = sym (s .nth) ∙ count-any (s .p) in
     rw (s .list, e) (from-past t (s .p) (boxAt xs b ∷ s .q) p ∙ rw (total-before v s))
 
--- ---- a track
+-- ---- a box of `moov`
 
 module _ (x : Box) (e : meant TRAK (x .code) ≡ 1) where
-  track-code : x .code ≡ TRAK
+  pub track-code : x .code ≡ TRAK
   track-code = meant-is TRAK (x .code) (λ z. omega arith) e
 
   pub held-hit : held (x .code) (x .body) ≡ count ANY (boxes (listIn (x .body)))
   unfolding held
   held-hit = sym (eq-yea _ _ _ _ _ track-code refl)
 
-  pub after-hit : (l : List Box) (t p : ℕ) → entriesAfter t (x ∷ l) p ≡ entriesOf (t + 1) (x .body) (p + x .head) ++ entriesAfter (t + 1) l (p + size x)
-  unfolding entriesAfter
-  after-hit l t p = sym (eq-yea _ _ _ _ _ track-code refl)
+  pub stsds-hit : (l : List Box) (t p : ℕ) → stsdsFrom t (x ∷ l) p ≡ stsdOf (t + 1) (x .body) (p + x .head) ∷ stsdsFrom (t + 1) l (p + size x)
+  unfolding stsdsFrom
+  stsds-hit l t p = sym (eq-yea _ _ _ _ _ track-code refl)
 
--- ---- another box
+  pub after-hit : (l : List Box) (t p : ℕ) → entriesIn (stsdsFrom t (x ∷ l) p) ≡ entriesOf (stsdOf (t + 1) (x .body) (p + x .head)) ++ entriesIn (stsdsFrom (t + 1) l (p + size x))
+  unfolding entriesIn
+  after-hit l t p = ap entriesIn (stsds-hit l t p)
 
 module _ (x : Box) (e : meant TRAK (x .code) ≡ 0) where
-  other-code : x .code ≡ TRAK → ⊥
+  pub other-code : x .code ≡ TRAK → ⊥
   other-code h = omega (arith, meant-yes TRAK (x .code) (λ z. omega arith) h)
 
   pub held-miss : held (x .code) (x .body) ≡ 0
   unfolding held
   held-miss = sym (eq-nay _ _ _ _ _ other-code refl)
 
-  pub after-miss : (l : List Box) (t p : ℕ) → entriesAfter t (x ∷ l) p ≡ entriesAfter t l (p + size x)
-  unfolding entriesAfter
-  after-miss l t p = sym (eq-nay _ _ _ _ _ other-code refl)
+  pub stsds-miss : (l : List Box) (t p : ℕ) → stsdsFrom t (x ∷ l) p ≡ stsdsFrom t l (p + size x)
+  unfolding stsdsFrom
+  stsds-miss l t p = sym (eq-nay _ _ _ _ _ other-code refl)
+
+  pub after-miss : (l : List Box) (t p : ℕ) → entriesIn (stsdsFrom t (x ∷ l) p) ≡ entriesIn (stsdsFrom t l (p + size x))
+  after-miss l t p = ap entriesIn (stsds-miss l t p)

@@ -8,24 +8,34 @@ use Rattle.codes.specs.Codes.{MOOV, TRAK}
 use Rattle.boxes.specs.declared.walk.Walk.{Walk}
 use Rattle.boxes.specs.declared.walk.BoxAt.{BoxAt}
 use Rattle.boxes.specs.Box.{Box, size}
-use Rattle.boxes.specs.Boxes.{boxes}
+use Rattle.boxes.specs.Boxes.{FRONT, boxes}
 use Rattle.boxes.specs.Walk.{payload, Ran, Over}
 use Rattle.boxes.specs.Seek.{ANY, count, find, startIn}
 use Rattle.boxes.proofs.Seeking.{length-payload}
 use Rattle.boxes.proofs.Meaning.{meant-or}
 use Rattle.boxes.proofs.Numbered.{found-short, count-any}
-use Rattle.movie.specs.Entries.{entriesOf, entriesAfter, entries}
-use Rattle.movie.specs.Named.{listIn, held, heldIn}
+use Rattle.movie.specs.Stsds.{Stsd, stsdOf, stsdsFrom, stsds}
+use Rattle.movie.specs.Entries.{entriesOf, entriesIn, entries}
+use Rattle.movie.specs.Named.{listIn, held}
 use Rattle.movie.proofs.Boxed.{length-from, held-hit, after-hit, held-miss, after-miss}
 
 -- ---- how many
 
-pub length-of : (t : ℕ) (b : List ℕ) (p : ℕ) → length (entriesOf t b p) ≡ count ANY (boxes (listIn b))
-unfolding entriesOf listIn
-length-of t b p = length-from t _ _ ∙ sym (count-any _)
+pub length-stsd : (s : Stsd) → length (entriesOf s) ≡ count ANY (boxes (drop FRONT (s .body)))
+unfolding entriesOf
+length-stsd s = length-from (s .track) _ _ ∙ sym (count-any _)
 
-pub length-after : (t : ℕ) (l : List Box) (p : ℕ) → length (entriesAfter t l p) ≡ heldIn l
-unfolding entriesAfter heldIn
+pub length-of : (t : ℕ) (b : List ℕ) (p : ℕ) → length (entriesOf (stsdOf t b p)) ≡ count ANY (boxes (listIn b))
+unfolding listIn
+length-of t b p = length-stsd (stsdOf t b p)
+
+-- the entries of boxes of `moov`
+unfoldable pub heldIn : List Box → ℕ
+heldIn [] = 0
+heldIn (x ∷ l) = held (x .code) (x .body) + heldIn l
+
+pub length-after : (t : ℕ) (l : List Box) (p : ℕ) → length (entriesIn (stsdsFrom t l p)) ≡ heldIn l
+unfolding stsdsFrom entriesIn heldIn
 length-after t [] p = refl
 length-after t (x ∷ l) p =
     meant-or TRAK (x .code)
@@ -51,7 +61,7 @@ module _ {ys : List ℕ} {n at : ℕ} (g : Tally ys n at) where
       record { is = g .is ∙ rw (s .list, ← f, ← e) (omega arith); few = omega (arith, g .few, s .next, s .least, ap length f); inside = omega (arith, s .next, s .inside) }
 
   pub tally-all : Over ys at → (xs : List ℕ) → ys ≡ find MOOV (boxes xs) → (n ≡ length (entries xs)) × (n ≤ length xs)
-  unfolding heldIn entries
+  unfolding heldIn stsds entries
   tally-all o xs e =
       let h : heldIn (boxes ys) ≡ n = g .is ∙ rw (o .list) (omega arith) in
       let k : heldIn (boxes (find MOOV (boxes xs))) ≡ n = rw e at h in

@@ -5,3 +5,5 @@ pub mod Spotting
 pub mod Naming
 pub mod Asking
 pub mod Spots
+pub mod Stsds
+pub mod Kept

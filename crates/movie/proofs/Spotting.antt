@@ -18,35 +18,36 @@ use Rattle.boxes.proofs.Placing.{start-at}
 use Rattle.boxes.proofs.Seeking.{ran-next, passed-none, passed-more, passed-cut}
 use Rattle.boxes.proofs.Meaning.{meant-or}
 use Rattle.boxes.proofs.Cutting.{cut-payload, cut-some}
-use Rattle.movie.specs.Entries.{entriesOf, entriesAfter}
-use Rattle.movie.specs.Named.{listIn, held, heldIn, InTrack}
+use Rattle.movie.specs.Stsds.{stsdOf, stsdsFrom}
+use Rattle.movie.specs.Entries.{entriesOf, entriesIn}
+use Rattle.movie.specs.Named.{listIn, held, InTrack}
 use Rattle.movie.proofs.Boxed.{held-hit, after-hit, held-miss, after-miss}
-use Rattle.movie.proofs.Counting.{length-of, length-after}
+use Rattle.movie.proofs.Counting.{length-of}
 
 -- ---- one box of `moov`
 
 module _ (t : ℕ) (x : Box) (l : List Box) (p n : ℕ) where
   -- the entry is past it
-  after-past : held (x .code) (x .body) ≤ n → drop n (entriesAfter t (x ∷ l) p) ≡ drop (n - held (x .code) (x .body)) (entriesAfter (t + meant TRAK (x .code)) l (p + size x))
+  after-past : held (x .code) (x .body) ≤ n → drop n (entriesIn (stsdsFrom t (x ∷ l) p)) ≡ drop (n - held (x .code) (x .body)) (entriesIn (stsdsFrom (t + meant TRAK (x .code)) l (p + size x)))
   after-past h =
       let k = held (x .code) (x .body) in
       meant-or TRAK (x .code)
       (λ e.
       let m : n ≡ k + (n - k) = omega arith in
       let o = length-of (t + 1) (x .body) (p + x .head) ∙ sym (held-hit x e) in
-      rw (after-hit x e l t p, e) (ap (λ (j : ℕ). drop j (entriesOf (t + 1) (x .body) (p + x .head) ++ entriesAfter (t + 1) l (p + size x))) m ∙ drop-past (entriesOf (t + 1) (x .body) (p + x .head)) (entriesAfter (t + 1) l (p + size x)) k (n - k) o))
+      rw (after-hit x e l t p, e) (ap (λ (j : ℕ). drop j (entriesOf (stsdOf (t + 1) (x .body) (p + x .head)) ++ entriesIn (stsdsFrom (t + 1) l (p + size x)))) m ∙ drop-past (entriesOf (stsdOf (t + 1) (x .body) (p + x .head))) (entriesIn (stsdsFrom (t + 1) l (p + size x))) k (n - k) o))
       (λ e.
       let z : t + 0 ≡ t = omega arith in
       let m : n - k ≡ n = omega (arith, held-miss x e) in
       rw (after-miss x e l t p, e, z, m))
 
   -- it is in it
-  after-in : n < held (x .code) (x .body) → (meant TRAK (x .code) ≡ 1) × (n < count ANY (boxes (listIn (x .body)))) × (drop n (entriesAfter t (x ∷ l) p) ≡ drop n (entriesOf (t + 1) (x .body) (p + x .head)) ++ entriesAfter (t + 1) l (p + size x))
+  after-in : n < held (x .code) (x .body) → (meant TRAK (x .code) ≡ 1) × (n < count ANY (boxes (listIn (x .body)))) × (drop n (entriesIn (stsdsFrom t (x ∷ l) p)) ≡ drop n (entriesOf (stsdOf (t + 1) (x .body) (p + x .head))) ++ entriesIn (stsdsFrom (t + 1) l (p + size x)))
   after-in h =
       meant-or TRAK (x .code)
       (λ e.
       let k = held-hit x e in
-      (e, omega arith, rw (after-hit x e l t p) (drop-append-le n (entriesOf (t + 1) (x .body) (p + x .head)) (entriesAfter (t + 1) l (p + size x)) (omega (arith, length-of (t + 1) (x .body) (p + x .head))))))
+      (e, omega arith, rw (after-hit x e l t p) (drop-append-le n (entriesOf (stsdOf (t + 1) (x .body) (p + x .head))) (entriesIn (stsdsFrom (t + 1) l (p + size x))) (omega (arith, length-of (t + 1) (x .body) (p + x .head))))))
       (λ e. absurd (omega (arith, held-miss x e)))
 
 -- ---- the walk
@@ -54,7 +55,7 @@ module _ (t : ℕ) (x : Box) (l : List Box) (p n : ℕ) where
 -- before place at there are t tracks, and entry i is number `left` from there on
 pub record Gone (ys : List ℕ) (i t left at : ℕ) : Type 0 where
   pub passed : Passed ys TRAK t at
-  pub is : (p : ℕ) → drop i (entriesAfter 0 (boxes ys) p) ≡ drop left (entriesAfter t (boxes (drop at ys)) (p + at))
+  pub is : (p : ℕ) → drop i (entriesIn (stsdsFrom 0 (boxes ys) p)) ≡ drop left (entriesIn (stsdsFrom t (boxes (drop at ys)) (p + at)))
 
 pub gone-none : (ys : List ℕ) (i : ℕ) → Gone ys i 0 i 0
 gone-none ys i = record { passed = passed-none ys TRAK; is = λ p. let z : p + 0 ≡ p = omega arith in rw z }
@@ -78,14 +79,14 @@ module _ {ys : List ℕ} {i t left at : ℕ} (g : Gone ys i t left at) where
           some = cut-some c;
           small = omega (arith, g .passed .few, g .passed .inside);
           few = rw (← y) (a .1);
-          rest = λ p. entriesAfter (t + 1) (boxes (drop (w .at) ys)) (p + at + size (boxAt ys b));
+          rest = λ p. entriesIn (stsdsFrom (t + 1) (boxes (drop (w .at) ys)) (p + at + size (boxAt ys b)));
           is = λ p.
               let q : p + startIn TRAK t (boxes ys) ≡ p + at + b .head = omega (arith, z, s .start) in
               g .is p ∙ rw (s .list, ← y, q) (after-in t (boxAt ys b) (boxes (drop (w .at) ys)) (p + at) left (omega arith) .2);
         }
 
-  pub gone-past : Over ys at → heldIn (boxes ys) ≤ i
-  unfolding entriesAfter
-  gone-past o =
-      let e : drop i (entriesAfter 0 (boxes ys) 0) ≡ [] = g .is 0 ∙ rw (o .list) (drop-nil left) in
-      omega (arith, length-drop i (entriesAfter 0 (boxes ys) 0), ap length e, length-after 0 (boxes ys) 0)
+  pub gone-past : Over ys at → (p : ℕ) → length (entriesIn (stsdsFrom 0 (boxes ys) p)) ≤ i
+  unfolding stsdsFrom entriesIn
+  gone-past o p =
+      let e : drop i (entriesIn (stsdsFrom 0 (boxes ys) p)) ≡ [] = g .is p ∙ rw (o .list) (drop-nil left) in
+      omega (arith, length-drop i (entriesIn (stsdsFrom 0 (boxes ys) p)), ap length e)

@@ -1,3 +1,5 @@
+pub mod Ways
 pub mod Movie
+pub mod Stsds
 pub mod Entries
 pub mod Named

@@ -1,11 +1,12 @@
 -- The movie of a file: its tracks, in file order and from 0, and what each of them says.
 use Prim.Native.Nat.{ℕ}
 use mathlib.Core.List.{List}
-use Rattle.codes.specs.Codes.{MOOV, TRAK, TKHD, MDIA, MDHD, HDLR, MINF, STBL}
+use Rattle.codes.specs.Codes.{MOOV, TRAK, TKHD, MDIA, MDHD, HDLR, MINF}
 use Rattle.wire.specs.Numbers.{word}
 use Rattle.boxes.specs.Box.{Box}
 use Rattle.boxes.specs.Boxes.{boxes}
 use Rattle.boxes.specs.Seek.{count, find, nth}
+use Rattle.movie.specs.Ways.{toTable, toDref, follow}
 
 -- the boxes of `moov`
 abbrev pub movie : List ℕ → List Box
@@ -26,14 +27,19 @@ mdia b = boxes (find MDIA (boxes b))
 abbrev pub minf : List ℕ → List Box
 minf b = boxes (find MINF (mdia b))
 
-abbrev pub stbl : List ℕ → List Box
-stbl b = boxes (find STBL (minf b))
-
 -- ---- what it says
 
 -- the payload of a box of its `stbl`
 unfoldable pub sampleTable : ℕ → List ℕ → List ℕ
-sampleTable c b = find c (stbl b)
+sampleTable c b = follow (toTable c) b
+
+-- the count that a list of boxes stores before them
+abbrev pub storedCount : List ℕ → ℕ
+storedCount b = word 4 b 4
+
+-- how many data references it has
+unfoldable pub references : List ℕ → ℕ
+references b = storedCount (follow toDref b)
 
 -- "hdlr has its type at 8"
 unfoldable pub handler : List ℕ → ℕ

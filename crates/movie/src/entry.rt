@@ -8,13 +8,14 @@ use boxes::walk::Walk;
 use wire::lend;
 use wire::number;
 ghost use mathlib.Core.Path.{_≡_};
-ghost use Prim.Native.Nat.{_+_, _≤_};
+ghost use Prim.Native.Nat.{ℕ, _+_, _≤_};
 ghost use lib.ListN.{length};
 ghost use Rattle.boxes.specs.Boxes.{boxes};
 ghost use Rattle.boxes.specs.Seek.{meant};
 ghost use Rattle.codes.specs.Codes.{TRAK};
 ghost use Rattle.boxes.specs.Containers.{LONGEST};
-ghost use Rattle.movie.specs.Entries.{entries as entriesIn, entriesStart};
+ghost use Rattle.movie.specs.Stsds.{stsdsFrom};
+ghost use Rattle.movie.specs.Entries.{entries as entriesOfFile};
 ghost use Rattle.movie.specs.Named.{listIn, held as heldBy, listStart, SpotAs, PlacedAs, NamedAs, spotIn};
 
 // An entry: its track, from 1; its number there, from 0; its place in the file; its length.
@@ -55,7 +56,7 @@ fn held(code: usize, body: &[u8]) -> usize
 
 // How many entries a file has.
 pub fn entries(file: &[u8]) -> usize
-    ensures { λ r. ⌜ (r ≡ length (entriesIn (now (file .entry)))) × (r ≤ length (now (file .entry))) ⌝ }
+    ensures { λ r. ⌜ (r ≡ length (entriesOfFile (now (file .entry)))) × (r ≤ length (now (file .entry))) ⌝ }
 {
     let moov = seek::payload(file, codes::MOOV, 0);
     let mut w = Walk { at: 0 };
@@ -88,7 +89,7 @@ fn one_track(code: usize) -> usize
 
 // In which track of a `moov` the entry i is, and its number there.
 pub fn find_spot(moov: &[u8], i: usize) -> Spot
-    ensures { λ r. ⌜ (SpotAs (now (moov .entry)) i r) × (r ≡ spotIn 0 (boxes (now (moov .entry))) i) ⌝ }
+    ensures { λ r. ⌜ (SpotAs (now (moov .entry)) i r) × ((p : ℕ) → r ≡ spotIn (stsdsFrom 0 (boxes (now (moov .entry))) p) i) ⌝ }
 {
     let mut w = Walk { at: 0 };
     let mut t = 0;
@@ -114,19 +115,6 @@ pub fn find_spot(moov: &[u8], i: usize) -> Spot
     }
 }
 
-// How far into a track's payload its entries start.
-fn entries_start(track: &[u8]) -> usize
-    requires { ⌜ length (now track) ≤ LONGEST ⌝ }
-    ensures { λ r. ⌜ (r ≡ entriesStart (now (track .entry))) × (r ≤ 4194312) ⌝ }
-{
-    let mdia = seek::payload(track, codes::MDIA, 0);
-    let minf = seek::payload(mdia, codes::MINF, 0);
-    let stbl = seek::payload(minf, codes::STBL, 0);
-    let to_minf = seek::start(track, codes::MDIA, 0) + seek::start(mdia, codes::MINF, 0);
-    let to_stbl = to_minf + seek::start(minf, codes::STBL, 0);
-    to_stbl + seek::start(stbl, codes::STSD, 0) + walk::FRONT
-}
-
 // How far into the file the entries of track t, from 0, start.
 fn list_start(file: &[u8], t: usize) -> usize
     requires { ⌜ length (now file) ≤ LONGEST ⌝ }
@@ -134,7 +122,7 @@ fn list_start(file: &[u8], t: usize) -> usize
 {
     let moov = seek::payload(file, codes::MOOV, 0);
     let to_track = seek::start(file, codes::MOOV, 0) + seek::start(moov, codes::TRAK, t);
-    to_track + entries_start(crate::track(file, t))
+    to_track + crate::stsd_place(crate::track(file, t)) + walk::HEAD + walk::FRONT
 }
 
 // Entry n of track t, both from 0.

@@ -4,9 +4,10 @@ pub mod entry;
 use boxes::seek;
 use wire::number;
 ghost use mathlib.Core.Path.{_≡_};
-ghost use Prim.Native.Nat.{_^_, _≤_, _<_};
+ghost use Prim.Native.Nat.{_*_, _^_, _≤_, _<_};
 ghost use lib.ListN.{length};
-ghost use Rattle.movie.specs.Movie.{tracks as tracksOf, track as trackOf, sampleTable, handler as handlerOf, scale as scaleOf, movieTicks as ticksOf};
+ghost use Rattle.movie.specs.Ways.{toStsd, placeAlong};
+ghost use Rattle.movie.specs.Movie.{tracks as tracksOf, track as trackOf, sampleTable, references as referencesOf, handler as handlerOf, scale as scaleOf, movieTicks as ticksOf};
 
 // How many tracks a file has.
 pub fn tracks(file: &[u8]) -> usize
@@ -30,6 +31,28 @@ pub fn table(track: &[u8], code: usize) -> &[u8]
     let minf = seek::payload(mdia, codes::MINF, 0);
     let stbl = seek::payload(minf, codes::STBL, 0);
     seek::payload(stbl, code, 0)
+}
+
+// How far into a track's payload its `stsd` starts.
+pub fn stsd_place(track: &[u8]) -> usize
+    requires { ⌜ length (now track) < 2 ^ 61 ⌝ }
+    ensures { λ r. ⌜ (r ≡ placeAlong toStsd (now (track .entry))) × (r ≤ 4 * length (now (track .entry))) ⌝ }
+{
+    let mdia = seek::payload(track, codes::MDIA, 0);
+    let minf = seek::payload(mdia, codes::MINF, 0);
+    let stbl = seek::payload(minf, codes::STBL, 0);
+    let to_minf = seek::start(track, codes::MDIA, 0) + seek::start(mdia, codes::MINF, 0);
+    to_minf + seek::start(minf, codes::STBL, 0) + seek::place(stbl, codes::STSD, 0)
+}
+
+// How many data references it has.
+pub fn references(track: &[u8]) -> usize
+    ensures { λ r. ⌜ (r ≡ referencesOf (now (track .entry))) × (r < 2 ^ 32) ⌝ }
+{
+    let mdia = seek::payload(track, codes::MDIA, 0);
+    let minf = seek::payload(mdia, codes::MINF, 0);
+    let dinf = seek::payload(minf, codes::DINF, 0);
+    number::word32(seek::payload(dinf, codes::DREF, 0), 4)
 }
 
 // A track's handler.

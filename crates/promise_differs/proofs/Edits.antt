@@ -18,7 +18,7 @@ use Rattle.mdat.specs.Payloads.{mdats}
 use Rattle.mdat.proofs.Mdats.{kin-mdats}
 use Rattle.movie.specs.declared.entry.Spot.{Spot}
 use Rattle.movie.specs.declared.entry.Spot.the-variants.{In, Past}
-use Rattle.movie.specs.Movie.{movie}
+use Rattle.movie.specs.Stsds.{stsds}
 use Rattle.movie.specs.Named.{held, heldIn, spotIn}
 use Rattle.entry_rules.specs.Entries.{FRAMES}
 use Rattle.entry_rules.specs.Decoders.{recordRule}
@@ -54,9 +54,9 @@ held-past t (x ∷ l) i e =
 -- "Replace decoder record of entry i": one that meets its rule, where the result is not too long
 pub replace-differs : (xs : List ℕ) (i : ℕ) (new : List ℕ) → Bytes xs → Bytes new → Meets xs → recordRule (kindAt xs i) FRAMES new ≡ 1 → length (replaceOf xs i new) ≤ LONGEST → Replaces xs i new (replaceOf xs i new)
 unfolding replaceOf recordReplaced
-replace-differs xs i new w v m r h = go (spotIn 0 (movie xs) (i - 1)) refl (rw settled-length at h)
+replace-differs xs i new w v m r h = go (spotIn (stsds xs) (i - 1)) refl (rw settled-length at h)
   where
-    go : (s : Spot) → spotIn 0 (movie xs) (i - 1) ≡ s → length (recordAt s (keptOf xs i) new xs) ≤ LONGEST → Replaces xs i new (settled xs (recordAt s (keptOf xs i) new xs))
+    go : (s : Spot) → spotIn (stsds xs) (i - 1) ≡ s → length (recordAt s (keptOf xs i) new xs) ≤ LONGEST → Replaces xs i new (settled xs (recordAt s (keptOf xs i) new xs))
     go (In t n) e k =
         let s : length (recordAt (In t n) (keptOf xs i) new xs) < 4294967296 = omega arith in
         let q = entry-in xs i w (record-first xs i FRAMES (kindAt xs i) new refl r) t n e in

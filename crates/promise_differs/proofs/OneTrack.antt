@@ -2,10 +2,10 @@
 use Prim.Native.Nat.{ℕ, _≤_, _<_}
 use native.Mathlib.Omega.{arith}
 use mathlib.Core.Path.{_≡_, refl, sym, ap, _∙_}
-use mathlib.Core.List.{List, _∷_}
+use mathlib.Core.List.{List, _++_, map}
 use lib.ListN.{length}
 use Rattle.wire.specs.Numbers.{Bytes}
-use Rattle.codes.specs.Codes.{MOOV, TRAK, MDIA, MINF, STBL, STSD}
+use Rattle.codes.specs.Codes.{MOOV, TRAK, STSD}
 use Rattle.wire.proofs.Tests.{lt-or}
 use Rattle.boxes.specs.Boxes.{boxes}
 use Rattle.boxes.specs.Containers.{FILE, DEPTH}
@@ -18,10 +18,11 @@ use Rattle.boxes.proofs.Lying.{bytes-lies, lies-found}
 use Rattle.boxes.proofs.Down.{endOf, end-by}
 use Rattle.boxes.proofs.OneOfPart.{nth-here, nth-other}
 use Rattle.movie.specs.declared.entry.Spot.the-variants.{In}
+use Rattle.movie.specs.Ways.{toStsd}
 use Rattle.movie.specs.Movie.{track, sampleTable}
 use Rattle.edit_offsets.specs.Settle.{settled}
 use Rattle.edit_replace.specs.Replace.{turn, recordAt}
-use Rattle.edit_replace.proofs.Changing.{stsd-end, by-stsd, toStsd, toEntry, down-stsd}
+use Rattle.edit_replace.proofs.Changing.{stsd-end, by-stsd, stsdWay, toEntry, down-stsd}
 use Rattle.promise_differs.specs.Differs.{TRACK, OnlyOffsets, withRecord}
 use Rattle.promise_differs.proofs.Replacing.{follows}
 use Rattle.promise_differs.proofs.Tracking.{track-kin, offsets-refl, same-stsd}
@@ -41,13 +42,13 @@ module _ (t n keep : ℕ) (new xs : List ℕ) (w : Bytes new) (v : Bytes xs) (s 
   record-there l =
       let q = by-stsd t n keep new xs in
       sym (same-stsd zs _ settles t)
-      ∙ sym (stsd-end t zs) ∙ ap (endOf (toStsd t)) q
+      ∙ sym (stsd-end t zs) ∙ ap (endOf (stsdWay t)) q
       ∙ end-by (withRecord n keep new) (down-stsd t) xs v (rw q at s) (rw (stsd-end t xs) l) ∙ ap (withRecord n keep new) (stsd-end t xs)
 
   -- ---- any other track
 
   abbrev inTrak : List ℕ → List ℕ
-  inTrak ys = editWay (turn MDIA 0 ∷ turn MINF 0 ∷ turn STBL 0 ∷ turn STSD 0 ∷ toEntry n) (tailBy keep new) ys
+  inTrak ys = editWay (map (λ c. turn c 0) toStsd ++ toEntry n) (tailBy keep new) ys
 
   abbrev inMoov : List ℕ → List ℕ
   inMoov ys = overNth TRAK t inTrak ys

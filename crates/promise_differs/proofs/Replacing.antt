@@ -15,7 +15,7 @@ use Rattle.boxes.proofs.Down.{Once, endOf}
 use Rattle.movie.specs.declared.entry.Spot.the-variants.{In}
 use Rattle.edit_offsets.specs.Settle.{settled}
 use Rattle.edit_replace.specs.Replace.{recordAt}
-use Rattle.edit_replace.proofs.Changing.{toStsd, record-bytes, record-kin}
+use Rattle.edit_replace.proofs.Changing.{stsdWay, record-bytes, record-kin}
 use Rattle.promise_differs.specs.Differs.{OnlyOffsets, withRecord, OnlyRecord}
 use Rattle.promise_differs.proofs.Moving.{settled-differs}
 
@@ -36,7 +36,7 @@ module _ (t n keep : ℕ) (new xs : List ℕ) (w : Bytes new) (v : Bytes xs) (s 
   zs = recordAt (In t n) keep new xs
 
   -- the file and its content with another record
-  changed : Kin (Once STBL STSD (endOf (toStsd t) xs) (withRecord n keep new (endOf (toStsd t) xs))) DEPTH FILE xs zs
+  changed : Kin (Once STBL STSD (endOf (stsdWay t) xs) (withRecord n keep new (endOf (stsdWay t) xs))) DEPTH FILE xs zs
   unfolding editWay
   changed = record-kin t n keep new xs w v s
 
@@ -47,6 +47,6 @@ module _ (t n keep : ℕ) (new xs : List ℕ) (w : Bytes new) (v : Bytes xs) (s 
   -- the whole file
   pub record-differs : Kin (OnlyRecord n keep new) DEPTH FILE xs (settled xs (recordAt (In t n) keep new xs))
   record-differs =
-      let b = endOf (toStsd t) xs in
+      let b = endOf (stsdWay t) xs in
       let G = Once STBL STSD b (withRecord n keep new b) in
       kin-less (Then G OnlyOffsets) (OnlyRecord n keep new) (only-record n keep new b) DEPTH FILE xs _ (kin-then G OnlyOffsets DEPTH FILE xs zs _ changed follows)

@@ -10,6 +10,7 @@ use Rattle.boxes.specs.Containers.{FILE, DEPTH, parent, kindIn}
 use Rattle.boxes.specs.Seek.{nth, find}
 use Rattle.boxes.specs.Kin.{Leaf, Kin}
 use Rattle.boxes.proofs.Kin.{kin-refl, kin-find, kin-child}
+use Rattle.movie.specs.Ways.{follow}
 use Rattle.movie.specs.Movie.{track, sampleTable}
 use Rattle.promise_kept.proofs.Tracking.{kin-track}
 use Rattle.promise_differs.specs.Differs.{TRACK, OnlyOffsets}
@@ -30,7 +31,7 @@ offsets-refl k c b = record { offsets = λ o. but-refl 8 _ b; rest = λ n. refl 
 
 -- a track has the same sample entries
 pub same-stsd : (xs ys : List ℕ) → Kin OnlyOffsets DEPTH FILE xs ys → (t : ℕ) → sampleTable STSD (track xs t) ≡ sampleTable STSD (track ys t)
-unfolding sampleTable kindIn parent ifEq
+unfolding sampleTable follow kindIn parent ifEq
 same-stsd xs ys a t =
     kin-track OnlyOffsets (λ b b′. find STSD (boxes b) ≡ find STSD (boxes b′)) refl
     (λ b b′ r. kin-find OnlyOffsets 0 STBL b b′ r STSD (λ z. omega arith) (λ u v. u ≡ v) refl refl (λ u v q. q .rest (λ o. omega (arith, o .1))) 0) xs ys a t

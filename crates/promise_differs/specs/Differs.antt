@@ -12,7 +12,8 @@ use Rattle.boxes.specs.Seek.{ANY}
 use Rattle.boxes.specs.Kin.{Kin}
 use Rattle.boxes.specs.Way.{overTurn, tailBy}
 use Rattle.movie.specs.declared.entry.Spot.the-variants.{In}
-use Rattle.movie.specs.Movie.{movie, track, sampleTable}
+use Rattle.movie.specs.Movie.{track, sampleTable}
+use Rattle.movie.specs.Stsds.{stsds}
 use Rattle.movie.specs.Named.{spotIn}
 use Rattle.entry_heads.specs.Heads.{headSize}
 use Rattle.edit_replace.specs.Replace.{kindAt}
@@ -84,7 +85,7 @@ TRACK = DEPTH - 2
 pub record Replaces (xs : List ℕ) (i : ℕ) (new ys : List ℕ) : Type 0 where
   pub t : ℕ
   pub n : ℕ
-  pub spot : spotIn 0 (movie xs) (i - 1) ≡ In t n
+  pub spot : spotIn (stsds xs) (i - 1) ≡ In t n
   pub differs : Kin (OnlyRecord n (keptOf xs i) new) DEPTH FILE xs ys
   pub there : sampleTable STSD (track ys t) ≡ withRecord n (keptOf xs i) new (sampleTable STSD (track xs t))
   pub elsewhere : (u : ℕ) → (u ≡ t → ⊥) → Kin OnlyOffsets TRACK TRAK (track xs u) (track ys u)

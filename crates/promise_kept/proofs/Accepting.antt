@@ -15,7 +15,8 @@ use Rattle.rule_shape.specs.Three.{needed, besides, shape, threeRule}
 use Rattle.rule_shape.specs.Two.{twoRule}
 use Rattle.rule_shape.specs.TwentyThree.{editableRule}
 use Rattle.rule_shape.proofs.Keeping.{same-exactly, kin-2, kin-3, kin-plain}
-use Rattle.rule_lists.specs.Rules.{fiveRule, nineRule}
+use Rattle.rule_lists.specs.Five.{fiveRule}
+use Rattle.rule_lists.specs.Nine.{nineRule}
 use Rattle.rule_lists.proofs.Keeping.{kin-5, kin-9}
 use Rattle.rule_headers.specs.Four.{tracksFine, fourRule}
 use Rattle.rule_headers.proofs.Rule4.{kin-4}

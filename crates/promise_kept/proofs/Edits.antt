@@ -10,7 +10,7 @@ use Rattle.boxes.specs.Boxes.{HEAD}
 use Rattle.clocks.specs.Clocks.{shiftTime}
 use Rattle.movie.specs.declared.entry.Spot.{Spot}
 use Rattle.movie.specs.declared.entry.Spot.the-variants.{In, Past}
-use Rattle.movie.specs.Movie.{movie}
+use Rattle.movie.specs.Stsds.{stsds}
 use Rattle.movie.specs.Named.{spotIn}
 use Rattle.entry_heads.specs.Heads.{headSize}
 use Rattle.entry_rules.specs.Entries.{FRAMES}
@@ -41,8 +41,8 @@ keeps-shift z xs w m = keeps-stay xs _ w m (shift-content (shiftTime z) xs w (m 
 -- "Replace decoder record of entry i": one that meets its rule, where the result is not too long
 pub keeps-replace : (xs : List ℕ) (i : ℕ) (new : List ℕ) → Bytes xs → Bytes new → Meets xs → recordRule (kindAt xs i) FRAMES new ≡ 1 → length (replaceOf xs i new) ≤ LONGEST → Kept xs (replaceOf xs i new)
 unfolding replaceOf recordReplaced
-keeps-replace xs i new w v m r h = go (spotIn 0 (movie xs) (i - 1)) refl (rw settled-length at h)
+keeps-replace xs i new w v m r h = go (spotIn (stsds xs) (i - 1)) refl (rw settled-length at h)
   where
-    go : (s : Spot) → spotIn 0 (movie xs) (i - 1) ≡ s → length (recordAt s (headSize (kindAt xs i) - HEAD) new xs) ≤ LONGEST → Kept xs (settled xs (recordAt s (headSize (kindAt xs i) - HEAD) new xs))
+    go : (s : Spot) → spotIn (stsds xs) (i - 1) ≡ s → length (recordAt s (headSize (kindAt xs i) - HEAD) new xs) ≤ LONGEST → Kept xs (settled xs (recordAt s (headSize (kindAt xs i) - HEAD) new xs))
     go (In t n) e k = keeps-stay xs _ w m (record-content xs i new w (m .most) r t n e v k)
     go Past e k = keeps-stay xs xs w m (content-same xs w (m .most))

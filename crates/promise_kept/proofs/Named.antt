@@ -14,7 +14,8 @@ use Rattle.boxes.proofs.Whole.{Good}
 use Rattle.boxes.proofs.Reading.{parts, lengths, length-cons, write-append}
 use Rattle.boxes.proofs.Every.{all-here}
 use Rattle.movie.specs.declared.entry.Spot.the-variants.{In}
-use Rattle.movie.specs.Movie.{movie, track, sampleTable}
+use Rattle.movie.specs.Movie.{track, sampleTable}
+use Rattle.movie.specs.Stsds.{stsds}
 use Rattle.movie.specs.Entries.{entries}
 use Rattle.movie.specs.Named.{listIn, spotIn, bytesAt}
 use Rattle.movie.proofs.Finding.{track-is, table-is}
@@ -48,7 +49,7 @@ unfolding kindAt
 kind-at xs i x g h e = eq-nay _ _ _ _ _ (λ z. omega arith) (ap kindOf (sym (code-is x g)) ∙ ap (λ (b : List ℕ). kindOf (word 4 b 4)) (sym e))
 
 -- where its spot says
-pub entry-in : (xs : List ℕ) (i : ℕ) → Bytes xs → 1 ≤ i → (t n : ℕ) → spotIn 0 (movie xs) (i - 1) ≡ In t n → EntryIn xs i t n
+pub entry-in : (xs : List ℕ) (i : ℕ) → Bytes xs → 1 ≤ i → (t n : ℕ) → spotIn (stsds xs) (i - 1) ≡ In t n → EntryIn xs i t n
 unfolding listIn sampleTable track
 entry-in xs i w h t n e =
     let s = entry-split xs (i - 1) t n e in

@@ -18,7 +18,8 @@ use Rattle.boxes.proofs.Down.{Once}
 use Rattle.boxes.proofs.OneOfList.{nth-by}
 use Rattle.boxes.proofs.OneOfPart.{boxes-nth, after-nth}
 use Rattle.movie.specs.declared.entry.Spot.the-variants.{In}
-use Rattle.movie.specs.Movie.{movie, track, sampleTable}
+use Rattle.movie.specs.Movie.{track, sampleTable}
+use Rattle.movie.specs.Stsds.{stsds}
 use Rattle.movie.specs.Named.{spotIn}
 use Rattle.entry_heads.specs.Heads.{headSize}
 use Rattle.entry_rules.specs.Entries.{FRAMES}
@@ -31,7 +32,7 @@ use Rattle.promise_kept.proofs.Content.{Content}
 use Rattle.promise_kept.proofs.Once.{once-content}
 use Rattle.promise_kept.proofs.Named.{EntryIn, entry-in}
 
-module _ (xs : List ℕ) (i : ℕ) (new : List ℕ) (w : Bytes xs) (few : length xs ≤ LONGEST) (r : recordRule (kindAt xs i) FRAMES new ≡ 1) (t n : ℕ) (e : spotIn 0 (movie xs) (i - 1) ≡ In t n) where
+module _ (xs : List ℕ) (i : ℕ) (new : List ℕ) (w : Bytes xs) (few : length xs ≤ LONGEST) (r : recordRule (kindAt xs i) FRAMES new ≡ 1) (t n : ℕ) (e : spotIn (stsds xs) (i - 1) ≡ In t n) where
   abbrev keep : ℕ
   keep = headSize (kindAt xs i) - HEAD
 

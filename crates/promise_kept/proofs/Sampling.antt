@@ -18,6 +18,7 @@ use Rattle.mdat.specs.Rules.{chunksLie}
 use Rattle.mdat.specs.Samples.{joinTo, samplesOf}
 use Rattle.mdat.proofs.Keeping.{file-samples-kept}
 use Rattle.mdat.proofs.Staying.{relocated-none}
+use Rattle.movie.specs.Ways.{follow}
 use Rattle.movie.specs.Movie.{movie, tracks, track, sampleTable}
 use Rattle.rule_tracks.proofs.Kept.{same-table}
 use Rattle.judge.specs.Acceptance.{Meets}
@@ -77,6 +78,6 @@ module _ {A : List Box → List Box} (a : Arranges A) (xs ys : List ℕ) (w : By
 
   -- each sample of each track
   pub edit-samples : (t : ℕ) → samples result t ≡ samples xs t
-  unfolding samples sampleTable
+  unfolding samples sampleTable follow
   edit-samples t =
       rw (same-track t) (sym (kin-track (Edit a xs ys w m c) Same same-none same-stbl xs mid (edit-kin a xs ys w m c) t (track-eight xs m t)))

@@ -13,6 +13,7 @@ use Rattle.boxes.specs.Seek.{nth}
 use Rattle.boxes.proofs.Numbered.{nth-none}
 use Rattle.mdat.specs.Rules.{chunksLie}
 use Rattle.mdat.proofs.Eight.{chunks-none}
+use Rattle.movie.specs.Ways.{follow}
 use Rattle.movie.specs.Movie.{movie, tracks, track, sampleTable}
 use Rattle.rule_tracks.proofs.Chunked.{stbl-eight}
 use Rattle.judge.specs.Acceptance.{Meets}
@@ -20,10 +21,10 @@ use Rattle.judge.proofs.Tables.{track-chunked}
 
 -- nothing has no chunks
 none-eight : (l : List Box) → chunksLie l (sampleTable STSC []) (sampleTable STSZ []) (sampleTable STCO []) ≡ true
-unfolding sampleTable boxes nth word ifLe
+unfolding sampleTable follow boxes nth word ifLe
 none-eight l = chunks-none l [] [] []
 
 -- each chunk of a track of an accepted file lies in a payload
 pub track-eight : (xs : List ℕ) → Meets xs → (t : ℕ) → chunksLie (boxes xs) (sampleTable STSC (track xs t)) (sampleTable STSZ (track xs t)) (sampleTable STCO (track xs t)) ≡ true
-unfolding track sampleTable
+unfolding track sampleTable follow
 track-eight xs m t = lt-or t (tracks xs) (λ k. stbl-eight (track-chunked xs m t k)) (λ k. rw (← nth-none TRAK t (movie xs) k) (none-eight (boxes xs)))

@@ -18,7 +18,7 @@ use Rattle.movie.specs.Movie.{movie, tracks, track, sampleTable}
 use Rattle.movie.specs.Entries.{entriesOf, entries}
 use Rattle.movie.proofs.Naming.{lies-track}
 use Rattle.rule_shape.proofs.Descent.{each-track, in-track, tracks-few}
-use Rattle.rule_lists.specs.Rules.{fiveRule}
+use Rattle.rule_lists.specs.Five.{fiveRule}
 use Rattle.rule_entries.specs.Ten.{tenRule}
 use Rattle.judge.specs.Acceptance.{Meets}
 use Rattle.judge.proofs.Tables.{file-met}

@@ -1,56 +1,32 @@
-// Rule 10: the sample entries of a track, judged with what its `mdia` says.
-use boxes::seek;
+// Rule 10: the sample entries of a file, each judged with what its track says.
+use boxes::walk;
 use boxes::walk::BoxAt;
-use boxes::walk::FRONT;
 use boxes::walk::Step;
 use boxes::walk::Walk;
 use entry_rules::entry;
 use entry_rules::entry::Around;
 use rule::Verdict;
-use wire::lend;
-use wire::number;
 ghost use mathlib.Core.Path.{_≡_};
 ghost use Prim.Native.Nat.{_+_, _^_, _<_, _≤_};
+ghost use mathlib.Core.List.{[], _∷_};
 ghost use lib.ListN.{length};
-ghost use Rattle.codes.specs.Codes.{MDIA};
-ghost use Rattle.boxes.specs.Boxes.{boxes};
+ghost use Rattle.boxes.specs.Boxes.{HEAD, FRONT, boxes};
+ghost use Rattle.boxes.specs.Walk.{boxAt};
+ghost use Rattle.movie.specs.Ways.{toStsd, placeAlong};
+ghost use Rattle.movie.specs.Stsds.{stsdsFrom};
+ghost use Rattle.movie.specs.Named.{listIn};
 ghost use Rattle.rule.specs.Verdict.{unless};
-ghost use Rattle.rule_entries.specs.Ten.{stsd, aroundIn, stsdStart, meets, bytesOf, entriesFrom, tenAt};
+ghost use Rattle.rule_entries.specs.Ten.{aroundOf, meets, bytesOf, entriesJudged, stsdsJudged, tenAt};
 
 // The scale, the handler and the data references of a track.
-fn around_in(mdia: &[u8]) -> Around
-    ensures { λ r. ⌜ r ≡ aroundIn (boxes (now (mdia .entry))) ⌝ }
+fn around_of(track: &[u8]) -> Around
+    ensures { λ r. ⌜ r ≡ aroundOf (now (track .entry)) ⌝ }
 {
-    let minf = seek::payload(mdia, codes::MINF, 0);
-    let dref = seek::payload(seek::payload(minf, codes::DINF, 0), codes::DREF, 0);
-    let scale = number::word32(seek::payload(mdia, codes::MDHD, 0), 12);
-    let handler = number::word32(seek::payload(mdia, codes::HDLR, 0), 8);
     Around::Track {
-        scale,
-        handler,
-        references: number::word32(dref, 4),
+        scale: movie::scale(track),
+        handler: movie::handler(track),
+        references: movie::references(track),
     }
-}
-
-// The payload of a track's `stsd`.
-fn stsd_in(mdia: &[u8]) -> &[u8]
-    ensures { λ r. ⌜ (now r ≡ stsd (boxes (now (mdia .entry)))) × (length (now r) ≤ length (now (mdia .entry))) ⌝ }
-{
-    let minf = seek::payload(mdia, codes::MINF, 0);
-    let stbl = seek::payload(minf, codes::STBL, 0);
-    seek::payload(stbl, codes::STSD, 0)
-}
-
-// Where it starts.
-fn stsd_start(mdia: &[u8], base: usize) -> usize
-    requires { ⌜ base + length (now mdia) < 2 ^ 60 ⌝ }
-    ensures { λ r. ⌜ (r ≡ stsdStart (boxes (now (mdia .entry))) base) × (r < 2 ^ 62) ⌝ }
-{
-    let minf = seek::payload(mdia, codes::MINF, 0);
-    let stbl = seek::payload(minf, codes::STBL, 0);
-    let to_minf = base + seek::start(mdia, codes::MINF, 0);
-    let to_stbl = to_minf + seek::start(minf, codes::STBL, 0);
-    to_stbl + seek::start(stbl, codes::STSD, 0)
 }
 
 // One entry of a list that starts at base.
@@ -69,7 +45,7 @@ fn entry_at(list: &[u8], b: BoxAt, base: usize, around: Around) -> Verdict
 // The first entry of a list that breaks its rule.
 fn entries_from(list: &[u8], base: usize, around: Around) -> Verdict
     requires { ⌜ base + length (now list) < 2 ^ 63 ⌝ }
-    ensures { λ r. ⌜ r ≡ entriesFrom around (now (list .entry)) base ⌝ }
+    ensures { λ r. ⌜ r ≡ entriesJudged around (now (list .entry)) base ⌝ }
 {
     let mut found = Verdict::Fine;
     let mut w = Walk { at: 0 };
@@ -89,23 +65,61 @@ fn entries_from(list: &[u8], base: usize, around: Around) -> Verdict
     }
 }
 
-// The entries of a track.
-fn track_entries(mdia: &[u8], base: usize) -> Verdict
-    requires { ⌜ base + length (now mdia) < 2 ^ 60 ⌝ }
-    ensures { λ r. ⌜ r ≡ tenAt MDIA (now (mdia .entry)) base ⌝ }
+// The entries of a track whose payload starts at base.
+fn track_entries(track: &[u8], base: usize) -> Verdict
+    requires { ⌜ base + length (now track) < 2 ^ 60 ⌝ }
+    ensures { λ r. ⌜ r ≡ entriesJudged (aroundOf (now (track .entry))) (listIn (now (track .entry))) (base + placeAlong toStsd (now (track .entry)) + HEAD + FRONT) ⌝ }
 {
-    let around = around_in(mdia);
-    let list = lend::rest(stsd_in(mdia), FRONT);
-    entries_from(list, stsd_start(mdia, base) + FRONT, around)
+    let around = around_of(track);
+    let place = base + movie::stsd_place(track);
+    entries_from(
+        movie::entry::list(track),
+        place + walk::HEAD + walk::FRONT,
+        around,
+    )
 }
 
-// Rule 10 of a container of kind k whose payload starts at base.
+// Those of a box of a `moov` that starts at base: none where it is no `trak`.
+fn box_entries(part: &[u8], b: BoxAt, base: usize) -> Verdict
+    requires { ⌜ (b .head ≤ b .size) × (b .at + b .size ≤ length (now part)) × (base + length (now part) < 2 ^ 60) ⌝ }
+    ensures { λ r. ⌜ r ≡ stsdsJudged (stsdsFrom 0 (boxAt (now (part .entry)) b ∷ []) (base + b .at)) ⌝ }
+{
+    if b.code != codes::TRAK {
+        return Verdict::Fine;
+    }
+    track_entries(walk::body(part, b), base + b.at + b.head)
+}
+
+// Those of a `moov` that starts at base.
+fn movie_entries(part: &[u8], base: usize) -> Verdict
+    requires { ⌜ base + length (now part) < 2 ^ 60 ⌝ }
+    ensures { λ r. ⌜ r ≡ stsdsJudged (stsdsFrom 0 (boxes (now (part .entry))) base) ⌝ }
+{
+    let mut found = Verdict::Fine;
+    let mut w = Walk { at: 0 };
+    loop {
+        match w.step(part) {
+            Step::Found(b, next) => {
+                found = rule::sooner(found, box_entries(part, b, base));
+                w = next;
+            }
+            Step::End => {
+                return found;
+            }
+            Step::Broken(_) => {
+                return found;
+            }
+        }
+    }
+}
+
+// Rule 10 of a container of kind k whose payload starts at base: only `moov` is asked.
 pub fn ten_at(k: usize, part: &[u8], base: usize) -> Verdict
     requires { ⌜ base + length (now part) < 2 ^ 60 ⌝ }
     ensures { λ r. ⌜ r ≡ tenAt k (now (part .entry)) base ⌝ }
 {
-    if k == codes::MDIA {
-        return track_entries(part, base);
+    if k != codes::MOOV {
+        return Verdict::Fine;
     }
-    Verdict::Fine
+    movie_entries(part, base)
 }

@@ -13,7 +13,7 @@ use Rattle.boxes.specs.declared.seek.Tiling.{Tiling}
 use Rattle.boxes.specs.declared.seek.Tiling.the-variants.{Whole, Torn}
 use Rattle.boxes.specs.Boxes.{after}
 use Rattle.boxes.specs.Seek.{tilingOf}
-use Rattle.rule_lists.specs.Forms.{listForm, Listed}
+use Rattle.rule_lists.specs.Five.{listForm, Listed}
 
 pub form-is : (b : List ℕ) → listForm b ≡ true → Listed b
 unfolding listForm

@@ -1,66 +1,52 @@
 -- Rules 5 and 9 with places say what they say without. Assumes nothing.
-use Prim.Native.Nat.{ℕ, suc, _+_, _≤_, _<_}
+use Prim.Native.Nat.{ℕ, _+_, _≤_, _<_}
 use native.Mathlib.Omega.{arith}
 use native.Mathlib.Nat.{zero-add}
 use mathlib.Core.Path.{_≡_, refl, sym, ap, _∙_}
 use mathlib.Core.Bool.{Bool, true, false}
 use mathlib.Core.List.{List, [], _∷_}
-use lib.Dec.{eqb, leb}
+use lib.Dec.{leb}
 use borrow.Author.Tests.{leb-true, leb-false}
 use Rattle.wire.specs.Tests.{pick, ifEq, ifLe}
 use Rattle.wire.specs.Clauses.{isLe}
 use Rattle.codes.specs.Codes.{TRAK, MOOV, DINF, DREF}
-use Rattle.wire.proofs.Numbers.{word-out}
 use Rattle.wire.proofs.Clauses.{is-le, not-le}
 use Rattle.wire.proofs.Tests.{through}
 use Rattle.boxes.specs.Box.{Box, size}
 use Rattle.boxes.specs.Boxes.{boxes}
-use Rattle.boxes.specs.Seek.{nth}
-use Rattle.rule.specs.declared.Verdict.the-variants.{Fine}
+use Rattle.boxes.proofs.Meaning.{meant-or}
+use Rattle.movie.specs.Movie.{storedCount}
+use Rattle.movie.specs.Stsds.{Stsd, stsdsFrom}
+use Rattle.movie.proofs.Boxed.{stsds-hit, stsds-miss}
+use Rattle.rule.specs.declared.Verdict.the-variants.{Fine, Bad}
 use Rattle.rule.specs.Verdict.{isFine}
 use Rattle.rule.specs.Rule.{Says}
 use Rattle.rule.proofs.Places.{unless-fine}
 use Rattle.rule.proofs.Acceptance.{list-fine}
-use Rattle.rule_lists.specs.Forms.{storedCount, formIn}
-use Rattle.rule_lists.specs.Totals.{MOST, toStsd, NoneAny, follow, brokenAt, entriesOf, entries, overMost}
-use Rattle.rule_lists.specs.Urls.{isUrl, urlAt, urlsOf, urlsIn, allUrls, allUrlsIn}
-use Rattle.rule_lists.specs.Rules.{five, fiveRule, nine, nineRule}
-use Rattle.rule_lists.proofs.Inner.{within-bad}
-use Rattle.rule_lists.proofs.Totals.{stsd-codes}
+use Rattle.rule_lists.specs.Five.{MOST, formIn, countedIn, passing, five, fiveRule}
+use Rattle.rule_lists.specs.Nine.{isUrl, urlAt, urlsOf, urlsIn, allUrls, allUrlsIn, nine, nineRule}
 
--- ---- where sample entries are, an `stsd` is
+-- ---- the total
 
-follow-none : (cs : List ℕ) → storedCount (follow cs []) ≡ 0
-unfolding follow boxes nth
-follow-none [] = word-out 4 [] 4 (omega arith)
-follow-none (c ∷ cs) = follow-none cs
-
-broken-bad : (cs : List ℕ) → NoneAny cs → (b : List ℕ) (p q : ℕ) → 0 < storedCount (follow cs b) → isFine (brokenAt cs b p q) ≡ false
-unfolding brokenAt follow
-broken-bad [] w b p q h = refl
-broken-bad (c ∷ cs) w b p q h =
-    within-bad c (λ e. omega (arith, w 0 (omega arith))) (λ d. storedCount (follow cs d)) (follow-none cs) (λ d i j. brokenAt cs d i j) (broken-bad cs (λ i k. w (suc i) (omega arith))) (boxes b) q h
-
-entries-some : (c : ℕ) (b : List ℕ) → 0 < entriesOf c b → 0 < storedCount (follow toStsd b)
-unfolding entriesOf ifEq
-entries-some c b = go (eqb c TRAK)
+pub passing-fine : (most n : ℕ) (l : List Stsd) → n ≤ most → isFine (passing most n l) ≡ isLe (n + countedIn l) most
+unfolding passing countedIn ifLe
+passing-fine most n [] h = sym (is-le (n + 0) most (omega arith))
+passing-fine most n (s ∷ l) h = go (leb (n + storedCount (s .body)) most) refl (passing-fine most (n + storedCount (s .body)) l)
   where
-    go : (t : Bool) → 0 < pick t (storedCount (follow toStsd b)) 0 → 0 < storedCount (follow toStsd b)
-    go true h = h
-    go false h = absurd (omega arith)
-
-pub over-fine : (most n : ℕ) (l : List Box) (p : ℕ) → n ≤ most → isFine (overMost most n l p) ≡ isLe (n + entries l) most
-unfolding overMost entries ifLe
-over-fine most n [] p h = sym (is-le (n + 0) most (omega arith))
-over-fine most n (x ∷ l) p h = go (leb (n + entriesOf (x .code) (x .body)) most) refl (over-fine most (n + entriesOf (x .code) (x .body)) l (p + size x))
-  where
-    go : (t : Bool) → leb (n + entriesOf (x .code) (x .body)) most ≡ t
-        → (n + entriesOf (x .code) (x .body) ≤ most → isFine (overMost most (n + entriesOf (x .code) (x .body)) l (p + size x)) ≡ isLe (n + entriesOf (x .code) (x .body) + entries l) most)
-        → isFine (pick t (overMost most (n + entriesOf (x .code) (x .body)) l (p + size x)) (brokenAt toStsd (x .body) p (p + x .head))) ≡ isLe (n + (entriesOf (x .code) (x .body) + entries l)) most
+    go : (t : Bool) → leb (n + storedCount (s .body)) most ≡ t
+        → (n + storedCount (s .body) ≤ most → isFine (passing most (n + storedCount (s .body)) l) ≡ isLe (n + storedCount (s .body) + countedIn l) most)
+        → isFine (pick t (passing most (n + storedCount (s .body)) l) (Bad (s .place))) ≡ isLe (n + (storedCount (s .body) + countedIn l)) most
     go true e ih = ih (leb-true _ _ e) ∙ ap (λ (m : ℕ). isLe m most) (omega arith)
-    go false e ih =
-        let k : most < n + entriesOf (x .code) (x .body) = leb-false _ _ e in
-        broken-bad toStsd stsd-codes (x .body) p (p + x .head) (entries-some (x .code) (x .body) (omega arith)) ∙ sym (not-le _ _ (omega arith))
+    go false e ih = let k : most < n + storedCount (s .body) = leb-false _ _ e in sym (not-le _ _ (omega arith))
+
+-- it is the same wherever the boxes of `moov` start
+pub counted-anywhere : (l : List Box) (t u p q : ℕ) → countedIn (stsdsFrom t l p) ≡ countedIn (stsdsFrom u l q)
+unfolding stsdsFrom countedIn
+counted-anywhere [] t u p q = refl
+counted-anywhere (x ∷ l) t u p q =
+    meant-or TRAK (x .code)
+    (λ e. rw (stsds-hit x e l t p, stsds-hit x e l u q, counted-anywhere l (t + 1) (u + 1) (p + size x) (q + size x)))
+    (λ e. rw (stsds-miss x e l t p, stsds-miss x e l u q) (counted-anywhere l t u (p + size x) (q + size x)))
 
 -- ---- the rules
 
@@ -68,7 +54,7 @@ pub five-says : Says five fiveRule
 five-says =
     record {
       leaf = λ k c b p q. unless-fine (formIn k c b) p;
-      node = λ k xs home p. through isFine k MOOV (overMost MOST 0 (boxes xs) p) Fine ∙ rw (over-fine MOST 0 (boxes xs) p (omega arith), zero-add);
+      node = λ k xs home p. through isFine k MOOV (passing MOST 0 (stsdsFrom 0 (boxes xs) p)) Fine ∙ rw (passing-fine MOST 0 (stsdsFrom 0 (boxes xs) p) (omega arith), zero-add, counted-anywhere (boxes xs) 0 0 p 0);
       end = λ xs p. refl;
     }
 

@@ -1,4 +1,2 @@
-pub mod Forms
-pub mod Totals
-pub mod Urls
-pub mod Rules
+pub mod Five
+pub mod Nine

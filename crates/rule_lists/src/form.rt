@@ -8,7 +8,7 @@ ghost use mathlib.Core.Path.{_≡_};
 ghost use lib.ListN.{length};
 ghost use Rattle.wire.specs.Clauses.{isEq, oneIf};
 ghost use Rattle.boxes.specs.Boxes.{after};
-ghost use Rattle.rule_lists.specs.Forms.{listForm, formIn};
+ghost use Rattle.rule_lists.specs.Five.{listForm, formIn};
 
 // Whether boxes tile a part: 1 or 0.
 fn tiled(part: &[u8]) -> usize

@@ -12,7 +12,7 @@ ghost use lib.ListN.{length};
 ghost use Rattle.wire.specs.Clauses.{oneIf};
 ghost use Rattle.boxes.specs.Boxes.{boxes};
 ghost use Rattle.boxes.specs.Walk.{boxAt};
-ghost use Rattle.rule_lists.specs.Urls.{isUrl, urlAt, urlsFrom, urlsIn};
+ghost use Rattle.rule_lists.specs.Nine.{isUrl, urlAt, urlsFrom, urlsIn};
 
 // Whether a box is a `url ` of this file: 1 or 0.
 fn is_url(code: usize, body: &[u8]) -> usize

@@ -1,48 +1,48 @@
 -- An accepted file has at most 4 tracks and at most 8 sample entries. Assumes nothing.
-use Prim.Native.Nat.{ℕ}
+use Prim.Native.Nat.{ℕ, _<_}
+use native.Mathlib.Omega.{arith}
 use mathlib.Core.Path.{_≡_, refl}
 use mathlib.Core.List.{List}
+use lib.ListN.{length, length-append}
 use Rattle.wire.specs.Tests.{ifEq}
 use Rattle.codes.specs.Codes.{MOOV, TRAK, STSD}
-use Rattle.wire.proofs.Tests.{eq-same}
 use Rattle.wire.proofs.Clauses.{le-is}
-use Rattle.boxes.specs.Box.{Box}
 use Rattle.boxes.specs.Boxes.{boxes}
 use Rattle.boxes.specs.Containers.{parent, kindIn}
 use Rattle.boxes.specs.Seek.{startIn}
-use Rattle.boxes.proofs.Reading.{All}
-use Rattle.boxes.proofs.Reading.All.{none, some}
-use Rattle.movie.specs.Movie.{movie as boxesOf, sampleTable}
-use Rattle.movie.specs.Entries as movie
-use Rattle.movie.specs.Named.{listIn, held, heldIn}
-use Rattle.movie.proofs.Counting.{length-after}
+use Rattle.movie.specs.Ways.{toStsd, follow}
+use Rattle.movie.specs.Movie.{movie, tracks}
+use Rattle.movie.specs.Stsds.{Stsd, stsdsFrom, stsds}
+use Rattle.movie.specs.Entries.{entriesIn, entries}
+use Rattle.movie.specs.Named.{stsdAt}
+use Rattle.movie.proofs.Counting.{length-stsd}
+use Rattle.movie.proofs.Stsds.{Each, each-stsd}
+use Rattle.movie.proofs.Stsds.Each.{none, more}
 use Rattle.rule_shape.specs.Three.{needed}
-use Rattle.rule_shape.proofs.Descent.{Met, node-met, needed-leaf, in-moov, each-track, in-stbl, tracks-few}
-use Rattle.rule_lists.specs.Forms.{Listed, formIn}
-use Rattle.rule_lists.specs.Totals.{MOST, follow, entriesOf, entries}
-use Rattle.rule_lists.specs.Rules.{fiveRule}
+use Rattle.rule_shape.proofs.Descent.{Met, node-met, needed-leaf, in-moov, in-track, in-stbl, tracks-few}
+use Rattle.rule_lists.specs.Five.{Listed, formIn, MOST, countedIn, fiveRule}
 use Rattle.rule_lists.proofs.Forms.{form-is}
+use Rattle.rule_lists.proofs.Rules.{counted-anywhere}
 use Rattle.judge.specs.Acceptance.{Meets}
 use Rattle.judge.proofs.Tables.{file-met}
 use Rattle.sheet.specs.Fits.{SheetFits}
 
--- rule 5: a track has as many entries as its `stsd` says
-pub listed : {b : List ℕ} → Met fiveRule 4 TRAK b → Listed (sampleTable STSD b)
-unfolding sampleTable formIn needed kindIn parent ifEq
+-- rule 5: each `stsd` lists as many boxes as it counts
+listed : {b : List ℕ} → Met fiveRule 4 TRAK b → Listed (follow toStsd b)
+unfolding follow formIn needed kindIn parent ifEq
 listed m = form-is _ (needed-leaf (in-stbl m) STSD refl refl)
 
-held-one : (c : ℕ) (b : List ℕ) → (c ≡ TRAK → Met fiveRule 4 TRAK b) → held c b ≡ entriesOf c b
-unfolding held entriesOf listIn sampleTable follow
-held-one c b m = eq-same c TRAK _ _ 0 (λ e. listed (m e) .counted)
+pub listed-at : (xs : List ℕ) → Meets xs → (n : ℕ) → n < tracks xs → Listed (stsdAt xs n .body)
+listed-at xs m n k = listed (in-track (file-met xs m fiveRule (m .five)) n k)
 
-held-all : {l : List Box} → All (λ x. x .code ≡ TRAK → Met fiveRule 4 TRAK (x .body)) l → heldIn l ≡ entries l
-unfolding heldIn entries
-held-all none = refl
-held-all (some {x} m a) = rw (held-one (x .code) (x .body) m, held-all a)
+counted-all : {t : ℕ} {l : List Stsd} → Each (λ s. Listed (s .body)) t l → length (entriesIn l) ≡ countedIn l
+unfolding entriesIn countedIn
+counted-all none = refl
+counted-all (more {s = s} q g a) = rw length-append (omega (arith, length-stsd s, g .counted, counted-all a))
 
 pub accepted-fits : (xs : List ℕ) → Meets xs → SheetFits xs
-unfolding movie.entries ifEq
+unfolding stsds entries ifEq
 accepted-fits xs m =
-    let f = file-met xs m fiveRule (m .five) in
-    let h = le-is (entries (boxesOf xs)) MOST (node-met (in-moov f)) in
-    record { most = m .most; few = rw (length-after 0 (boxesOf xs) (startIn MOOV 0 (boxes xs)), held-all (each-track f)) h; tracks = tracks-few xs (m .three) .1 }
+    let h = le-is (countedIn (stsdsFrom 0 (movie xs) 0)) MOST (node-met (in-moov (file-met xs m fiveRule (m .five)))) in
+    let e = counted-all (each-stsd (λ s. Listed (s .body)) xs (listed-at xs m)) in
+    record { most = m .most; few = rw (e, counted-anywhere (movie xs) 0 0 (startIn MOOV 0 (boxes xs)) 0) h; tracks = tracks-few xs (m .three) .1 }

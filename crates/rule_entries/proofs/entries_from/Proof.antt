@@ -3,7 +3,7 @@ use borrow.Author.Needs.{needs}
 use Prim.Native.Nat.{_-_}
 use Rattle.boxes.proofs.Walking.{ran, ended, broke}
 use Rattle.rule_entries.proofs.Entry.{entryAt, noEnd, entries-none, entries-more, entries-over}
-use Rattle.rule_entries.specs.Ten.{entriesFrom}
+use Rattle.rule_entries.specs.Ten.{entriesJudged}
 use Rattle.rule.proofs.Traverse.{Found}
 use lib.ListN.{length}
 use native.Mathlib.Omega.{arith}
@@ -11,7 +11,7 @@ use Rattle.rule_entries.proofs.entries_from.Statement.{statement}
 use Rattle.rule_entries.proofs.entries_from.Tie as tie
 
 abbrev Inv : tie.InvT-loop
-Inv list base around found₀ w₀ found w = Found (entryAt around) noEnd list base (entriesFrom around list base) found (w .at)
+Inv list base around found₀ w₀ found w = Found (entryAt around) noEnd list base (entriesJudged around list base) found (w .at)
 
 abbrev μ : tie.MeasureT-loop
 μ list base around found₀ w₀ found w = length list - w .at

@@ -1,11 +1,15 @@
+-- Only `moov` is asked.
 use borrow.Author.Needs.{needs}
-use Rattle.rule_entries.proofs.Entry.{ten-mdia, ten-other}
+use Rattle.rule_entries.specs.Ten.{tenAt}
+use Rattle.wire.proofs.Tests.{eq-yea, eq-nay}
+use mathlib.Core.Path.{refl}
 use native.Mathlib.Omega.{arith}
 use Rattle.rule_entries.proofs.ten_at.Statement.{statement}
 use Rattle.rule_entries.proofs.ten_at.Tie as tie
 
 pub ten-at-spec : {M : Type 1} → statement M
+unfolding tenAt
 ten-at-spec = tie.close (tie.spec
+    (λ c. eq-nay _ _ _ _ _ (c .if1 .taken) refl)
     (λ c κs. search needs)
-    (λ c. ten-mdia _ _ _ (omega arith) (c .track-entries .ensures))
-    (λ c. ten-other _ _ _ (omega arith)))
+    (λ c. eq-yea _ _ _ _ _ (omega arith) (c .movie-entries .ensures)))

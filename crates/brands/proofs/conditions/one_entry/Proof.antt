@@ -1,3 +1,4 @@
+-- As many boxes as stand in the track's `stsd`.
 use borrow.Author.Needs.{needs}
 use Rattle.brands.proofs.Holding.{one-is}
 use Rattle.brands.proofs.conditions.one_entry.Statement.{statement}
@@ -8,4 +9,4 @@ one-entry-spec = tie.close (tie.spec
     (λ c κs. search needs)
     (λ c κs. search needs)
     (λ c κs. search needs)
-    (λ c. one-is _ (c .before .before .table .ensures .0) (c .before .word32 .ensures .0) (c .equal .ensures .0)))
+    (λ c. one-is _ (c .before .before .list .ensures .0) (c .before .count .ensures .0) (c .equal .ensures .0)))

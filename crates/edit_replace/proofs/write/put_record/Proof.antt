@@ -1,3 +1,4 @@
+-- The way from its first number on.
 use borrow.Author.Needs.{needs}
 use Rattle.edit_replace.proofs.write.put_record.Statement.{statement}
 use Rattle.edit_replace.proofs.write.put_record.Tie as tie
@@ -5,6 +6,7 @@ use Rattle.edit_replace.proofs.write.put_record.Tie as tie
 pub put-record-spec : {M : Type 1} → statement M
 put-record-spec = tie.close (tie.spec
     (λ c κs. search needs)
+    (λ c. search needs)
     (λ c κs. search needs)
     (λ c. search needs)
-    (λ c. rw (c .before .before .before .way-to .ensures) at (c .before .before .put-way .ensures)))
+    (λ c. rw (c .before .before .before .before .before .way-to .ensures) at (c .before .before .put-way .ensures)))

@@ -1,5 +1,5 @@
 use borrow.Author.Needs.{needs}
-use Rattle.rule_lists.specs.Forms.{listForm}
+use Rattle.rule_lists.specs.Five.{listForm}
 use Rattle.wire.proofs.Clauses.{is-eq, not-eq, is-le, not-le, fails, done, holds, yea, nay, was-yea, was-nay}
 use native.Mathlib.Omega.{arith}
 use Rattle.rule_lists.proofs.form.list_form.Statement.{statement}

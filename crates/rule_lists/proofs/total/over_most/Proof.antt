@@ -3,7 +3,7 @@ use borrow.Author.Needs.{needs}
 use Prim.Native.Nat.{_-_}
 use Rattle.boxes.proofs.Walking.{ran, ended, broke}
 use Rattle.rule_lists.proofs.Totals.{Counted, counted-none, counted-more, counted-over, counted-all}
-use Rattle.rule_lists.specs.Totals.{MOST}
+use Rattle.rule_lists.specs.Five.{MOST}
 use lib.ListN.{length}
 use native.Mathlib.Omega.{arith}
 use Rattle.rule_lists.proofs.total.over_most.Statement.{statement}
@@ -26,10 +26,10 @@ over-most-spec = tie.close (tie.spec Inv μ
     (λ c κs. let s = ran _ _ _ _ _ (c .before .before .before .before .before .before .step .ensures) (c .before .before .before .before .b .given .1) in
     (s .least, omega arith, omega arith))
     (λ c. let t = c .before .before .before .before .before .before .before in
-    counted-over (t .before .loop .inv) (ran _ _ _ _ _ (t .step .ensures) (c .before .before .before .before .before .b .given .1)) (c .before .before .before .body .ensures) (c .before .before .entries-of .ensures .0) (omega arith) (c .stsd-at .ensures))
+    counted-over (t .before .loop .inv) (ran _ _ _ _ _ (t .step .ensures) (c .before .before .before .before .before .b .given .1)) (c .before .before .before .body .ensures) (c .before .before .counted .ensures .0) (omega arith) (c .stsd-at .ensures))
     (λ c. let s = ran _ _ _ _ _ (c .before .before .before .before .before .before .step .ensures) (c .before .before .before .before .b .given .1) in omega arith)
     (λ c. let t = c .before .before .before .before .before .before in
-    counted-more (t .before .loop .inv) (ran _ _ _ _ _ (t .step .ensures) (c .before .before .before .before .b .given .1)) (c .before .before .body .ensures) (c .before .entries-of .ensures .0) (omega arith))
+    counted-more (t .before .loop .inv) (ran _ _ _ _ _ (t .step .ensures) (c .before .before .before .before .b .given .1)) (c .before .before .body .ensures) (c .before .counted .ensures .0) (omega arith))
     (λ c. search needs)
     (λ c. let t = c .before .before in counted-all (t .before .loop .inv) (ended _ _ _ (t .step .ensures) (c .enum-told .given .1) .0))
     (λ c. search needs)

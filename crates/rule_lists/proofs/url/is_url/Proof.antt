@@ -1,5 +1,5 @@
 use borrow.Author.Needs.{needs}
-use Rattle.rule_lists.specs.Urls.{isUrl}
+use Rattle.rule_lists.specs.Nine.{isUrl}
 use Rattle.wire.proofs.Clauses.{is-eq, not-eq, fails, done, holds, yea, nay}
 use native.Mathlib.Omega.{arith}
 use Rattle.rule_lists.proofs.url.is_url.Statement.{statement}

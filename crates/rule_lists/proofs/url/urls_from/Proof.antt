@@ -3,7 +3,7 @@ use borrow.Author.Needs.{needs}
 use Prim.Native.Nat.{_-_}
 use Rattle.boxes.proofs.Walking.{ran, ended, broke}
 use Rattle.boxes.specs.Boxes.{boxes}
-use Rattle.rule_lists.specs.Urls.{urlAt, urlsFrom}
+use Rattle.rule_lists.specs.Nine.{urlAt, urlsFrom}
 use Rattle.rule.proofs.Places.{sooner-none}
 use Rattle.rule.proofs.Traverse.{Found, found-none, found-more, found-over}
 use Rattle.rule.specs.Verdict.{sooner}

@@ -12,8 +12,8 @@ use Rattle.boxes.specs.Boxes.{boxes, FRONT}
 use Rattle.rule.specs.declared.Verdict.{Verdict}
 use Rattle.rule.specs.declared.Verdict.the-variants.{Fine}
 use Rattle.rule.specs.Verdict.{unless}
-use Rattle.rule.specs.Judge.{judgeList}
-use Rattle.rule.specs.Rule.{allList}
+use Rattle.rule.specs.Judge.{Judge, judgeList}
+use Rattle.rule.specs.Rule.{Rule, allList}
 
 unfoldable pub isUrl : ℕ → List ℕ → Bool
 isUrl c b = every (isEq c URL ∷ isEq (length b) 4 ∷ isEq (word 4 b 0) 1 ∷ [])
@@ -40,3 +40,11 @@ allUrls b = allList (λ x. isUrl (x .code) (x .body)) true (boxes (drop FRONT b)
 
 unfoldable pub allUrlsIn : ℕ → ℕ → List ℕ → Bool
 allUrlsIn k c b = ifEq k DINF (ifEq c DREF (allUrls b) true) true
+
+-- ---- the rule, with places and without
+
+abbrev pub nine : Judge
+nine = record { leaf = λ k c b p q. urlsIn k c b q; node = λ k xs home p. Fine; end = λ xs p. Fine }
+
+abbrev pub nineRule : Rule
+nineRule = record { leaf = λ k c b. allUrlsIn k c b; node = λ k xs. true; end = λ xs. true }
