@@ -1,28 +1,34 @@
 -- Rules 5, 9 and 10 name places of what they judge. Assumes nothing.
 use Prim.Native.Nat.{ℕ, _+_, _≤_}
 use native.Mathlib.Omega.{arith}
-use mathlib.Core.Path.{_≡_, refl, subst}
+use mathlib.Core.Path.{_≡_, refl, subst, _∙_}
+use mathlib.Core.Logic.{_⊎_, inl, inr, ⊎-elim}
 use mathlib.Core.List.{List, [], _∷_}
 use lib.ListN.{length, drop, length-drop, drop-of-length-le}
-use Rattle.wire.proofs.Tests.{le-yea, le-nay, lt-or, eq-any}
-use Rattle.codes.specs.Codes.{MOOV, MDIA, MINF, DINF, DREF, STBL, STSD}
+use Rattle.wire.proofs.Tests.{le-yea, le-nay, lt-or}
+use Rattle.codes.specs.Codes.{MOOV, TRAK, MDIA, MINF, DINF, DREF, STBL, STSD}
 use Rattle.boxes.specs.Box.{Box, size}
-use Rattle.boxes.specs.Boxes.{FRONT, boxes, total}
-use Rattle.boxes.specs.Seek.{find}
+use Rattle.boxes.specs.Boxes.{HEAD, FRONT, boxes, total}
+use Rattle.boxes.specs.Seek.{nth, find, placeBy, placeIn}
 use Rattle.boxes.proofs.Whole.{short-not}
-use Rattle.boxes.proofs.Reading.{boxes-stop}
-use Rattle.boxes.proofs.Placing.{total-is, start-most}
+use Rattle.boxes.proofs.Reading.{All, Headed, heads, boxes-stop}
+use Rattle.boxes.proofs.Reading.All.{none, some}
+use Rattle.boxes.proofs.Meaning.{meant-or, nth-hit, nth-miss, place-hit, place-miss}
+use Rattle.boxes.proofs.Placing.{total-is, place-most, start-most}
+use Rattle.movie.specs.Ways.{follow, placeAlong}
+use Rattle.movie.specs.Movie.{storedCount}
+use Rattle.movie.specs.Stsds.{Stsd, stsdsFrom}
+use Rattle.movie.proofs.Stsds.{Each, each-from}
+use Rattle.movie.proofs.Stsds.Each.{none as no-more, more}
+use Rattle.entry_rules.specs.declared.entry.Around.{Around}
 use Rattle.rule.specs.declared.Verdict.{Verdict}
 use Rattle.rule.specs.declared.Verdict.the-variants.{Fine}
 use Rattle.rule.specs.Verdict.{unless}
 use Rattle.rule.specs.Judge.{judgeList}
-use Rattle.rule.specs.Inner.{inFirst}
-use Rattle.rule.proofs.Bounds.{named, Bounded, unless-most, if-most, list-most}
-use Rattle.rule_lists.specs.Forms.{formIn}
-use Rattle.rule_lists.specs.Totals.{MOST, toStsd, brokenAt, entriesOf, overMost}
-use Rattle.rule_lists.specs.Urls.{isUrl, urlAt}
-use Rattle.rule_lists.specs.Rules.{five, nine}
-use Rattle.rule_entries.specs.Ten.{stsd, aroundIn, stsdStart, entryFine, entriesFrom, tenAt, ten}
+use Rattle.rule.proofs.Bounds.{named, Bounded, sooner-most, unless-most, if-most, list-most}
+use Rattle.rule_lists.specs.Five.{formIn, MOST, passing, five}
+use Rattle.rule_lists.specs.Nine.{isUrl, urlAt, nine}
+use Rattle.rule_entries.specs.Ten.{aroundOf, entryFine, entriesJudged, stsdsJudged, tenAt, ten}
 
 -- ---- a list of boxes behind the first n bytes of a payload that starts at q
 
@@ -34,34 +40,61 @@ listed-most f h n b q =
     (λ k. let e : boxes (drop n b) ≡ [] = rw (drop-of-length-le b {i = n} (omega arith)) (boxes-stop [] (short-not [] (omega arith))) in rw e (omega arith))
     (λ k. list-most (q + length b) f (λ i. Fine) h (boxes (drop n b)) (q + n) (omega (arith, total-is (drop n b), length-drop n b)) (λ i e. omega arith))
 
+-- ---- the `stsd`s
+
+-- a box that is there lies inside with its payload
+find-inside : (c : ℕ) {l : List Box} → All Headed l → (find c l ≡ []) ⊎ (placeIn c 0 l + HEAD + length (find c l) ≤ total l)
+unfolding nth placeIn placeBy total
+find-inside c none = inl refl
+find-inside c (some {x = x} {l = l} h a) =
+    meant-or c (x .code)
+    (λ e. inr (rw (nth-hit c x l e, place-hit c x l e (λ y. 0)) (omega arith)))
+    (λ e. ⊎-elim
+    (λ g. inl (nth-miss c x l e 0 ∙ g))
+    (λ (g : placeIn c 0 l + HEAD + length (find c l) ≤ total l). inr (rw (nth-miss c x l e 0, place-miss c x l e (λ y. 0) 0) (omega arith))) (find-inside c a))
+
+-- and so does the box at the end of a way
+along-inside : (c : ℕ) (cs b : List ℕ) → (follow (c ∷ cs) b ≡ []) ⊎ (placeAlong (c ∷ cs) b + HEAD + length (follow (c ∷ cs) b) ≤ length b)
+unfolding follow placeAlong
+along-inside c [] b = ⊎-elim inl (λ h. inr (omega (arith, total-is b))) (find-inside c (heads b))
+along-inside c (d ∷ cs) b = ⊎-elim inl (λ h. inr (omega (arith, total-is b, start-most c 0 (boxes b)))) (along-inside d cs (find c (boxes b)))
+
+along-most : (c : ℕ) (cs b : List ℕ) → placeAlong (c ∷ cs) b ≤ length b
+unfolding placeAlong
+along-most c [] b = omega (arith, total-is b, place-most c 0 (boxes b))
+along-most c (d ∷ cs) b = omega (arith, total-is b, start-most c 0 (boxes b), along-most d cs (find c (boxes b)))
+
+-- its place, and all of it where it is there, lie before place m
+record Within (m : ℕ) (s : Stsd) : Type 0 where
+  place : s .place ≤ m
+  whole : (s .body ≡ []) ⊎ (s .place + HEAD + length (s .body) ≤ m)
+
+within-each : (m t : ℕ) (l : List Box) (p : ℕ) → p + total l ≤ m → Each (Within m) t (stsdsFrom t l p)
+within-each m t l p h =
+    each-from (Within m) l t p
+    (λ n k.
+    let b = nth TRAK n l in
+    let s = start-most TRAK n l in
+    record {
+      place = omega (arith, along-most MDIA (MINF ∷ STBL ∷ STSD ∷ []) b);
+      whole = ⊎-elim inl (λ i. inr (omega arith)) (along-inside MDIA (MINF ∷ STBL ∷ STSD ∷ []) b);
+    })
+
 -- ---- rule 5
 
-first-most : (m c : ℕ) (f : List ℕ → ℕ → ℕ → Verdict) → ((x : Box) (p : ℕ) → named (f (x .body) p (p + x .head)) ≤ p + size x)
-    → (l : List Box) (p : ℕ) → p + total l ≤ m → named (inFirst c f l p) ≤ m
-unfolding inFirst total
-first-most m c f h [] p n = omega arith
-first-most m c f h (x ∷ l) p n = eq-any (λ v. named v ≤ m) (x .code) c _ _ (omega (arith, h x p)) (first-most m c f h l (p + size x) (omega arith))
-
-broken-most : (cs : List ℕ) (b : List ℕ) (p q : ℕ) → p ≤ q → named (brokenAt cs b p q) ≤ q + length b
-unfolding brokenAt
-broken-most [] b p q h = omega arith
-broken-most (c ∷ cs) b p q h =
-    first-most (q + length b) c (λ d i j. brokenAt cs d i j)
-    (λ x i. omega (arith, broken-most cs (x .body) i (i + x .head) (omega arith))) (boxes b) q (omega (arith, total-is b))
-
-over-most : (m most n : ℕ) (l : List Box) (p : ℕ) → p + total l ≤ m → named (overMost most n l p) ≤ m
-unfolding overMost total
-over-most m most n [] p h = omega arith
-over-most m most n (x ∷ l) p h =
-    lt-or most (n + entriesOf (x .code) (x .body))
-    (λ k. subst (λ (v : Verdict). named v ≤ m) (le-nay _ _ _ _ _ k refl) (omega (arith, broken-most toStsd (x .body) p (p + x .head) (omega arith))))
-    (λ k. subst (λ (v : Verdict). named v ≤ m) (le-yea _ _ _ _ _ k refl) (over-most m most (n + entriesOf (x .code) (x .body)) l (p + size x) (omega arith)))
+passing-most : (m most n : ℕ) {t : ℕ} {l : List Stsd} → Each (Within m) t l → named (passing most n l) ≤ m
+unfolding passing
+passing-most m most n no-more = omega arith
+passing-most m most n (more {s = s} {l = l} e w a) =
+    lt-or most (n + storedCount (s .body))
+    (λ k. subst (λ (v : Verdict). named v ≤ m) (le-nay _ _ _ _ _ k refl) (w .place))
+    (λ k. subst (λ (v : Verdict). named v ≤ m) (le-yea _ _ _ _ _ k refl) (passing-most m most (n + storedCount (s .body)) a))
 
 pub five-bounded : Bounded five
 five-bounded =
     record {
       leaf = λ k c b p q h. unless-most _ (formIn k c b) p (omega arith);
-      node = λ k xs home p h. if-most _ k MOOV _ (over-most _ MOST 0 (boxes xs) p (omega (arith, total-is xs)));
+      node = λ k xs home p h. if-most _ k MOOV _ (passing-most _ MOST 0 (within-each _ 0 (boxes xs) p (omega (arith, total-is xs))));
       end = λ xs p. omega arith;
     }
 
@@ -79,25 +112,24 @@ nine-bounded =
 
 -- ---- rule 10
 
-stsd-most : (xs : List ℕ) (p : ℕ) → stsdStart (boxes xs) p + length (stsd (boxes xs)) ≤ p + length xs
-unfolding stsdStart
-stsd-most xs p =
-    let minf = find MINF (boxes xs) in
-    let stbl = find STBL (boxes minf) in
-    omega (arith, start-most MINF 0 (boxes xs), total-is xs, start-most STBL 0 (boxes minf), total-is minf, start-most STSD 0 (boxes stbl), total-is stbl)
+entries-most : (m : ℕ) (a : Around) (s : Stsd) → Within m s → named (entriesJudged a (drop FRONT (s .body)) (s .place + HEAD + FRONT)) ≤ m
+unfolding entriesJudged judgeList
+entries-most m a s w =
+    ⊎-elim
+    (λ (e : s .body ≡ []). let z : boxes (drop FRONT (s .body)) ≡ [] = rw e (boxes-stop [] (short-not [] (omega arith))) in rw z (omega arith))
+    (λ h. omega (arith, listed-most (λ x i. unless (entryFine a x) i) (λ x i. unless-most _ (entryFine a x) i (omega arith)) FRONT (s .body) (s .place + HEAD)))
+    (w .whole)
+
+judged-most : (m : ℕ) {t : ℕ} {l : List Stsd} → Each (Within m) t l → named (stsdsJudged l) ≤ m
+unfolding stsdsJudged
+judged-most m no-more = omega arith
+judged-most m (more {s = s} e w a) = sooner-most m _ _ (entries-most m (aroundOf (s .trak)) s w) (judged-most m a)
 
 pub ten-bounded : Bounded ten
-unfolding tenAt entriesFrom
+unfolding tenAt
 ten-bounded =
     record {
       leaf = λ k c b p q h. omega arith;
-      node = λ k xs home p h.
-          if-most _ k MDIA _
-          (omega (
-            arith,
-            stsd-most xs p,
-            listed-most (λ x i. unless (entryFine (aroundIn (boxes xs)) x) i)
-                (λ x i. unless-most _ (entryFine (aroundIn (boxes xs)) x) i (omega arith)) FRONT (stsd (boxes xs)) (stsdStart (boxes xs) p),
-          ));
+      node = λ k xs home p h. if-most _ k MOOV _ (judged-most _ (within-each _ 0 (boxes xs) p (omega (arith, total-is xs))));
       end = λ xs p. omega arith;
     }

@@ -18,7 +18,8 @@ use Rattle.rule_shape.specs.Two.{two}
 use Rattle.rule_shape.specs.Three.{three, threeRule}
 use Rattle.rule_shape.proofs.Descent.{Met}
 use Rattle.rule_headers.specs.Four.{four}
-use Rattle.rule_lists.specs.Rules.{five, nine}
+use Rattle.rule_lists.specs.Five.{five}
+use Rattle.rule_lists.specs.Nine.{nine}
 use Rattle.rule_tracks.specs.Six.{six, sixRule}
 use Rattle.rule_tracks.specs.Seven.{seven, sevenRule}
 use Rattle.rule_tracks.specs.Asked.{askedSeven, askedEight}
