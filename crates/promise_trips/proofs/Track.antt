@@ -10,7 +10,7 @@ use Rattle.movie.specs.Movie.{mdia, sampleTable}
 use Rattle.movie.specs.Entries.{entriesFrom}
 use Rattle.movie.specs.Named.{listIn}
 use Rattle.rule_shape.proofs.Descent.{Met, node-met, in-mdia}
-use Rattle.rule_lists.specs.Forms.{Listed}
+use Rattle.rule_lists.specs.Five.{Listed}
 use Rattle.rule_lists.specs.Five.{fiveRule}
 use Rattle.rule_entries.specs.Ten.{aroundIn, entriesFine, tenIn, tenRule}
 use Rattle.sheet.proofs.Accepted.{listed}
