@@ -49,6 +49,10 @@ module _ (xs : List ℕ) (t n keep : ℕ) (new out : List ℕ) (f : Fits xs t n 
 
 -- ---- the spot
 
+-- no record goes into an entry past them all
+pub past-none : (xs : List ℕ) (i : ℕ) (new : List ℕ) → length (entries xs) ≤ i - 1 → {kind : ℕ} → kind ≡ kindAt xs i → recordRule kind FRAMES new ≡ 1 → ⊥
+past-none xs i new m {kind} g h = omega (arith, kind-none xs i m, record-short kind FRAMES new h .0)
+
 module _ (xs : List ℕ) (i : ℕ) (new : List ℕ) {moov : List ℕ} (e : moov ≡ find MOOV (boxes xs)) (r : Spot) (s : SpotAs moov (i - 1) r) (q : (p : ℕ) → r ≡ spotIn (stsdsFrom 0 (boxes moov) p) (i - 1)) where
   pub spot-replaced : (t n : ℕ) → r ≡ In t n → {kind size : ℕ} → kind ≡ kindAt xs i → size ≡ headSize kind → settled xs (recordAt (In t n) (size - HEAD) new xs) ≡ replaceOf xs i new
   unfolding replaceOf recordReplaced stsds
@@ -58,9 +62,7 @@ module _ (xs : List ℕ) (i : ℕ) (new : List ℕ) {moov : List ℕ} (e : moov 
       rw (← u, ← g, ← h)
 
   pub spot-none : r ≡ Past → {kind : ℕ} → kind ≡ kindAt xs i → recordRule kind FRAMES new ≡ 1 → ⊥
-  spot-none f {kind} g h =
-      let m : length (entries xs) ≤ i - 1 = named-none xs (i - 1) _ (spot-past xs e (i - 1) r s f) refl in
-      omega (arith, kind-none xs i m, record-short kind FRAMES new h .0)
+  spot-none f g h = past-none xs i new (named-none xs (i - 1) _ (spot-past xs e (i - 1) r s f) refl) g h
 
 -- ---- the head
 

@@ -1,25 +1,23 @@
 -- The end of demand 3, of each edit: "only the named fields, enclosing sizes, chunk offsets and, for a move, the box order
 -- differ". That of a move is `move-order` and `move-differs`, that of a shift `shift-differs`. Assumes nothing.
-use Prim.Native.Nat.{ℕ, _+_, _-_, _≤_, _<_}
+use Prim.Native.Nat.{ℕ, _-_, _≤_, _<_}
 use native.Mathlib.Omega.{arith}
 use mathlib.Core.Path.{_≡_, refl, sym, ap, _∙_}
 use mathlib.Core.List.{List, [], _∷_}
 use mathlib.Core.Logic.{⊎-elim}
 use lib.IntN.{ℤ}
-use lib.ListN.{length}
-use Rattle.codes.specs.Codes.{TRAK}
+use lib.ListN.{length, length-append}
 use Rattle.wire.specs.Numbers.{Bytes}
 use Rattle.wire.proofs.Tests.{lt-yea, lt-nay, lt-or}
-use Rattle.boxes.specs.Box.{Box}
 use Rattle.boxes.specs.Boxes.{boxes}
-use Rattle.boxes.specs.Seek.{meant}
 use Rattle.boxes.specs.Containers.{LONGEST}
 use Rattle.mdat.specs.Payloads.{mdats}
 use Rattle.mdat.proofs.Mdats.{kin-mdats}
 use Rattle.movie.specs.declared.entry.Spot.{Spot}
 use Rattle.movie.specs.declared.entry.Spot.the-variants.{In, Past}
-use Rattle.movie.specs.Stsds.{stsds}
-use Rattle.movie.specs.Named.{held, heldIn, spotIn}
+use Rattle.movie.specs.Stsds.{Stsd, stsds}
+use Rattle.movie.specs.Entries.{entriesOf, entriesIn, entries}
+use Rattle.movie.specs.Named.{spotIn}
 use Rattle.entry_rules.specs.Entries.{FRAMES}
 use Rattle.entry_rules.specs.Decoders.{recordRule}
 use Rattle.judge.specs.Acceptance.{Meets}
@@ -28,7 +26,7 @@ use Rattle.edit_offsets.proofs.Settled.{settled-length}
 use Rattle.edit_move.specs.Moving.{moveOf}
 use Rattle.edit_replace.specs.Replace.{kindAt, recordAt, recordReplaced, replaceOf}
 use Rattle.edit_replace.proofs.Taking.{record-first}
-use Rattle.edit_replace.proofs.Written.{spot-none}
+use Rattle.edit_replace.proofs.Written.{past-none}
 use Rattle.edit_shift.specs.Shift.{shiftOf}
 use Rattle.promise_kept.proofs.Named.{entry-in}
 use Rattle.promise_kept.proofs.Second.{second}
@@ -44,16 +42,16 @@ in-not : (t n : ℕ) → In t n ≡ Past → ⊥
 in-not t n e = let z : _≡_ {A = ℕ} 0 1 = cc in omega arith
 
 -- an entry that is nowhere is past them all
-held-past : (t : ℕ) (l : List Box) (i : ℕ) → spotIn t l i ≡ Past → heldIn l ≤ i
-unfolding spotIn heldIn
-held-past t [] i e = omega arith
-held-past t (x ∷ l) i e =
-    lt-or i (held (x .code) (x .body)) (λ h. absurd (in-not t i (lt-yea _ _ _ _ _ h refl ∙ e)))
-    (λ h. let k = held-past (t + meant TRAK (x .code)) l (i - held (x .code) (x .body)) (lt-nay _ _ _ _ _ h refl ∙ e) in omega arith)
+nowhere-past : (l : List Stsd) (i : ℕ) → spotIn l i ≡ Past → length (entriesIn l) ≤ i
+unfolding spotIn entriesIn
+nowhere-past [] i e = omega arith
+nowhere-past (s ∷ l) i e =
+    lt-or i (length (entriesOf s)) (λ h. absurd (in-not (s .track - 1) i (lt-yea _ _ _ _ _ h refl ∙ e)))
+    (λ h. let k = nowhere-past l (i - length (entriesOf s)) (lt-nay _ _ _ _ _ h refl ∙ e) in rw length-append (omega arith))
 
 -- "Replace decoder record of entry i": one that meets its rule, where the result is not too long
 pub replace-differs : (xs : List ℕ) (i : ℕ) (new : List ℕ) → Bytes xs → Bytes new → Meets xs → recordRule (kindAt xs i) FRAMES new ≡ 1 → length (replaceOf xs i new) ≤ LONGEST → Replaces xs i new (replaceOf xs i new)
-unfolding replaceOf recordReplaced
+unfolding replaceOf recordReplaced entries
 replace-differs xs i new w v m r h = go (spotIn (stsds xs) (i - 1)) refl (rw settled-length at h)
   where
     go : (s : Spot) → spotIn (stsds xs) (i - 1) ≡ s → length (recordAt s (keptOf xs i) new xs) ≤ LONGEST → Replaces xs i new (settled xs (recordAt s (keptOf xs i) new xs))
@@ -68,7 +66,7 @@ replace-differs xs i new w v m r h = go (spotIn (stsds xs) (i - 1)) refl (rw set
           there = record-there t n (keptOf xs i) new xs v w s (omega (arith, q .room));
           elsewhere = record-elsewhere t n (keptOf xs i) new xs v w s;
         }
-    go Past e k = absurd (spot-none xs i new refl Past (held-past 0 (movie xs) (i - 1) e) (sym e) refl refl r)
+    go Past e k = absurd (past-none xs i new (nowhere-past (stsds xs) (i - 1) e) refl r)
 
 -- ---- every `mdat` has its bytes
 

@@ -22,7 +22,8 @@ use Rattle.entry_rules.specs.Entries.{FRAMES}
 use Rattle.entry_rules.specs.declared.entry.Around.{Around}
 use Rattle.entry_rules.specs.Decoders.{recordRule}
 use Rattle.rule.specs.Rule.{allList}
-use Rattle.rule_lists.specs.Forms.{storedCount, listForm}
+use Rattle.movie.specs.Movie.{storedCount}
+use Rattle.rule_lists.specs.Five.{listForm}
 use Rattle.rule_entries.specs.Ten.{entryFine, entriesFine}
 use Rattle.promise_kept.proofs.Entry.{entry-changed}
 

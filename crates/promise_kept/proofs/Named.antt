@@ -14,6 +14,7 @@ use Rattle.boxes.proofs.Whole.{Good}
 use Rattle.boxes.proofs.Reading.{parts, lengths, length-cons, write-append}
 use Rattle.boxes.proofs.Every.{all-here}
 use Rattle.movie.specs.declared.entry.Spot.the-variants.{In}
+use Rattle.movie.specs.Ways.{follow}
 use Rattle.movie.specs.Movie.{track, sampleTable}
 use Rattle.movie.specs.Stsds.{stsds}
 use Rattle.movie.specs.Entries.{entries}
@@ -50,7 +51,7 @@ kind-at xs i x g h e = eq-nay _ _ _ _ _ (λ z. omega arith) (ap kindOf (sym (cod
 
 -- where its spot says
 pub entry-in : (xs : List ℕ) (i : ℕ) → Bytes xs → 1 ≤ i → (t n : ℕ) → spotIn (stsds xs) (i - 1) ≡ In t n → EntryIn xs i t n
-unfolding listIn sampleTable track
+unfolding listIn sampleTable follow track
 entry-in xs i w h t n e =
     let s = entry-split xs (i - 1) t n e in
     let f : Bytes (drop FRONT (sampleTable STSD (track xs t))) = bytes-list xs t w in

@@ -14,7 +14,7 @@ use Rattle.boxes.specs.Kin.{Kin}
 use Rattle.boxes.specs.Boxes.{FRONT}
 use Rattle.boxes.proofs.Down.{Once}
 use Rattle.entry_rules.specs.declared.entry.Around.{Around}
-use Rattle.rule_lists.specs.Forms.{listForm}
+use Rattle.rule_lists.specs.Five.{listForm}
 use Rattle.rule_headers.specs.Forms.{ifBox, form}
 use Rattle.rule_entries.specs.Ten.{entriesFine}
 use Rattle.promise_kept.proofs.Sound.{Sound}

@@ -8,8 +8,8 @@ use Rattle.codes.specs.Codes.{TRAK, TKHD, DINF, DREF, STBL, STSD, MDAT}
 use Rattle.boxes.specs.Containers.{FILE, kindIn}
 use Rattle.boxes.specs.Kin.{Leaf}
 use Rattle.boxes.proofs.Kin.{Then}
-use Rattle.rule_lists.specs.Forms.{listForm}
-use Rattle.rule_lists.specs.Urls.{allUrls}
+use Rattle.rule_lists.specs.Five.{listForm}
+use Rattle.rule_lists.specs.Nine.{allUrls}
 use Rattle.rule_headers.specs.Forms.{form}
 use Rattle.rule_tracks.proofs.Kept.{Tables}
 use Rattle.rule_entries.proofs.Kept.{Described}

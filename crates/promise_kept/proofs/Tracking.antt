@@ -10,7 +10,7 @@ use Rattle.boxes.specs.Seek.{nth}
 use Rattle.boxes.specs.Kin.{Leaf, Kin}
 use Rattle.boxes.proofs.Kin.{kin-child}
 use Rattle.movie.specs.Movie.{track}
-use Rattle.rule_entries.proofs.Kept.{In}
+use Rattle.movie.proofs.Kept.{In}
 
 -- what is said of the payloads of two `stbl`, said of those of their `trak`
 abbrev pub Tracked : (List ℕ → List ℕ → Type 0) → List ℕ → List ℕ → Type 0

@@ -1,5 +1,5 @@
 -- What the table writer answers on a file's own sheet, and the two calls one after the other. Assumes nothing.
-use Prim.Native.Nat.{ℕ, _≤_, _<_}
+use Prim.Native.Nat.{ℕ, _-_, _≤_, _<_}
 use native.Mathlib.Omega.{arith}
 use mathlib.Core.Path.{_≡_, refl, sym, ap}
 use mathlib.Core.Bool.{true}
@@ -9,6 +9,7 @@ use lib.ListN.{length, take}
 use Rattle.wire.specs.Numbers.{Bytes}
 use Rattle.wire.proofs.Tests.{lt-nay}
 use Rattle.movie.specs.Movie.{tracks}
+use Rattle.movie.specs.Stsds.{stsds, standing}
 use Rattle.movie.specs.Entries.{entries}
 use Rattle.rule.specs.declared.Answer.the-variants.{Done, Refused}
 use Rattle.rule.specs.Answers.{inRoom, outBy}
@@ -22,9 +23,7 @@ use Rattle.sheet.specs.Reader.{sheetOf, sheetAnswer, sheetOut}
 use Rattle.sheet_table.specs.Form.{steps}
 use Rattle.sheet_table.specs.Table.{ownEntries, table, ownAnswer, trackTable, tableAnswer, tableOut}
 use Rattle.sheet_table.proofs.Tracks.{formed-steps, has-track, no-track}
-use Rattle.promise_trips.specs.Stsd.{stsdBytes}
-use Rattle.promise_trips.proofs.Standing.{stsd-lies}
-use Rattle.promise_trips.proofs.Returned.{own-formed, own-unsheet, own-none, own-some, table-returns}
+use Rattle.promise_trips.proofs.Returned.{own-formed, own-unsheet, own-none, own-some, table-returns, standing-short}
 
 module _ (xs : List ℕ) (m : Meets xs) (v : Bytes xs) (t : ℕ) (out : List ℕ) where
   own-steps : steps 0 (entries xs) ≡ true
@@ -37,14 +36,14 @@ module _ (xs : List ℕ) (m : Meets xs) (v : Bytes xs) (t : ℕ) (out : List ℕ
 
   module _ (h : 1 ≤ t) (k : t ≤ tracks xs) where
     -- nor can 20, nor 24, since the result is no longer than the file: the length, or 25
-    pub answer-returns : tableAnswer SLOTS (sheetOf xs) t out ≡ inRoom (stsdBytes xs t) out
+    pub answer-returns : tableAnswer SLOTS (sheetOf xs) t out ≡ inRoom (standing xs (stsds xs) (t - 1)) out
     unfolding tableAnswer ownAnswer trackTable
     answer-returns =
-        let w : table (ownEntries t (entries xs)) ≡ stsdBytes xs t = rw (own-unsheet xs m v) at (table-returns xs m v t h k) in
+        let w : table (ownEntries t (entries xs)) ≡ standing xs (stsds xs) (t - 1) = rw (own-unsheet xs m v) at (table-returns xs m v t h k) in
         rw (own-formed xs m v, own-unsheet xs m v, ← has-track t (entries xs) own-steps (own-some xs m v t h k), w)
-        (sym (lt-nay _ _ _ _ _ (omega (arith, stsd-lies xs m v t h k .inside, m .most)) refl))
+        (sym (lt-nay _ _ _ _ _ (standing-short xs m v t h k) refl))
 
-    pub out-returns : tableOut SLOTS (sheetOf xs) t out ≡ outBy (inRoom (stsdBytes xs t) out) (stsdBytes xs t) out
+    pub out-returns : tableOut SLOTS (sheetOf xs) t out ≡ outBy (inRoom (standing xs (stsds xs) (t - 1)) out) (standing xs (stsds xs) (t - 1)) out
     out-returns = rw (answer-returns, table-returns xs m v t h k)
 
 -- ---- the sheet reader, and then the table writer

@@ -1,11 +1,9 @@
 pub mod Alone
 pub mod Track
-pub mod Boxed
 pub mod Tracks
-pub mod Standing
 pub mod Small
-pub mod Own
 pub mod Written
+pub mod Own
 pub mod Returned
 pub mod Answered
 pub mod Trips

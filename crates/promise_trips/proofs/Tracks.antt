@@ -4,33 +4,42 @@ use native.Mathlib.Omega.{arith}
 use mathlib.Core.Path.{_≡_, refl, sym}
 use mathlib.Core.Bool.{true}
 use mathlib.Core.List.{List, [], _∷_, _++_}
-use lib.ListN.{length, length-append}
-use Rattle.codes.specs.Codes.{TRAK}
+use lib.ListN.{length, drop, length-append}
+use Rattle.codes.specs.Codes.{MOOV, TRAK}
 use Rattle.wire.proofs.Clauses.{is-le, holds, done}
 use Rattle.boxes.specs.Box.{Box, size}
-use Rattle.boxes.specs.Boxes.{boxes}
-use Rattle.boxes.specs.Seek.{count}
-use Rattle.boxes.proofs.Meaning.{count-hit, count-miss}
-use Rattle.movie.specs.Entries.{Entry, entriesStart, entriesFrom, entriesOf, entriesAfter}
-use Rattle.movie.specs.Named.{listIn}
-use Rattle.movie.proofs.Counting.{length-of}
-use Rattle.movie.proofs.Boxed.{after-hit, after-miss}
+use Rattle.boxes.specs.Boxes.{HEAD, FRONT, boxes}
+use Rattle.boxes.specs.Seek.{count, startIn}
+use Rattle.boxes.proofs.Meaning.{meant-or, count-hit, count-miss}
+use Rattle.movie.specs.Movie.{movie, tracks}
+use Rattle.movie.specs.Stsds.{Stsd, stsdsFrom, stsds}
+use Rattle.movie.specs.Entries.{Entry, entriesFrom, entriesOf, entriesIn}
+use Rattle.movie.proofs.Boxed.{stsds-hit, stsds-miss}
+use Rattle.movie.proofs.Counting.{length-stsd}
+use Rattle.movie.proofs.Stsds.{Each}
+use Rattle.movie.proofs.Stsds.Each.{none, more}
 use Rattle.sheet_table.specs.Form.{follows, steps, allMeet}
 use Rattle.promise_trips.proofs.Alone.{meet-append}
 use Rattle.promise_trips.proofs.Track.{Described}
-use Rattle.promise_trips.proofs.Boxed.{Each}
-use Rattle.promise_trips.proofs.Boxed.Each.{none, track, other}
+
+-- there are as many as tracks
+length-from : (l : List Box) (t p : ℕ) → length (stsdsFrom t l p) ≡ count TRAK l
+unfolding stsdsFrom count
+length-from [] t p = refl
+length-from (x ∷ l) t p =
+    meant-or TRAK (x .code)
+    (λ e. rw (stsds-hit x e l t p) (omega (arith, count-hit TRAK x l e, length-from l (t + 1) (p + size x))))
+    (λ e. rw (stsds-miss x e l t p) (omega (arith, count-miss TRAK x l e, length-from l t (p + size x))))
+
+pub length-stsds : (xs : List ℕ) → length (stsds xs) ≡ tracks xs
+unfolding stsds
+length-stsds xs = length-from (movie xs) 0 (startIn MOOV 0 (boxes xs))
 
 -- ---- one track
 
 -- it has an entry
-pub some-of : (t : ℕ) (b : List ℕ) (p : ℕ) → Described b → 1 ≤ length (entriesOf t b p)
-unfolding listIn
-some-of t b p d = omega (arith, length-of t b p, d .listed .some, d .listed .counted)
-
-pub meet-of : (t : ℕ) (b : List ℕ) (p : ℕ) → Described b → allMeet (entriesOf t b p) ≡ true
-unfolding entriesOf listIn
-meet-of t b p d = d .meet t _
+pub some-of : {xs : List ℕ} (s : Stsd) → Described xs s → 1 ≤ length (entriesOf s)
+some-of s d = omega (arith, length-stsd s, d .listed .some, d .listed .counted)
 
 -- track u is the one of the entry before, or the next
 goes : (t u : ℕ) → t ≤ u → u ≤ t + 1 → 1 ≤ u → u ≤ 4 → follows t u ≡ true
@@ -47,24 +56,24 @@ unfolding entriesFrom steps
 steps-next t [] p e k n q = absurd (omega arith)
 steps-next t (x ∷ l) p e k n q = rw (goes t (t + 1) (omega arith) (omega arith) (omega arith) k) (steps-from (t + 1) l (p + size x) e (omega arith) k q)
 
+steps-of : (t : ℕ) (s : Stsd) → s .track ≡ t + 1 → (e : List Entry) → t + 1 ≤ 4 → 1 ≤ length (entriesOf s) → steps (t + 1) e ≡ true → steps t (entriesOf s ++ e) ≡ true
+unfolding entriesOf
+steps-of t s z e k n q = rw z (steps-next t (boxes (drop FRONT (s .body))) (s .place + HEAD + FRONT) e k (rw z at n) q)
+
 -- ---- all of them
 
-pub after-steps : (t : ℕ) {l : List Box} (p : ℕ) → Each Described l → t + count TRAK l ≤ 4 → steps t (entriesAfter t l p) ≡ true
-unfolding entriesAfter steps entriesOf listIn
-after-steps t p none h = refl
-after-steps t p (track {x} {l} e d a) h =
-    rw (after-hit x e l t p)
-    (steps-next t (boxes (listIn (x .body))) (p + x .head + entriesStart (x .body)) (entriesAfter (t + 1) l (p + size x)) (omega (arith, count-hit TRAK x l e)) (some-of (t + 1) (x .body) (p + x .head) d) (after-steps (t + 1) (p + size x) a (omega (arith, count-hit TRAK x l e))))
-after-steps t p (other {x} {l} e a) h = rw (after-miss x e l t p) (after-steps t (p + size x) a (omega (arith, count-miss TRAK x l e)))
+module _ {xs : List ℕ} where
+  pub all-steps : {t : ℕ} {l : List Stsd} → Each (Described xs) t l → t + length l ≤ 4 → steps t (entriesIn l) ≡ true
+  unfolding entriesIn steps
+  all-steps none h = refl
+  all-steps (more {t} {s} {l} e d a) h = steps-of t s e (entriesIn l) (omega arith) (some-of s d) (all-steps a (omega arith))
 
-pub after-meet : (t : ℕ) {l : List Box} (p : ℕ) → Each Described l → allMeet (entriesAfter t l p) ≡ true
-unfolding entriesAfter allMeet
-after-meet t p none = refl
-after-meet t p (track {x} {l} e d a) = rw (after-hit x e l t p) (meet-append (entriesOf (t + 1) (x .body) (p + x .head)) _ (meet-of (t + 1) (x .body) (p + x .head) d) (after-meet (t + 1) (p + size x) a))
-after-meet t p (other {x} {l} e a) = rw (after-miss x e l t p) (after-meet t (p + size x) a)
+  pub all-meet : {t : ℕ} {l : List Stsd} → Each (Described xs) t l → allMeet (entriesIn l) ≡ true
+  unfolding entriesIn allMeet
+  all-meet none = refl
+  all-meet (more {s = s} {l = l} e d a) = meet-append (entriesOf s) (entriesIn l) (d .meet) (all-meet a)
 
-pub after-some : (t : ℕ) {l : List Box} (p : ℕ) → Each Described l → 1 ≤ count TRAK l → 1 ≤ length (entriesAfter t l p)
-unfolding count
-after-some t p none h = absurd (omega arith)
-after-some t p (track {x} {l} e d a) h = rw (after-hit x e l t p, length-append) (omega (arith, some-of (t + 1) (x .body) (p + x .head) d))
-after-some t p (other {x} {l} e a) h = rw (after-miss x e l t p) (after-some t (p + size x) a (omega (arith, count-miss TRAK x l e)))
+  pub all-some : {t : ℕ} {l : List Stsd} → Each (Described xs) t l → 1 ≤ length l → 1 ≤ length (entriesIn l)
+  unfolding entriesIn
+  all-some none h = absurd (omega arith)
+  all-some (more {s = s} {l = l} e d a) h = rw length-append (omega (arith, some-of s d))

@@ -1,12 +1,15 @@
 -- The round trips: what is written from what was read is what it was read from, and back. Assumes nothing.
-use Prim.Native.Nat.{ℕ, _≤_, _<_}
+use Prim.Native.Nat.{ℕ, _-_, _≤_, _<_}
 use mathlib.Core.Path.{_≡_, sym, _∙_}
 use mathlib.Core.Bool.{true}
 use mathlib.Core.List.{List}
 use mathlib.Core.Logic.{_⊎_}
-use lib.ListN.{length, take, drop}
+use lib.ListN.{length, take}
+use Rattle.codes.specs.Codes.{STSD}
 use Rattle.wire.specs.Numbers.{Bytes}
-use Rattle.movie.specs.Movie.{tracks}
+use Rattle.boxes.specs.Way.{boxBy}
+use Rattle.movie.specs.Movie.{tracks, track, sampleTable}
+use Rattle.movie.specs.Stsds.{stsds, standing}
 use Rattle.movie.specs.Entries.{Entry, entries}
 use Rattle.entry_records.specs.declared.field.Record.{Record}
 use Rattle.entry_records.specs.declared.field.Record.the-variants.{Broken}
@@ -20,13 +23,12 @@ use Rattle.judge.specs.Acceptance.{Meets}
 use Rattle.sheet.specs.Sheet.{SLOTS, sheet}
 use Rattle.sheet.specs.Reader.{sheetOf, sheetAnswer, sheetOut}
 use Rattle.sheet_table.specs.Form.{unsheet, formed}
-use Rattle.sheet_table.specs.Table.{trackTable, tableAnswer, tableOut}
+use Rattle.sheet_table.specs.Table.{tableAnswer, tableOut}
 use Rattle.sheet_table.proofs.RoundTrip as roundTrip
 use Rattle.entry_fields.specs.Numbers.{readAnswer, readOut, writeAnswer, writeOut}
 use Rattle.entry_fields.proofs.Returning.{written-back, read-back}
 use Rattle.promise_trips.specs.Gives.{Gives}
-use Rattle.promise_trips.specs.Stsd.{stsdBytes, stsdPlace}
-use Rattle.promise_trips.proofs.Returned.{own-formed, own-unsheet, table-returns, table-stands}
+use Rattle.promise_trips.proofs.Returned.{own-formed, own-unsheet, standing-box}
 use Rattle.promise_trips.proofs.Answered as answered
 
 -- ---- a file that meets the rules
@@ -41,16 +43,12 @@ module _ (xs : List ℕ) (v : Bytes xs) (m : Meets xs) where
   sheet-entries = own-unsheet xs m v
 
   module _ (t : ℕ) (h : 1 ≤ t) (k : t ≤ tracks xs) where
-    -- the table of a track, written from its sheet, is the track's `stsd` box, byte for byte
-    pub table-back : trackTable SLOTS (sheetOf xs) t ≡ stsdBytes xs t
-    table-back = table-returns xs m v t h k
+    -- what stands in the file at the place of a track's `stsd` is that box
+    pub stsd-stands : standing xs (stsds xs) (t - 1) ≡ boxBy STSD (sampleTable STSD (track xs (t - 1)))
+    stsd-stands = standing-box xs m v t h k
 
-    -- those are the bytes that stand in the file at the place of that box
-    pub table-place : take (length (trackTable SLOTS (sheetOf xs) t)) (drop (stsdPlace xs t) xs) ≡ trackTable SLOTS (sheetOf xs) t
-    table-place = table-stands xs m v t h k
-
-    -- the writer answers the length of the box and writes it, or refuses with 25 and writes nothing
-    pub table-answer : (out : List ℕ) → Gives (stsdBytes xs t) out (tableAnswer SLOTS (sheetOf xs) t out) (tableOut SLOTS (sheetOf xs) t out)
+    -- the table writer gives it from the file's own sheet: the length of the box and the box, or 25 and nothing
+    pub table-answer : (out : List ℕ) → Gives (standing xs (stsds xs) (t - 1)) out (tableAnswer SLOTS (sheetOf xs) t out) (tableOut SLOTS (sheetOf xs) t out)
     table-answer out = (answered.answer-returns xs m v t out h k, answered.out-returns xs m v t out h k)
 
   -- of a track that it has not the writer says so
@@ -59,9 +57,9 @@ module _ (xs : List ℕ) (v : Bytes xs) (m : Meets xs) where
 
 -- ---- the sheet reader, and then the table writer, on any bytes
 
--- what the reader gave, given to the writer, gives back the `stsd` of any track of the file
+-- what the reader gave, given to the writer, gives back what stands in the file at the place of any track's `stsd`
 pub sheet-table : (xs : List ℕ) → Bytes xs → (out : List ℕ) (n : ℕ) → sheetAnswer xs out ≡ Done n → (t : ℕ) → 1 ≤ t → t ≤ tracks xs → (room : List ℕ)
-    → Gives (stsdBytes xs t) room (tableAnswer SLOTS (take n (sheetOut xs out)) t room) (tableOut SLOTS (take n (sheetOut xs out)) t room)
+    → Gives (standing xs (stsds xs) (t - 1)) room (tableAnswer SLOTS (take n (sheetOut xs out)) t room) (tableOut SLOTS (take n (sheetOut xs out)) t room)
 sheet-table xs v out n e t h k room = rw (answered.sheet-taken xs out n e) (table-answer xs v (answered.sheet-meets xs out n e) t h k room)
 
 -- ---- sheets

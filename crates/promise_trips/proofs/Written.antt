@@ -15,7 +15,7 @@ use Rattle.boxes.proofs.Reading.{write-boxes}
 use Rattle.boxes.proofs.Numbered.{count-any}
 use Rattle.movie.specs.Entries.{entriesFrom}
 use Rattle.movie.proofs.Boxed.{length-from}
-use Rattle.rule_lists.specs.Forms.{Listed}
+use Rattle.rule_lists.specs.Five.{Listed}
 use Rattle.sheet.specs.Sheet.{bodies}
 use Rattle.sheet_table.specs.Table.{table}
 

@@ -1,2 +1,1 @@
-pub mod Stsd
 pub mod Gives

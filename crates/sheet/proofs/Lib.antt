@@ -1,4 +1,3 @@
 pub mod Slots
 pub mod Writing
-pub mod Answering
 pub mod Accepted

@@ -12,12 +12,13 @@ ghost use Prim.Native.Nat.{_+_, _*_, _^_, _≤_, _<_};
 ghost use lib.ListN.{length, take, drop};
 ghost use Rattle.wire.specs.Writing.{Put};
 ghost use Rattle.boxes.specs.Containers.{LONGEST};
-ghost use Rattle.rule.specs.Answers.{inRoom, outBy};
+ghost use Rattle.rule.specs.Results.{Exact};
+ghost use Rattle.rule.specs.Results.Result.{gives};
 ghost use Rattle.movie.specs.Entries.{entries};
 ghost use Rattle.movie.specs.Named.{entryAs};
 ghost use Rattle.sheet.specs.Sheet.{slot as slotText, slotOf, slots as slotsText, bodies as bodiesText};
 ghost use Rattle.sheet.specs.Fits.{SheetFits};
-ghost use Rattle.sheet.specs.Reader.{sheetOf, sheetAnswer, sheetOut};
+ghost use Rattle.sheet.specs.Reader.{sheetOf, sheetResult};
 
 // How many slots a sheet has, and how long each is.
 const SLOTS: usize = 8;
@@ -132,7 +133,7 @@ fn put_sheet(out: &mut [u8], file: &[u8]) -> usize
 // The same of an accepted file, where there is room for it.
 fn sheet_of(file: &[u8], out: &mut [u8]) -> Answer
     requires { ⌜ SheetFits (now file) ⌝ }
-    ensures { λ r. ⌜ (r ≡ inRoom (sheetOf (now (file .entry))) (now (out .entry))) × (now (out .exit) ≡ outBy (inRoom (sheetOf (now (file .entry))) (now (out .entry))) (sheetOf (now (file .entry))) (now (out .entry))) ⌝ }
+    ensures { λ r. ⌜ Exact (gives (sheetOf (now (file .entry)))) (now (out .entry)) r (now (out .exit)) ⌝ }
 {
     let mut none = [0u8; 1];
     let size = put_sheet(&mut none, file);
@@ -144,7 +145,7 @@ fn sheet_of(file: &[u8], out: &mut [u8]) -> Answer
 
 // The sheet of a file, with its length.
 pub fn sheet(file: &[u8], out: &mut [u8]) -> Answer
-    ensures { λ r. ⌜ (r ≡ sheetAnswer (now (file .entry)) (now (out .entry))) × (now (out .exit) ≡ sheetOut (now (file .entry)) (now (out .entry))) ⌝ }
+    ensures { λ r. ⌜ Exact (sheetResult (now (file .entry))) (now (out .entry)) r (now (out .exit)) ⌝ }
 {
     match judge::judge(file) {
         Judgement::Accepted => sheet_of(file, out),
