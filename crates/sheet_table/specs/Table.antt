@@ -3,15 +3,14 @@ use Prim.Native.Nat.{ℕ, _+_, max}
 use mathlib.Core.Bool.{Bool}
 use mathlib.Core.List.{List, [], _∷_, _++_}
 use lib.ListN.{length}
-use Rattle.wire.specs.Tests.{pick, ifEq, ifLt}
+use Rattle.wire.specs.Tests.{ifEq}
 use Rattle.wire.specs.Clauses.{isLe, every}
 use Rattle.wire.specs.Numbers.{bytes}
 use Rattle.codes.specs.Codes.{STSD}
 use Rattle.boxes.specs.Containers.{LONGEST}
 use Rattle.movie.specs.Entries.{Entry}
-use Rattle.rule.specs.declared.Answer.{Answer}
-use Rattle.rule.specs.declared.Answer.the-variants.{Refused}
-use Rattle.rule.specs.Answers.{inRoom, outBy}
+use Rattle.rule.specs.Results.{Result, asked}
+use Rattle.rule.specs.Results.Result.{gives}
 use Rattle.sheet.specs.Sheet.{bodies}
 use Rattle.sheet_table.specs.Form.{unsheet, formed}
 
@@ -36,16 +35,12 @@ table es = bytes 4 (16 + length (bodies es)) ++ bytes 4 STSD ++ bytes 4 0 ++ byt
 unfoldable pub trackTable : ℕ → List ℕ → ℕ → List ℕ
 trackTable k xs t = table (ownEntries t (unsheet k xs))
 
--- 24, 25, of the entries of one track
-unfoldable pub ownAnswer : List Entry → List ℕ → Answer
-ownAnswer es out = ifLt LONGEST (length (table es)) (Refused 24 0) (inRoom (table es) out)
-
 -- "30, then 20 (track 0 or above the sheet's highest), then 24, then 25"
-unfoldable pub tableAnswer : ℕ → List ℕ → ℕ → List ℕ → Answer
-tableAnswer k xs t out =
-    pick (formed k xs)
-    (pick (hasTrack t (unsheet k xs)) (ownAnswer (ownEntries t (unsheet k xs)) out) (Refused 20 0))
-    (Refused 30 0)
-
-abbrev pub tableOut : ℕ → List ℕ → ℕ → List ℕ → List ℕ
-tableOut k xs t out = outBy (tableAnswer k xs t out) (trackTable k xs t) out
+unfoldable pub tableResult : ℕ → List ℕ → ℕ → Result
+tableResult k xs t =
+    asked
+    ((30, formed k xs)
+    ∷ (20, hasTrack t (unsheet k xs))
+    ∷ (24, isLe (length (trackTable k xs t)) LONGEST)
+    ∷ [])
+    (gives (trackTable k xs t))

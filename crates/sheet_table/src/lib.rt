@@ -6,15 +6,18 @@ use wire::number;
 use wire::pen;
 use wire::test;
 ghost use mathlib.Core.Path.{_≡_};
-ghost use mathlib.Core.List.{[]};
+ghost use mathlib.Core.List.{[], _∷_};
 ghost use Prim.Native.Nat.{_+_, _^_, _≤_, _<_};
 ghost use lib.ListN.{length};
 ghost use Rattle.wire.specs.Tests.{ifEq};
+ghost use Rattle.wire.specs.Clauses.{isLe};
 ghost use Rattle.wire.specs.Writing.{Put};
-ghost use Rattle.rule.specs.Answers.{outBy};
+ghost use Rattle.boxes.specs.Containers.{LONGEST};
+ghost use Rattle.rule.specs.Results.{asked, Exact};
+ghost use Rattle.rule.specs.Results.Result.{gives};
 ghost use Rattle.sheet.specs.Sheet.{SLOTS, bodies as bodiesText};
 ghost use Rattle.sheet_table.specs.Form.{read};
-ghost use Rattle.sheet_table.specs.Table.{ownEntries, table as tableText, ownAnswer, tableAnswer, tableOut};
+ghost use Rattle.sheet_table.specs.Table.{ownEntries, table as tableText, tableResult};
 
 pub mod form;
 pub mod slots;
@@ -102,7 +105,7 @@ fn write_own(
     out: &mut [u8],
 ) -> Answer
     requires { ⌜ (16 + length (now bodies) < 2 ^ 63) × (count ≡ length (ownEntries track (read n (now slots) (now bodies)))) ⌝ }
-    ensures { λ r. ⌜ (r ≡ ownAnswer (ownEntries track (read n (now (slots .entry)) (now (bodies .entry)))) (now (out .entry))) × (now (out .exit) ≡ outBy r (tableText (ownEntries track (read n (now (slots .entry)) (now (bodies .entry))))) (now (out .entry))) ⌝ }
+    ensures { λ r. ⌜ Exact (asked ((24, isLe (length (tableText (ownEntries track (read n (now (slots .entry)) (now (bodies .entry)))))) LONGEST) ∷ []) (gives (tableText (ownEntries track (read n (now (slots .entry)) (now (bodies .entry))))))) (now (out .entry)) r (now (out .exit)) ⌝ }
 {
     let mut none = [0u8; 1];
     let size = put_own(&mut none, 0, slots, bodies, n, track);
@@ -117,7 +120,7 @@ fn write_own(
 
 // The `stsd` box of a track of a sheet.
 pub fn table(sheet: &[u8], track: usize, out: &mut [u8]) -> Answer
-    ensures { λ r. ⌜ (r ≡ tableAnswer SLOTS (now (sheet .entry)) track (now (out .entry))) × (now (out .exit) ≡ tableOut SLOTS (now (sheet .entry)) track (now (out .entry))) ⌝ }
+    ensures { λ r. ⌜ Exact (tableResult SLOTS (now (sheet .entry)) track) (now (out .entry)) r (now (out .exit)) ⌝ }
 {
     if form::formed(sheet) == 0 {
         return Answer::Refused(30, 0);

@@ -1,5 +1,5 @@
 use borrow.Author.Needs.{needs}
-use Rattle.sheet_table.proofs.Answering.{answer-form, answer-track, answer-own}
+use Rattle.sheet_table.proofs.Answering.{sheet-torn, sheet-track, sheet-own}
 use lib.ListN.{length, length-drop}
 use mathlib.Core.Path.{ap, _∙_}
 use native.Mathlib.Omega.{arith}
@@ -9,12 +9,12 @@ use Rattle.sheet_table.proofs.table.Tie as tie
 pub table-spec : {M : Type 1} → statement M
 table-spec = tie.close (tie.spec
     (λ c κs. search needs)
-    (λ c. answer-form _ _ _ _ (c .before .formed .ensures) (omega arith))
+    (λ c. sheet-torn _ _ _ _ (c .before .formed .ensures) (omega arith))
     (λ c κs. search needs)
     (λ c κs. search needs)
     (λ c κs. search needs)
     (λ c κs. search needs)
-    (λ c. answer-track _ _ _ _ (c .before .before .before .before .before .before .formed .ensures) (λ e. omega arith) record { count = c .before .before .before .before .byte .ensures .0; slots = c .before .before .before .rest .ensures; bodies = c .before .before .rest2 .ensures } (c .before .count-own .ensures .0) (omega arith))
+    (λ c. sheet-track _ _ _ _ (c .before .before .before .before .before .before .formed .ensures) (λ e. omega arith) record { count = c .before .before .before .before .byte .ensures .0; slots = c .before .before .before .rest .ensures; bodies = c .before .before .rest2 .ensures } (c .before .count-own .ensures .0) (omega arith))
     (λ c κs. (omega (arith, ap length (c .before .before .before .rest2 .ensures) ∙ length-drop 100 (c .before .before .before .before .before .before .before .before .before .before .args .sheet .now)), c .before .before .count-own .ensures .0))
     (λ c. search needs)
-    (λ c. answer-own _ _ _ _ (c .before .before .before .before .before .before .before .before .before .before .formed .ensures) (λ e. omega arith) record { count = c .before .before .before .before .before .before .before .before .byte .ensures .0; slots = c .before .before .before .before .before .before .before .rest .ensures; bodies = c .before .before .before .before .before .before .rest2 .ensures } (c .before .before .before .before .before .count-own .ensures .0) (λ e. omega arith) (c .before .before .write-own .ensures)))
+    (λ c. sheet-own _ _ _ _ (c .before .before .before .before .before .before .before .before .before .before .formed .ensures) (λ e. omega arith) record { count = c .before .before .before .before .before .before .before .before .byte .ensures .0; slots = c .before .before .before .before .before .before .before .rest .ensures; bodies = c .before .before .before .before .before .before .rest2 .ensures } (c .before .before .before .before .before .count-own .ensures .0) (λ e. omega arith) (c .before .before .write-own .ensures)))
