@@ -16,28 +16,30 @@ use Rattle.sample_tables.specs.Runs.{rises, runFine, runsFine, runAmong, runOf}
 use Rattle.sample_tables.specs.Sizes.{sizesListed, sizeAt, bytesFrom}
 use Rattle.sample_tables.specs.Tables.{hasForm}
 use Rattle.sample_tables.specs.Times.{timedTo}
-use Rattle.mdat.specs.Rules.{lies, chunkIn, chunksIn}
+use Rattle.mdat.specs.Payloads.{mdats, inBox, past, resolve, inAt}
+use Rattle.mdat.specs.Rules.{chunkIn, chunksIn}
 use Rattle.entry_heads.specs.Heads.{boxHeader, commonHead, audioHead, visualStart, visualHead, headSize, nameIn, begins, headRule}
 use Rattle.entry_heads.specs.Kinds.{kindOf, handlerOf}
 use Rattle.entry_rules.specs.Decoders.{boxRule, strayModes, periodRule, framesRule, damrRule, d263Rule, recordRule}
 use Rattle.entry_rules.specs.Entries.{trackRule, esdsRule, avcRule, insideRule, ruleAs, entryRule}
 use Rattle.rule.specs.Judge.{judgeList, judgeBox, judgeIn}
 use Rattle.rule.specs.Verdict.{sooner, unless}
-use Rattle.rule_shape.specs.Three.{needed, exactly, first, besides, shape}
-use Rattle.rule_lists.specs.Forms.{listForm, formIn}
-use Rattle.rule_lists.specs.Totals.{follow, brokenAt, entriesOf, entries, overMost}
-use Rattle.rule_lists.specs.Urls.{isUrl}
+use Rattle.rule_shape.specs.Shape.{needed, exactly, first, besides, shape}
+use Rattle.movie.specs.Ways.{follow, placeAlong}
+use Rattle.movie.specs.Movie.{references, handler, scale}
+use Rattle.movie.specs.Stsds.{stsdsFrom}
+use Rattle.rule_lists.specs.Five.{listForm, formIn, passing}
+use Rattle.rule_lists.specs.Nine.{isUrl}
 use Rattle.rule_headers.specs.Forms.{brandsForm, headForm, handlerForm, ifBox, form}
 use Rattle.rule_headers.specs.Four.{tracksIn}
 use Rattle.rule_headers.specs.Identities.{identity, fresh, tkhdPlace, freshTo}
 use Rattle.rule_tracks.specs.Eight.{eightHolds, eightAt}
 use Rattle.rule_tracks.specs.Seven.{sevenHolds, sevenIn}
-use Rattle.rule_tracks.specs.Six.{tableFine, tableIn}
-use Rattle.rule_entries.specs.Ten.{aroundIn, stsdStart, meets, entriesFrom, tenAt}
-use Rattle.judge.specs.One.{oneIn}
+use Rattle.rule_tracks.specs.Six.{tableFine, tableIn, sixHolds}
+use Rattle.rule_entries.specs.Ten.{aroundOf, meets, entriesJudged, stsdsJudged, tenAt}
 use Rattle.judge.specs.Judgement.{unlessBroken, judgedFrom, judged}
 use Rattle.promises.specs.Example.{kinds, numbers}
 
 pub every-kind : numbers kinds ≡ 0 ∷ 0 ∷ 0 ∷ 0 ∷ 0 ∷ 0 ∷ 0 ∷ 0 ∷ []
-unfolding isEq isLt isLe every oneIf bytesOn bytes word same sumTo allTo ifEq ifLt ifLe header write whole boxes total after parent kindIn tilingOf meant count nth placeBy placeIn startIn samplesIn firstSample chunkAt extentOf descriptionOf emptyTogether tablesAgree rises runFine runsFine runAmong runOf sizesListed sizeAt bytesFrom hasForm timedTo lies chunkIn chunksIn boxHeader commonHead audioHead visualStart visualHead headSize nameIn begins headRule kindOf handlerOf boxRule strayModes periodRule framesRule damrRule d263Rule recordRule trackRule esdsRule avcRule insideRule ruleAs entryRule judgeList judgeBox judgeIn sooner unless needed exactly first besides shape listForm formIn follow brokenAt entriesOf entries overMost isUrl brandsForm headForm handlerForm ifBox form tracksIn identity fresh tkhdPlace freshTo eightHolds eightAt sevenHolds sevenIn tableFine tableIn aroundIn stsdStart meets entriesFrom tenAt oneIn unlessBroken judgedFrom judged
+unfolding isEq isLt isLe every oneIf bytesOn bytes word same sumTo allTo ifEq ifLt ifLe header write whole boxes total after parent kindIn tilingOf meant count nth placeBy placeIn startIn samplesIn firstSample chunkAt extentOf descriptionOf emptyTogether tablesAgree rises runFine runsFine runAmong runOf sizesListed sizeAt bytesFrom hasForm timedTo mdats inBox past resolve inAt chunkIn chunksIn boxHeader commonHead audioHead visualStart visualHead headSize nameIn begins headRule kindOf handlerOf boxRule strayModes periodRule framesRule damrRule d263Rule recordRule trackRule esdsRule avcRule insideRule ruleAs entryRule judgeList judgeBox judgeIn sooner unless needed exactly first besides shape listForm formIn follow isUrl brandsForm headForm handlerForm ifBox form tracksIn identity fresh tkhdPlace freshTo eightHolds eightAt sevenHolds sevenIn tableFine tableIn sixHolds meets tenAt unlessBroken judgedFrom judged placeAlong references handler scale stsdsFrom passing aroundOf entriesJudged stsdsJudged
 every-kind = refl
