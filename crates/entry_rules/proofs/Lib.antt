@@ -1,6 +1,1 @@
-pub mod Judging
-pub mod Speech
-pub mod Picture
-pub mod Replacing
-pub mod Keeping
-pub mod Kept
+pub mod Modes
