@@ -15,7 +15,7 @@ use Rattle.wire.proofs.Clauses.{eq-is, le-is, is-le, clause, another}
 use Rattle.wire.proofs.Numbers.{word-front}
 use Rattle.wire.proofs.Putting.{grow}
 use Rattle.entry_heads.specs.Kinds.{S263Kind, handlerOf}
-use Rattle.entry_heads.specs.Heads.{boxHeader, commonHead, audioHead, visualStart, visualHead, AUDIO, VISUAL, headSize, commonRule, audioRule, nameRule, visualRule, headRule}
+use Rattle.entry_heads.specs.Heads.{boxHeader, commonHead, audioHead, visualStart, visualHead, COMMON, AUDIO, VISUAL, headSize, commonRule, audioRule, nameRule, visualRule, headRule}
 
 -- the front of a part, a box's header longer
 pub grow-header : (xs : List ℕ) → Bytes xs → {p : List ℕ} (at size code : ℕ) → at + 8 ≤ length xs → word 4 xs at ≡ size → word 4 xs (at + 4) ≡ code → take at xs ≡ p → take (at + 8) xs ≡ p ++ boxHeader size code
@@ -64,13 +64,17 @@ abbrev pub Alike : ℕ → List ℕ → List ℕ → Type 0
 Alike n xs ys = (w k : ℕ) → 4 + k + w ≤ n → word w ys (4 + k) ≡ word w xs (4 + k)
 
 module _ (xs ys : List ℕ) where
-  pub audio-alike : 36 ≤ length ys → Alike 36 xs ys → audioRule xs ≡ true → audioRule ys ≡ true
+  common-alike : 16 ≤ length ys → Alike 16 xs ys → commonRule xs ≡ true → commonRule ys ≡ true
+  unfolding commonRule
+  common-alike l e h = rw (e 6 4 (omega arith)) (another _ _ _ (is-le _ _ l) h)
+
+  audio-alike : 36 ≤ length ys → Alike 36 xs ys → audioRule xs ≡ true → audioRule ys ≡ true
   unfolding audioRule
   audio-alike l e h =
       rw (e 6 4 (omega arith), e 8 12 (omega arith), e 2 20 (omega arith), e 2 22 (omega arith), e 4 24 (omega arith), e 2 30 (omega arith))
       (another _ _ _ (is-le _ _ l) h)
 
-  pub visual-alike : (kind : ℕ) → 86 ≤ length ys → Alike 86 xs ys → visualRule kind xs ≡ true → visualRule kind ys ≡ true
+  visual-alike : (kind : ℕ) → 86 ≤ length ys → Alike 86 xs ys → visualRule kind xs ≡ true → visualRule kind ys ≡ true
   unfolding visualRule nameRule
   visual-alike kind l e h =
       rw (
@@ -100,20 +104,49 @@ module _ (xs : List ℕ) (size code reference : ℕ) where
 
 -- ---- by the handler of a kind
 
-module _ (kind : ℕ) (h : handlerOf kind ≡ SOUN) where
-  pub audio-size : headSize kind ≡ AUDIO
-  unfolding headSize
-  audio-size = sym (eq-yea _ _ _ _ _ h refl)
+module _ (kind : ℕ) where
+  module _ (h : handlerOf kind ≡ SOUN) where
+    pub audio-size : headSize kind ≡ AUDIO
+    unfolding headSize
+    audio-size = sym (eq-yea _ _ _ _ _ h refl)
 
-  pub audio-rule : (xs : List ℕ) → headRule kind xs ≡ audioRule xs
-  unfolding headRule
-  audio-rule xs = sym (eq-yea _ _ _ _ _ h refl)
+    pub audio-rule : (xs : List ℕ) → headRule kind xs ≡ audioRule xs
+    unfolding headRule
+    audio-rule xs = sym (eq-yea _ _ _ _ _ h refl)
 
-module _ (kind : ℕ) (h : handlerOf kind ≡ VIDE) where
-  pub visual-size : headSize kind ≡ VISUAL
-  unfolding headSize
-  visual-size = sym (eq-nay _ _ _ _ _ (λ e. omega arith) (eq-yea _ _ _ _ _ h refl))
+  module _ (h : handlerOf kind ≡ VIDE) where
+    pub visual-size : headSize kind ≡ VISUAL
+    unfolding headSize
+    visual-size = sym (eq-nay _ _ _ _ _ (λ e. omega arith) (eq-yea _ _ _ _ _ h refl))
 
-  pub visual-rule : (xs : List ℕ) → headRule kind xs ≡ visualRule kind xs
-  unfolding headRule
-  visual-rule xs = sym (eq-nay _ _ _ _ _ (λ e. omega arith) (eq-yea _ _ _ _ _ h refl))
+    pub visual-rule : (xs : List ℕ) → headRule kind xs ≡ visualRule kind xs
+    unfolding headRule
+    visual-rule xs = sym (eq-nay _ _ _ _ _ (λ e. omega arith) (eq-yea _ _ _ _ _ h refl))
+
+  module _ (h : handlerOf kind ≡ SOUN → ⊥) (g : handlerOf kind ≡ VIDE → ⊥) where
+    common-size : headSize kind ≡ COMMON
+    unfolding headSize
+    common-size = sym (eq-nay _ _ _ _ _ h (eq-nay _ _ _ _ _ g refl))
+
+    common-rule : (xs : List ℕ) → headRule kind xs ≡ commonRule xs
+    unfolding headRule
+    common-rule xs = sym (eq-nay _ _ _ _ _ h (eq-nay _ _ _ _ _ g refl))
+
+  -- the head lies inside
+  pub head-inside : (xs : List ℕ) → headRule kind xs ≡ true → headSize kind ≤ length xs
+  unfolding audioRule visualRule commonRule
+  head-inside xs r =
+      eq-or (handlerOf kind) SOUN (λ h. rw (audio-size h) (le-is _ _ (clause 0 _ (sym (audio-rule h xs) ∙ r))))
+      (λ h.
+      eq-or (handlerOf kind) VIDE (λ g. rw (visual-size g) (le-is _ _ (clause 0 _ (sym (visual-rule g xs) ∙ r))))
+      (λ g. rw (common-size h g) (le-is _ _ (clause 0 _ (sym (common-rule h g xs) ∙ r)))))
+
+  -- what stands in it decides
+  pub head-alike : (xs ys : List ℕ) → headSize kind ≤ length ys → Alike (headSize kind) xs ys → headRule kind xs ≡ true → headRule kind ys ≡ true
+  head-alike xs ys l e r =
+      eq-or (handlerOf kind) SOUN
+      (λ h. audio-rule h ys ∙ audio-alike xs ys (rw (audio-size h) at l) (rw (audio-size h) at e) (sym (audio-rule h xs) ∙ r))
+      (λ h.
+      eq-or (handlerOf kind) VIDE
+      (λ g. visual-rule g ys ∙ visual-alike xs ys kind (rw (visual-size g) at l) (rw (visual-size g) at e) (sym (visual-rule g xs) ∙ r))
+      (λ g. common-rule h g ys ∙ common-alike xs ys (rw (common-size h g) at l) (rw (common-size h g) at e) (sym (common-rule h g xs) ∙ r)))

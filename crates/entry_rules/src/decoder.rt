@@ -94,7 +94,10 @@ fn rated_rule(part: &[u8]) -> usize
     if part.len() != 31 {
         return 0;
     }
-    box_rule(codes::BITR, lend::rest(part, 15))
+    if box_rule(codes::BITR, lend::rest(part, 15)) == 0 {
+        return 0;
+    }
+    1
 }
 
 // Whether a part is a `d263`.

@@ -2,6 +2,7 @@ use borrow.Author.Needs.{needs}
 use Rattle.entry_rules.specs.Decoders.{damrRule}
 use Rattle.wire.proofs.Clauses.{is-eq, not-eq, fails, holds, nay, asked-yea, asked-nay, answer, decides}
 use Rattle.wire.proofs.Numbers.{word-byte}
+use mathlib.Core.Path.{_∙_}
 use native.Mathlib.Omega.{arith}
 use Rattle.entry_rules.proofs.decoder.damr_rule.Statement.{statement}
 use Rattle.entry_rules.proofs.decoder.damr_rule.Tie as tie

@@ -2,7 +2,7 @@ use borrow.Author.Needs.{needs}
 use Rattle.entry_rules.specs.Decoders.{modesRule}
 use Rattle.entry_rules.proofs.Modes.{modes-is}
 use Rattle.wire.proofs.Clauses.{is-eq, not-eq, yea, nay}
-use mathlib.Core.Path.{sym}
+use mathlib.Core.Path.{sym, _∙_}
 use native.Mathlib.Omega.{arith}
 use Rattle.entry_rules.proofs.decoder.modes_rule.Statement.{statement}
 use Rattle.entry_rules.proofs.decoder.modes_rule.Tie as tie

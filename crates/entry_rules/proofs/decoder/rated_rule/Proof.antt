@@ -1,6 +1,6 @@
 use borrow.Author.Needs.{needs}
 use Rattle.entry_rules.specs.Decoders.{ratedRule}
-use Rattle.wire.proofs.Clauses.{is-eq, not-eq, fails, yea, nay, one, lacks, none}
+use Rattle.wire.proofs.Clauses.{is-eq, not-eq, fails, holds, done, yea, nay, was-yea, was-nay, one, lacks, none}
 use mathlib.Core.Path.{sym}
 use native.Mathlib.Omega.{arith}
 use Rattle.entry_rules.proofs.decoder.rated_rule.Statement.{statement}
@@ -13,4 +13,5 @@ rated-rule-spec = tie.close (tie.spec
     (λ c. nay _ (lacks _ _ (not-eq _ _ (λ e. omega arith)) (lacks _ _ (sym (fails 0 _ (not-eq _ _ (λ e. omega arith)))) none)))
     (λ c κs. search needs)
     (λ c κs. search needs)
-    (λ c. ?))
+    (λ c. nay _ (lacks _ _ (not-eq _ _ (λ e. omega arith)) (lacks _ _ (sym (fails 1 _ (was-nay _ _ (c .if3 .taken) (cc)))) none)))
+    (λ c. yea _ (one 1 _ (sym (holds _ _ (is-eq _ _ (omega arith)) (holds _ _ (was-yea _ _ (c .if3 .left) (cc)) done))))))

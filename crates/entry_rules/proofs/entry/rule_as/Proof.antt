@@ -1,6 +1,7 @@
 use borrow.Author.Needs.{needs}
 use Rattle.entry_rules.specs.Entries.{ruleAs}
 use Rattle.wire.proofs.Clauses.{is-eq, not-eq, fails, holds, nay, asked-yea, asked-nay, answer, decides}
+use mathlib.Core.Path.{_∙_}
 use native.Mathlib.Omega.{arith}
 use Rattle.entry_rules.proofs.entry.rule_as.Statement.{statement}
 use Rattle.entry_rules.proofs.entry.rule_as.Tie as tie
