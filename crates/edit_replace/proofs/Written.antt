@@ -56,7 +56,7 @@ module _ (xs : List ℕ) (i : ℕ) (new : List ℕ) {moov : List ℕ} (e : moov 
       let u : In t n ≡ spotIn 0 (movie xs) (i - 1) = sym f ∙ q ∙ ap (λ (m : List ℕ). spotIn 0 (boxes m) (i - 1)) e in
       rw (← u, ← g, ← h)
 
-  pub spot-none : r ≡ Past → {kind : ℕ} → kind ≡ kindAt xs i → recordRule kind FRAMES new ≡ 1 → ⊥
+  pub spot-none : r ≡ Past → {kind : ℕ} → kind ≡ kindAt xs i → recordRule kind FRAMES new ≡ true → ⊥
   spot-none f {kind} g h =
       let m : length (entries xs) ≤ i - 1 = named-none xs (i - 1) _ (spot-past xs e (i - 1) r s f) refl in
       omega (arith, kind-none xs i m, record-short kind FRAMES new h .0)

@@ -18,7 +18,7 @@ use Rattle.movie.specs.declared.entry.Spot.the-variants.{In, Past}
 use Rattle.movie.specs.Movie.{movie}
 use Rattle.movie.specs.Entries.{entries}
 use Rattle.movie.specs.Named.{spotIn, bytesAt}
-use Rattle.entry_heads.specs.Kinds.{kindOf}
+use Rattle.entry_heads.specs.Kinds.{SamrKind, SawbKind, S263Kind, kindOf}
 use Rattle.entry_heads.specs.Heads.{headSize}
 use Rattle.entry_rules.specs.Entries.{FRAMES}
 use Rattle.entry_rules.specs.Decoders.{recordRule}
@@ -37,7 +37,7 @@ kindAt xs i = ifEq i 0 0 (kindOf (word 4 (bytesAt (i - 1) (entries xs)) 4))
 
 -- the code of the record of a kind, and 0 for a kind that isn't editable
 unfoldable pub recordCode : ℕ → ℕ
-recordCode kind = ifEq kind 3 DAMR (ifEq kind 4 DAMR (ifEq kind 5 D263 0))
+recordCode kind = ifEq kind SamrKind DAMR (ifEq kind SawbKind DAMR (ifEq kind S263Kind D263 0))
 
 -- ---- its meaning
 
@@ -77,7 +77,7 @@ settledAnswer xs new out = pick (editable xs) (roomAnswer new out) (Refused 23 0
 unfoldable pub takenAnswer : List ℕ → ℕ → List ℕ → List ℕ → Answer
 takenAnswer xs i new out =
     pick (takes (kindAt xs i) new)
-    (ifEq (recordRule (kindAt xs i) FRAMES new) 1 (settledAnswer xs (replaceOf xs i new) out) (Refused 21 0))
+    (pick (recordRule (kindAt xs i) FRAMES new) (settledAnswer xs (replaceOf xs i new) out) (Refused 21 0))
     (Refused 20 0)
 
 -- "20, 21, 23, 24, 25; all after 1 to 10"

@@ -39,13 +39,13 @@ fn kind_of(file: &[u8], place: usize, size: usize) -> usize
 fn record_code(kind: usize) -> usize
     ensures { λ r. ⌜ r ≡ recordCode kind ⌝ }
 {
-    if kind == 3 {
+    if kind == kind::SAMR {
         return codes::DAMR;
     }
-    if kind == 4 {
+    if kind == kind::SAWB {
         return codes::DAMR;
     }
-    if kind == 5 {
+    if kind == kind::S263 {
         return codes::D263;
     }
     0

@@ -14,7 +14,7 @@ use Rattle.wire.proofs.Tests.{eq-yea, eq-nay, eq-or}
 use Rattle.wire.proofs.Clauses.{eq-is, le-is, is-le, clause, another}
 use Rattle.wire.proofs.Numbers.{word-front}
 use Rattle.wire.proofs.Putting.{grow}
-use Rattle.entry_heads.specs.Kinds.{S263Kind, handlerOf}
+use Rattle.entry_heads.specs.Kinds.{S263Kind, Avc1Kind, handlerOf}
 use Rattle.entry_heads.specs.Heads.{boxHeader, commonHead, audioHead, visualStart, visualHead, COMMON, AUDIO, VISUAL, headSize, commonRule, audioRule, nameRule, visualRule, headRule}
 
 -- the front of a part, a box's header longer
@@ -56,6 +56,11 @@ module _ (xs : List ℕ) (b : Bytes xs) where
       (grow xs b 34 2 _ (omega arith) refl
       (grow xs b 32 2 _ (omega arith) refl
       (grow xs b 16 16 0 (omega arith) (eq-is _ _ (clause 2 _ h)) (common-begins (omega arith) (eq-is _ _ (clause 1 _ h))))))))))))
+
+-- the name of any visual entry but an `avc1`
+pub name-zero : (kind : ℕ) (xs : List ℕ) → (kind ≡ Avc1Kind → ⊥) → visualRule kind xs ≡ true → word 32 xs 50 ≡ 0
+unfolding visualRule nameRule
+name-zero kind xs n h = eq-is _ _ (eq-nay _ _ _ _ _ n refl ∙ clause 7 _ h)
 
 -- ---- the rule of a head asks for what stands in it alone
 

@@ -57,12 +57,17 @@ unfolding trackRule scaleRule
 around-same (Track scale handler references) kind xs ys p q = rw (p, q)
 around-same Alone kind xs ys p q = refl
 
+-- the head of an entry that meets its rule lies inside
+pub entry-head : (around : Around) (most kind : ℕ) (xs : List ℕ) → kindOf (word 4 xs 4) ≡ kind → entryRule around most xs ≡ true → headSize kind ≤ length xs
+unfolding entryRule
+entry-head around most kind xs k e = head-inside kind xs (rule-met kind around most xs (rw k at e) .head)
+
 pub entry-kept : (around : Around) (most kind : ℕ) (xs ys : List ℕ) → kindOf (word 4 xs 4) ≡ kind → entryRule around most xs ≡ true → recordRule kind most ys ≡ true → entryRule around most (behindHead (headSize kind) xs ys) ≡ true
 unfolding entryRule
 entry-kept around most kind xs ys k e r =
     let m = rule-met kind around most xs (rw k at e) in
     let d = recorded kind most ys r in
-    let i = head-inside kind xs (m .head) in
+    let i = entry-head around most kind xs k e in
     let s : headSize kind + length ys < 4294967296 = omega arith in
     let h : 4 ≤ headSize kind = omega arith in
     let w = new-word (headSize kind) xs ys h i s in

@@ -3,6 +3,7 @@
 use Prim.Native.Nat.{ℕ, _+_, _-_, _≤_, _<_}
 use native.Mathlib.Omega.{arith}
 use mathlib.Core.Path.{_≡_, refl, sym, ap, _∙_}
+use mathlib.Core.Bool.{true}
 use mathlib.Core.List.{List, [], _∷_}
 use mathlib.Core.Logic.{⊎-elim}
 use lib.IntN.{ℤ}
@@ -52,7 +53,7 @@ held-past t (x ∷ l) i e =
     (λ h. let k = held-past (t + meant TRAK (x .code)) l (i - held (x .code) (x .body)) (lt-nay _ _ _ _ _ h refl ∙ e) in omega arith)
 
 -- "Replace decoder record of entry i": one that meets its rule, where the result is not too long
-pub replace-differs : (xs : List ℕ) (i : ℕ) (new : List ℕ) → Bytes xs → Bytes new → Meets xs → recordRule (kindAt xs i) FRAMES new ≡ 1 → length (replaceOf xs i new) ≤ LONGEST → Replaces xs i new (replaceOf xs i new)
+pub replace-differs : (xs : List ℕ) (i : ℕ) (new : List ℕ) → Bytes xs → Bytes new → Meets xs → recordRule (kindAt xs i) FRAMES new ≡ true → length (replaceOf xs i new) ≤ LONGEST → Replaces xs i new (replaceOf xs i new)
 unfolding replaceOf recordReplaced
 replace-differs xs i new w v m r h = go (spotIn 0 (movie xs) (i - 1)) refl (rw settled-length at h)
   where

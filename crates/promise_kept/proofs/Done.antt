@@ -49,13 +49,13 @@ pub shift-passed : (z : ℤ) (xs out : List ℕ) {n : ℕ} → shiftAnswer z xs 
 unfolding shiftAnswer
 shift-passed z xs out e = accepted-meets xs (when-done (judged xs) _ e .0)
 
-pub replace-passed : (xs : List ℕ) (i : ℕ) (new out : List ℕ) {n : ℕ} → replaceAnswer xs i new out ≡ Done n → Meets xs × (recordRule (kindAt xs i) FRAMES new ≡ 1) × (length (replaceOf xs i new) ≤ LONGEST)
+pub replace-passed : (xs : List ℕ) (i : ℕ) (new out : List ℕ) {n : ℕ} → replaceAnswer xs i new out ≡ Done n → Meets xs × (recordRule (kindAt xs i) FRAMES new ≡ true) × (length (replaceOf xs i new) ≤ LONGEST)
 unfolding replaceAnswer takenAnswer settledAnswer
 replace-passed xs i new out e =
     let a = when-done (judged xs) _ e in
     let s = pick (editable xs) (roomAnswer (replaceOf xs i new) out) (Refused 23 0) in
-    let b = pick-done (takes (kindAt xs i) new) (ifEq (recordRule (kindAt xs i) FRAMES new) 1 s (Refused 21 0)) 20 0 (a .1) in
-    let c = equal-done (recordRule (kindAt xs i) FRAMES new) 1 s 21 0 (b .1) in
+    let b = pick-done (takes (kindAt xs i) new) (pick (recordRule (kindAt xs i) FRAMES new) s (Refused 21 0)) 20 0 (a .1) in
+    let c = pick-done (recordRule (kindAt xs i) FRAMES new) s 21 0 (b .1) in
     let d = pick-done (editable xs) (roomAnswer (replaceOf xs i new) out) 23 0 (c .1) in
     (accepted-meets xs (a .0), c .0, room-done (replaceOf xs i new) out (d .1))
 

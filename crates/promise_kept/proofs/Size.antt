@@ -39,8 +39,8 @@ unfolding replaceAnswer takenAnswer settledAnswer roomAnswer
 replace-size xs i new out e =
     let a = when-done (judged xs) _ e in
     let s = pick (editable xs) (ifLt LONGEST (length (replaceOf xs i new)) (Refused 24 0) (inRoom (replaceOf xs i new) out)) (Refused 23 0) in
-    let b = pick-done (takes (kindAt xs i) new) (ifEq (recordRule (kindAt xs i) FRAMES new) 1 s (Refused 21 0)) 20 0 (a .1) in
-    let c = equal-done (recordRule (kindAt xs i) FRAMES new) 1 s 21 0 (b .1) in
+    let b = pick-done (takes (kindAt xs i) new) (pick (recordRule (kindAt xs i) FRAMES new) s (Refused 21 0)) 20 0 (a .1) in
+    let c = pick-done (recordRule (kindAt xs i) FRAMES new) s 21 0 (b .1) in
     let d = pick-done (editable xs) (ifLt LONGEST (length (replaceOf xs i new)) (Refused 24 0) (inRoom (replaceOf xs i new) out)) 23 0 (c .1) in
     lt-or LONGEST (length (replaceOf xs i new))
     (λ h. absurd (refused-not 24 0 _ (lt-yea _ _ _ _ _ h refl ∙ d .1)))

@@ -5,7 +5,6 @@ use mathlib.Core.List.{List, _++_}
 use lib.ListN.{take, drop}
 use Rattle.wire.specs.Tests.{ifEq}
 use Rattle.wire.specs.Numbers.{word}
-use Rattle.wire.specs.Clauses.{isEq}
 use Rattle.codes.specs.Codes.{MDIA, MDHD, HDLR, MINF, DINF, DREF, STBL, STSD}
 use Rattle.boxes.specs.declared.walk.BoxAt.{BoxAt}
 use Rattle.boxes.specs.Box.{Box, header}
@@ -39,7 +38,7 @@ stsdStart l p = p + startIn MINF 0 l + startIn STBL 0 (boxes (find MINF l)) + st
 
 -- an entry, header and all, meets its rule
 unfoldable pub meets : Around → List ℕ → Bool
-meets a xs = isEq (entryRule a FRAMES xs) 1
+meets a xs = entryRule a FRAMES xs
 
 -- the bytes of a box that was found
 abbrev pub bytesOf : List ℕ → BoxAt → List ℕ
