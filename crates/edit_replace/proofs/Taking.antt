@@ -16,7 +16,7 @@ use Rattle.movie.specs.declared.entry.EntryAt.{EntryAt}
 use Rattle.movie.specs.Entries.{entries}
 use Rattle.movie.specs.Named.{EntryIs}
 use Rattle.movie.proofs.Spots.{bytes-at, bytes-none}
-use Rattle.entry_heads.specs.Kinds.{kindOf}
+use Rattle.entry_heads.specs.Kinds.{SamrKind, kindOf}
 use Rattle.entry_rules.specs.Decoders.{recordRule}
 use Rattle.entry_rules.proofs.Kept.{recorded}
 use Rattle.edit_replace.specs.Replace.{kindAt, recordCode, takes}
@@ -49,7 +49,7 @@ module _ (xs : List ℕ) (i : ℕ) where
 -- ---- a record that meets its rule
 
 -- is short, and its kind is editable
-pub record-short : (kind most : ℕ) (new : List ℕ) → recordRule kind most new ≡ true → (3 ≤ kind) × (length new ≤ 31)
+pub record-short : (kind most : ℕ) (new : List ℕ) → recordRule kind most new ≡ true → (SamrKind ≤ kind) × (length new ≤ 31)
 record-short kind most new e = let d = recorded kind most new e in (d .least, d .short)
 
 -- so there is such an entry

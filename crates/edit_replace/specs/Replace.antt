@@ -18,7 +18,7 @@ use Rattle.movie.specs.declared.entry.Spot.the-variants.{In, Past}
 use Rattle.movie.specs.Movie.{movie}
 use Rattle.movie.specs.Entries.{entries}
 use Rattle.movie.specs.Named.{spotIn, bytesAt}
-use Rattle.entry_heads.specs.Kinds.{SamrKind, SawbKind, S263Kind, kindOf}
+use Rattle.entry_heads.specs.Kinds.{OtherKind, SamrKind, SawbKind, S263Kind, kindOf}
 use Rattle.entry_heads.specs.Heads.{headSize}
 use Rattle.entry_rules.specs.Entries.{FRAMES}
 use Rattle.entry_rules.specs.Decoders.{recordRule}
@@ -31,9 +31,9 @@ use Rattle.edit_offsets.specs.Settle.{settled}
 
 -- ---- the entry
 
--- the kind of entry i, and 0 where there is no such entry
+-- the kind of entry i, and that of other codes where there is no such entry
 unfoldable pub kindAt : List ℕ → ℕ → ℕ
-kindAt xs i = ifEq i 0 0 (kindOf (word 4 (bytesAt (i - 1) (entries xs)) 4))
+kindAt xs i = ifEq i 0 OtherKind (kindOf (word 4 (bytesAt (i - 1) (entries xs)) 4))
 
 -- the code of the record of a kind, and 0 for a kind that isn't editable
 unfoldable pub recordCode : ℕ → ℕ

@@ -18,11 +18,11 @@ pub fn kind_at(file: &[u8], i: usize) -> usize
     ensures { λ r. ⌜ r ≡ kindAt (now (file .entry)) i ⌝ }
 {
     if i == 0 {
-        return 0;
+        return kind::OTHER;
     }
     match entry::entry(file, i - 1) {
         Named::At(e) => kind_of(file, e.place, e.size),
-        Named::Missing => 0,
+        Named::Missing => kind::OTHER,
     }
 }
 

@@ -8,6 +8,7 @@ use lib.ListN.{length, drop}
 use Rattle.wire.specs.Numbers.{word}
 use Rattle.wire.proofs.Tests.{eq-nay}
 use Rattle.wire.proofs.Clauses.{is-eq, eq-is, holds, done, clause}
+use Rattle.entry_heads.specs.Kinds.{SamrKind, S263Kind}
 use Rattle.entry_heads.specs.Heads.{headSize, headRule}
 use Rattle.entry_rules.specs.declared.entry.Around.{Around}
 use Rattle.entry_rules.specs.Decoders.{boxRule, recordRule}
@@ -30,7 +31,7 @@ module _ (kind : ℕ) (around : Around) (most : ℕ) (xs : List ℕ) where
   rule-is m = sym (holds _ _ (is-eq _ _ (m .size)) (holds _ _ (m .head) (holds _ _ (m .fits) (holds _ _ (m .inside) done))))
 
 -- what follows the head of `samr`, `sawb` and `s263` is a decoder record
-pub inside-record : (kind most : ℕ) (xs : List ℕ) → 3 ≤ kind → kind ≤ 5 → insideRule kind most xs ≡ recordRule kind most xs
+pub inside-record : (kind most : ℕ) (xs : List ℕ) → SamrKind ≤ kind → kind ≤ S263Kind → insideRule kind most xs ≡ recordRule kind most xs
 unfolding insideRule
 inside-record kind most xs h k =
     sym

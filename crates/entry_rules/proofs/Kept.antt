@@ -23,8 +23,8 @@ use Rattle.entry_rules.proofs.Replacing.{new-length, new-rest, new-size
 -- ---- the kinds that have a decoder record
 
 pub record Recorded (kind : ℕ) (ys : List ℕ) : Type 0 where
-  pub least : 3 ≤ kind
-  pub most : kind ≤ 5
+  pub least : SamrKind ≤ kind
+  pub most : kind ≤ S263Kind
   pub head : 36 ≤ headSize kind
   pub room : headSize kind ≤ 86
   pub short : length ys ≤ 31
@@ -47,7 +47,7 @@ recorded kind most ys e =
     (eq-ways kind SawbKind _ _ _ (u .1)))
     (eq-ways kind SamrKind _ _ _ e)
   where
-    told : (n : ℕ) → 3 ≤ n → n ≤ 5 → 36 ≤ headSize n → headSize n ≤ 86 → kind ≡ n → length ys ≤ 31 → Recorded kind ys
+    told : (n : ℕ) → SamrKind ≤ n → n ≤ S263Kind → 36 ≤ headSize n → headSize n ≤ 86 → kind ≡ n → length ys ≤ 31 → Recorded kind ys
     told n a b c d q l = rw q (record { least = a; most = b; head = c; room = d; short = l })
 
 -- ---- what stands around an entry reads only its data reference and its TimeScale
