@@ -33,7 +33,8 @@ some-read r a n e g = refused-not 21 0 n (sym (ap (λ (s : Record). whenRead s a
 
 module _ (r : Record) where
   -- a record that meets the rule is refused for the room alone
-  pub rule-room : (out : List ℕ) → fieldsRule FRAMES r ≡ true → (writtenAnswer (writtenOf FRAMES r out) ≡ inRoom (textOf r) out) × (outOf FRAMES r out ≡ outBy (inRoom (textOf r) out) (textOf r) out)
+  pub rule-room : (out : List ℕ) → fieldsRule FRAMES r ≡ true
+      → (writtenAnswer (writtenOf FRAMES r out) ≡ inRoom (textOf r) out) × (outOf FRAMES r out ≡ outBy (inRoom (textOf r) out) (textOf r) out)
   unfolding writtenOf outOf inRoom ifLt outBy
   rule-room out e = (rw e (answers (ltb (length out) (length (textOf r)))), rw e (outs (ltb (length out) (length (textOf r)))))
     where

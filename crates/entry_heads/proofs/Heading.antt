@@ -18,7 +18,8 @@ use Rattle.entry_heads.specs.Kinds.{S263Kind, Avc1Kind, handlerOf}
 use Rattle.entry_heads.specs.Heads.{boxHeader, commonHead, audioHead, visualStart, visualHead, COMMON, AUDIO, VISUAL, headSize, commonRule, audioRule, nameRule, visualRule, headRule}
 
 -- the front of a part, a box's header longer
-pub grow-header : (xs : List ℕ) → Bytes xs → {p : List ℕ} (at size code : ℕ) → at + 8 ≤ length xs → word 4 xs at ≡ size → word 4 xs (at + 4) ≡ code → take at xs ≡ p → take (at + 8) xs ≡ p ++ boxHeader size code
+pub grow-header : (xs : List ℕ) → Bytes xs → {p : List ℕ} (at size code : ℕ) → at + 8 ≤ length xs → word 4 xs at ≡ size → word 4 xs (at + 4) ≡ code
+    → take at xs ≡ p → take (at + 8) xs ≡ p ++ boxHeader size code
 unfolding boxHeader
 grow-header xs b {p} at size code h e f t =
     let s : at + 8 ≡ at + 4 + 4 = omega arith in
@@ -42,7 +43,8 @@ module _ (xs : List ℕ) (b : Bytes xs) where
       (grow xs b 24 2 2 (omega arith) (eq-is _ _ (clause 3 _ h))
       (grow xs b 16 8 0 (omega arith) (eq-is _ _ (clause 2 _ h)) (common-begins (omega arith) (eq-is _ _ (clause 1 _ h))))))))
 
-  pub visual-begins : (kind : ℕ) → visualRule kind xs ≡ true → take VISUAL xs ≡ visualHead (word 4 xs 0) (word 4 xs 4) (word 2 xs 14) (word 2 xs 32) (word 2 xs 34) (bytes 32 (word 32 xs 50))
+  pub visual-begins : (kind : ℕ) → visualRule kind xs ≡ true
+      → take VISUAL xs ≡ visualHead (word 4 xs 0) (word 4 xs 4) (word 2 xs 14) (word 2 xs 32) (word 2 xs 34) (bytes 32 (word 32 xs 50))
   unfolding visualRule visualHead visualStart
   visual-begins kind h =
       let l : 86 ≤ length xs = le-is _ _ (clause 0 _ h) in

@@ -43,7 +43,8 @@ module _ (most : ℕ) (r : Record) (out : List ℕ) where
     unfolding writtenOf outOf
     write-short l = (rw met (lt-yea _ _ _ _ _ l refl), rw met (lt-yea _ _ _ _ _ l refl))
 
-    pub write-done : {n : ℕ} {after : List ℕ} → length (textOf r) ≤ length out → Put (textOf r) out 0 n after → (Done n ≡ writtenOf most r out) × (after ≡ outOf most r out)
+    pub write-done : {n : ℕ} {after : List ℕ} → length (textOf r) ≤ length out → Put (textOf r) out 0 n after
+        → (Done n ≡ writtenOf most r out) × (after ≡ outOf most r out)
     unfolding writtenOf outOf
     write-done {n} l p =
         let s : n ≡ length (textOf r) = omega (arith, p .next) in

@@ -37,7 +37,8 @@ module _ (most : ℕ) (xs : List ℕ) (b : Bytes xs) where
       (λ p. let g = rated-again xs b k p in record { rule = g .0; text = g .1 })
       (picture-met most xs Alone e)
 
-  kind-again : (kind : ℕ) (r : Record) → kindOf (word 4 xs 4) ≡ kind → ruleAs kind Alone most xs ≡ true → recordIn kind xs ≡ r → (r ≡ Broken → ⊥) → Again most xs r
+  kind-again : (kind : ℕ) (r : Record) → kindOf (word 4 xs 4) ≡ kind → ruleAs kind Alone most xs ≡ true → recordIn kind xs ≡ r → (r ≡ Broken → ⊥)
+      → Again most xs r
   unfolding recordIn
   kind-again kind r k e h n =
       ⊎-elim (λ w. subst (Again most xs) (w .1) (speech-again kind (inl (w .0)) k e))

@@ -52,7 +52,8 @@ recorded kind most ys e =
 
 -- ---- what stands around an entry reads only its data reference and its TimeScale
 
-around-same : (around : Around) (kind : ℕ) (xs ys : List ℕ) → word 2 ys 14 ≡ word 2 xs 14 → word 2 ys 32 ≡ word 2 xs 32 → aroundRule around kind ys ≡ aroundRule around kind xs
+around-same : (around : Around) (kind : ℕ) (xs ys : List ℕ) → word 2 ys 14 ≡ word 2 xs 14 → word 2 ys 32 ≡ word 2 xs 32
+    → aroundRule around kind ys ≡ aroundRule around kind xs
 unfolding trackRule scaleRule
 around-same (Track scale handler references) kind xs ys p q = rw (p, q)
 around-same Alone kind xs ys p q = refl
@@ -62,7 +63,8 @@ pub entry-head : (around : Around) (most kind : ℕ) (xs : List ℕ) → kindOf 
 unfolding entryRule
 entry-head around most kind xs k e = head-inside kind xs (rule-met kind around most xs (rw k at e) .head)
 
-pub entry-kept : (around : Around) (most kind : ℕ) (xs ys : List ℕ) → kindOf (word 4 xs 4) ≡ kind → entryRule around most xs ≡ true → recordRule kind most ys ≡ true → entryRule around most (behindHead (headSize kind) xs ys) ≡ true
+pub entry-kept : (around : Around) (most kind : ℕ) (xs ys : List ℕ) → kindOf (word 4 xs 4) ≡ kind → entryRule around most xs ≡ true
+    → recordRule kind most ys ≡ true → entryRule around most (behindHead (headSize kind) xs ys) ≡ true
 unfolding entryRule
 entry-kept around most kind xs ys k e r =
     let m = rule-met kind around most xs (rw k at e) in

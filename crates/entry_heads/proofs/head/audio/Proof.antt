@@ -1,4 +1,4 @@
--- `head::audio` answers its rule: a test that fails is a clause that fails.
+-- `head::audio` meets its contract: a test that fails is a clause that fails. Assumes nothing.
 use borrow.Author.Needs.{needs}
 use Rattle.entry_heads.specs.Heads.{audioRule}
 use Rattle.wire.proofs.Clauses.{is-eq, not-eq, is-le, not-le, fails, holds, done, yea, nay, asked-yea, asked-nay}
@@ -22,4 +22,6 @@ audio-spec = tie.close (tie.spec
     (λ c. nay _ (fails 5 _ (not-eq _ _ (λ e. omega arith))))
     (λ c κs. search needs)
     (λ c. nay _ (fails 6 _ (not-eq _ _ (λ e. omega arith))))
-    (λ c. yea _ (holds _ _ (is-le _ _ (omega arith)) (holds _ _ (asked-yea _ (λ e. omega arith)) (holds _ _ (asked-yea _ (λ e. omega arith)) (holds _ _ (is-eq _ _ (omega arith)) (holds _ _ (is-eq _ _ (omega arith)) (holds _ _ (is-eq _ _ (omega arith)) (holds _ _ (is-eq _ _ (omega arith)) done)))))))))
+    (λ c. yea _ (holds _ _ (is-le _ _ (omega arith)) (holds _ _ (asked-yea _ (λ e. omega arith)) (holds _ _ (asked-yea _ (λ e. omega arith))
+    (holds _ _ (is-eq _ _ (omega arith)) (holds _ _ (is-eq _ _ (omega arith)) (holds _ _ (is-eq _ _ (omega arith))
+    (holds _ _ (is-eq _ _ (omega arith)) done)))))))))

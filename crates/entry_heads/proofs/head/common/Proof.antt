@@ -1,4 +1,4 @@
--- `head::common` answers its rule: a test that fails is a clause that fails.
+-- `head::common` meets its contract: a test that fails is a clause that fails. Assumes nothing.
 use borrow.Author.Needs.{needs}
 use Rattle.entry_heads.specs.Heads.{commonRule}
 use Rattle.wire.proofs.Clauses.{is-eq, not-eq, is-le, not-le, fails, holds, done, yea, nay, asked-yea, asked-nay}

@@ -1,3 +1,4 @@
+-- `head::name` meets its contract. Assumes nothing.
 use borrow.Author.Needs.{needs}
 use Rattle.entry_heads.specs.Heads.{nameRule}
 use Rattle.wire.proofs.Clauses.{yea, answer}

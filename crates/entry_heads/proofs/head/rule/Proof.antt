@@ -1,3 +1,4 @@
+-- `head::rule` meets its contract. Assumes nothing.
 use borrow.Author.Needs.{needs}
 use Rattle.entry_heads.specs.Heads.{headRule}
 use Rattle.wire.proofs.Clauses.{answer}

@@ -1,3 +1,4 @@
+-- `field::amr_rule` meets its contract. Assumes nothing.
 use borrow.Author.Needs.{needs}
 use Rattle.entry_records.specs.Fields.{amrRule}
 use Rattle.wire.proofs.Clauses.{is-lt, not-lt, fails, holds, nay, asked-yea, asked-nay, answer, decides}
@@ -18,4 +19,6 @@ amr-rule-spec = tie.close (tie.spec
     (λ c. nay _ (fails 6 _ (not-lt _ _ (omega arith))))
     (λ c. nay _ (fails 7 _ (not-lt _ _ (omega arith))))
     (λ c κs. search needs)
-    (λ c. answer _ _ (c .frames-rule .ensures) (holds _ _ (asked-yea _ (λ e. omega arith)) (holds _ _ (is-lt _ _ (omega arith)) (holds _ _ (is-lt _ _ (omega arith)) (holds _ _ (is-lt _ _ (omega arith)) (holds _ _ (is-lt _ _ (omega arith)) (holds _ _ (is-lt _ _ (omega arith)) (holds _ _ (is-lt _ _ (omega arith)) (holds _ _ (is-lt _ _ (omega arith)) (decides _)))))))))))
+    (λ c. answer _ _ (c .frames-rule .ensures) (holds _ _ (asked-yea _ (λ e. omega arith)) (holds _ _ (is-lt _ _ (omega arith))
+    (holds _ _ (is-lt _ _ (omega arith)) (holds _ _ (is-lt _ _ (omega arith)) (holds _ _ (is-lt _ _ (omega arith))
+    (holds _ _ (is-lt _ _ (omega arith)) (holds _ _ (is-lt _ _ (omega arith)) (holds _ _ (is-lt _ _ (omega arith)) (decides _)))))))))))

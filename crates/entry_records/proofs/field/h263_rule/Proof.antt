@@ -1,3 +1,4 @@
+-- `field::h263_rule` meets its contract. Assumes nothing.
 use borrow.Author.Needs.{needs}
 use Rattle.entry_records.specs.Fields.{h263Rule}
 use Rattle.wire.proofs.Clauses.{is-lt, not-lt, fails, holds, nay, answer, decides}
@@ -16,4 +17,6 @@ h263-rule-spec = tie.close (tie.spec
     (λ c. nay _ (fails 5 _ (not-lt _ _ (omega arith))))
     (λ c. nay _ (fails 6 _ (not-lt _ _ (omega arith))))
     (λ c κs. search needs)
-    (λ c. answer _ _ (c .rates-rule .ensures) (holds _ _ (is-lt _ _ (omega arith)) (holds _ _ (is-lt _ _ (omega arith)) (holds _ _ (is-lt _ _ (omega arith)) (holds _ _ (is-lt _ _ (omega arith)) (holds _ _ (is-lt _ _ (omega arith)) (holds _ _ (is-lt _ _ (omega arith)) (holds _ _ (is-lt _ _ (omega arith)) (decides _))))))))))
+    (λ c. answer _ _ (c .rates-rule .ensures) (holds _ _ (is-lt _ _ (omega arith)) (holds _ _ (is-lt _ _ (omega arith))
+    (holds _ _ (is-lt _ _ (omega arith)) (holds _ _ (is-lt _ _ (omega arith)) (holds _ _ (is-lt _ _ (omega arith))
+    (holds _ _ (is-lt _ _ (omega arith)) (holds _ _ (is-lt _ _ (omega arith)) (decides _))))))))))

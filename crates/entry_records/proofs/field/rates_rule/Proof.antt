@@ -1,3 +1,4 @@
+-- `field::rates_rule` meets its contract. Assumes nothing.
 use Rattle.entry_records.specs.Fields.{ratesRule}
 use Rattle.wire.proofs.Clauses.{is-eq, not-eq, is-lt, not-lt, fails, holds, done, yea, nay, one, lacks, none}
 use mathlib.Core.Path.{sym}

@@ -1,3 +1,4 @@
+-- `field::rule` meets its contract. Assumes nothing.
 use borrow.Author.Needs.{needs}
 use Rattle.entry_records.specs.Fields.{fieldsRule}
 use Rattle.wire.proofs.Clauses.{nay, answer}

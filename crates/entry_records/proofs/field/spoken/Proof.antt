@@ -1,3 +1,4 @@
+-- `field::spoken` meets its contract. Assumes nothing.
 use Rattle.wire.proofs.Clauses.{is-eq, not-eq, yea, nay, one, lacks, none}
 use native.Mathlib.Omega.{arith}
 use Rattle.entry_records.proofs.field.spoken.Statement.{statement}

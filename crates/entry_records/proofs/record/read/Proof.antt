@@ -1,3 +1,4 @@
+-- `record::read` meets its contract. Assumes nothing.
 use borrow.Author.Needs.{needs}
 use Rattle.entry_records.proofs.Answers.{read-broken, read-done}
 use native.Mathlib.Omega.{arith}

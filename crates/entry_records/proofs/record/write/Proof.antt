@@ -1,3 +1,4 @@
+-- `record::write` meets its contract. Assumes nothing.
 use borrow.Author.Needs.{needs}
 use Rattle.entry_records.proofs.Answers.{write-bad, write-short, write-done}
 use native.Mathlib.Omega.{arith}

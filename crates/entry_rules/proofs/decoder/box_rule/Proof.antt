@@ -1,3 +1,4 @@
+-- `decoder::box_rule` meets its contract. Assumes nothing.
 use borrow.Author.Needs.{needs}
 use Rattle.entry_rules.specs.Decoders.{boxRule}
 use Rattle.wire.proofs.Clauses.{is-eq, not-eq, fails, holds, done, yea, nay}

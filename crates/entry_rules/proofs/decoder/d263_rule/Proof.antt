@@ -1,3 +1,4 @@
+-- `decoder::d263_rule` meets its contract. Assumes nothing.
 use borrow.Author.Needs.{needs}
 use Rattle.entry_rules.specs.Decoders.{d263Rule}
 use Rattle.wire.proofs.Clauses.{fails, holds, nay, asked-yea, asked-nay, answer, decides}

@@ -1,3 +1,4 @@
+-- `decoder::damr_rule` meets its contract. Assumes nothing.
 use borrow.Author.Needs.{needs}
 use Rattle.entry_rules.specs.Decoders.{damrRule}
 use Rattle.wire.proofs.Clauses.{is-eq, not-eq, fails, holds, nay, asked-yea, asked-nay, answer, decides}
@@ -17,4 +18,5 @@ damr-rule-spec = tie.close (tie.spec
     (λ c κs. search needs)
     (λ c κs. search needs)
     (λ c κs. search needs)
-    (λ c. let xs = c .before .before .before .before .before .before .before .before .args .part .now in answer _ _ (c .frames-rule .ensures ∙ cc (word-byte xs 15, word-byte xs 16)) (holds _ _ (asked-yea _ (λ e. omega arith)) (holds _ _ (is-eq _ _ (omega arith)) (decides _)))))
+    (λ c. let xs = c .before .before .before .before .before .before .before .before .args .part .now in answer _ _ (c .frames-rule .ensures ∙ cc (word-byte xs 15, word-byte xs 16))
+    (holds _ _ (asked-yea _ (λ e. omega arith)) (holds _ _ (is-eq _ _ (omega arith)) (decides _)))))

@@ -1,3 +1,4 @@
+-- `decoder::frames_rule` meets its contract. Assumes nothing.
 use borrow.Author.Needs.{needs}
 use Rattle.entry_rules.specs.Decoders.{framesRule}
 use Rattle.wire.proofs.Clauses.{is-le, not-le, fails, holds, nay, asked-yea, asked-nay, answer, decides}
@@ -13,4 +14,5 @@ frames-rule-spec = tie.close (tie.spec
     (λ c. nay _ (fails 1 _ (not-le _ _ (omega arith))))
     (λ c. nay _ (fails 2 _ (not-le _ _ (omega arith))))
     (λ c κs. search needs)
-    (λ c. answer _ _ (c .period-rule .ensures) (holds _ _ (asked-yea _ (λ e. omega arith)) (holds _ _ (is-le _ _ (omega arith)) (holds _ _ (is-le _ _ (omega arith)) (decides _))))))
+    (λ c. answer _ _ (c .period-rule .ensures) (holds _ _ (asked-yea _ (λ e. omega arith)) (holds _ _ (is-le _ _ (omega arith))
+    (holds _ _ (is-le _ _ (omega arith)) (decides _))))))

@@ -1,3 +1,4 @@
+-- `decoder::modes_rule` meets its contract. Assumes nothing.
 use borrow.Author.Needs.{needs}
 use Rattle.entry_rules.specs.Decoders.{modesRule}
 use Rattle.entry_rules.proofs.Modes.{modes-is}

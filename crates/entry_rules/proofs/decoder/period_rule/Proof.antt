@@ -1,3 +1,4 @@
+-- `decoder::period_rule` meets its contract. Assumes nothing.
 use borrow.Author.Needs.{needs}
 use Rattle.entry_rules.specs.Decoders.{periodRule}
 use Rattle.wire.proofs.Clauses.{is-eq, not-eq, yea, nay, one, lacks, none}

@@ -1,3 +1,4 @@
+-- `decoder::rated_rule` meets its contract. Assumes nothing.
 use borrow.Author.Needs.{needs}
 use Rattle.entry_rules.specs.Decoders.{ratedRule}
 use Rattle.wire.proofs.Clauses.{is-eq, not-eq, fails, holds, done, yea, nay, was-yea, was-nay, one, lacks, none}

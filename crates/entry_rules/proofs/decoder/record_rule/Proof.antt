@@ -1,3 +1,4 @@
+-- `decoder::record_rule` meets its contract. Assumes nothing.
 use borrow.Author.Needs.{needs}
 use Rattle.entry_rules.specs.Decoders.{recordRule}
 use Rattle.wire.proofs.Clauses.{nay, answer}

@@ -1,3 +1,4 @@
+-- `entry::around_rule` meets its contract. Assumes nothing.
 use borrow.Author.Needs.{needs}
 use Rattle.entry_rules.specs.Entries.{aroundRule}
 use Rattle.entry_rules.specs.declared.entry.Around.{Around}

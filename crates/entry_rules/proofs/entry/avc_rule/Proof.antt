@@ -1,3 +1,4 @@
+-- `entry::avc_rule` meets its contract. Assumes nothing.
 use borrow.Author.Needs.{needs}
 use Rattle.entry_rules.specs.Entries.{avcRule}
 use Rattle.wire.proofs.Clauses.{is-eq, not-eq, fails, holds, done, yea, nay, asked-yea, asked-nay}

@@ -1,3 +1,4 @@
+-- `entry::esds_rule` meets its contract. Assumes nothing.
 use borrow.Author.Needs.{needs}
 use Rattle.entry_rules.specs.Entries.{esdsRule}
 use Rattle.wire.proofs.Clauses.{is-eq, not-eq, is-le, not-le, fails, holds, done, yea, nay, asked-yea, asked-nay}

@@ -1,3 +1,4 @@
+-- `entry::handler_rule` meets its contract. Assumes nothing.
 use borrow.Author.Needs.{needs}
 use Rattle.entry_rules.specs.Entries.{handlerRule}
 use Rattle.wire.proofs.Clauses.{is-eq, not-eq, yea, nay}

@@ -1,3 +1,4 @@
+-- `entry::inside_rule` meets its contract. Assumes nothing.
 use borrow.Author.Needs.{needs}
 use Rattle.entry_rules.specs.Entries.{insideRule}
 use Rattle.wire.proofs.Clauses.{yea, answer}

@@ -1,3 +1,4 @@
+-- `entry::rule_as` meets its contract. Assumes nothing.
 use borrow.Author.Needs.{needs}
 use Rattle.entry_rules.specs.Entries.{ruleAs}
 use Rattle.wire.proofs.Clauses.{is-eq, not-eq, fails, holds, nay, asked-yea, asked-nay, answer, decides}
@@ -18,4 +19,5 @@ rule-as-spec = tie.close (tie.spec
     (λ c κs. search needs)
     (λ c κs. search needs)
     (λ c κs. search needs)
-    (λ c. answer _ _ (c .inside-rule .ensures ∙ cc) (holds _ _ (is-eq _ _ (omega arith)) (holds _ _ (asked-yea _ (λ e. omega arith)) (holds _ _ (asked-yea _ (λ e. omega arith)) (decides _))))))
+    (λ c. answer _ _ (c .inside-rule .ensures ∙ cc) (holds _ _ (is-eq _ _ (omega arith)) (holds _ _ (asked-yea _ (λ e. omega arith))
+    (holds _ _ (asked-yea _ (λ e. omega arith)) (decides _))))))

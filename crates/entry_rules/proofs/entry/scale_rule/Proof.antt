@@ -1,3 +1,4 @@
+-- `entry::scale_rule` meets its contract. Assumes nothing.
 use borrow.Author.Needs.{needs}
 use Rattle.entry_rules.specs.Entries.{scaleRule}
 use Rattle.wire.proofs.Clauses.{is-eq, not-eq, yea, nay}

@@ -1,3 +1,4 @@
+-- `entry::track_rule` meets its contract. Assumes nothing.
 use borrow.Author.Needs.{needs}
 use Rattle.entry_rules.specs.Entries.{trackRule}
 use Rattle.wire.proofs.Clauses.{is-le, not-le, fails, holds, nay, asked-yea, asked-nay, answer, decides}
@@ -14,4 +15,5 @@ track-rule-spec = tie.close (tie.spec
     (λ c κs. search needs)
     (λ c. nay _ (fails 2 _ (asked-nay _ (omega arith))))
     (λ c κs. search needs)
-    (λ c. answer _ _ (c .scale-rule .ensures) (holds _ _ (is-le _ _ (omega arith)) (holds _ _ (is-le _ _ (omega arith)) (holds _ _ (asked-yea _ (λ e. omega arith)) (decides _))))))
+    (λ c. answer _ _ (c .scale-rule .ensures) (holds _ _ (is-le _ _ (omega arith)) (holds _ _ (is-le _ _ (omega arith))
+    (holds _ _ (asked-yea _ (λ e. omega arith)) (decides _))))))
