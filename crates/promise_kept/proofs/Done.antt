@@ -3,12 +3,11 @@ use Prim.Native.Nat.{ℕ, _≤_}
 use mathlib.Core.Path.{_≡_, refl, _∙_}
 use mathlib.Core.Bool.{Bool, true, false}
 use mathlib.Core.List.{List}
-use mathlib.Core.Logic.{⊎-elim}
 use lib.IntN.{ℤ}
 use lib.ListN.{length}
-use Rattle.wire.specs.Tests.{pick, ifEq}
+use Rattle.wire.specs.Tests.{pick}
 use Rattle.wire.specs.Numbers.{Bytes}
-use Rattle.wire.proofs.Tests.{lt-yea, eq-ways, lt-or}
+use Rattle.wire.proofs.Tests.{lt-yea, lt-or}
 use Rattle.boxes.specs.Containers.{LONGEST}
 use Rattle.entry_rules.specs.Entries.{FRAMES}
 use Rattle.entry_rules.specs.Decoders.{recordRule}
@@ -31,9 +30,6 @@ use Rattle.promise_kept.proofs.Edits.{keeps-move, keeps-shift, keeps-re
 pub pick-done : (t : Bool) (a : Answer) (k p : ℕ) {n : ℕ} → pick t a (Refused k p) ≡ Done n → (t ≡ true) × (a ≡ Done n)
 pick-done true a k p e = (refl, e)
 pick-done false a k p e = absurd (refused-not k p _ e)
-
-pub equal-done : (m r : ℕ) (a : Answer) (k p : ℕ) {n : ℕ} → ifEq m r a (Refused k p) ≡ Done n → (m ≡ r) × (a ≡ Done n)
-equal-done m r a k p e = ⊎-elim (λ w. w) (λ w. absurd (refused-not k p _ (w .1))) (eq-ways _ _ _ _ _ e)
 
 room-done : (new out : List ℕ) {n : ℕ} → roomAnswer new out ≡ Done n → length new ≤ LONGEST
 unfolding roomAnswer

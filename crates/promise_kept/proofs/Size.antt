@@ -4,7 +4,7 @@ use mathlib.Core.Path.{_≡_, refl, _∙_}
 use mathlib.Core.List.{List}
 use lib.IntN.{ℤ}
 use lib.ListN.{length}
-use Rattle.wire.specs.Tests.{pick, ifEq, ifLt}
+use Rattle.wire.specs.Tests.{pick, ifLt}
 use Rattle.wire.proofs.Tests.{lt-yea, lt-nay, lt-or}
 use Rattle.boxes.specs.Containers.{LONGEST}
 use Rattle.entry_rules.specs.Entries.{FRAMES}
@@ -18,7 +18,7 @@ use Rattle.judge.proofs.Calls.{when-done}
 use Rattle.edit_move.specs.Moving.{moveOf, moveAnswer}
 use Rattle.edit_replace.specs.Replace.{kindAt, takes, replaceOf, roomAnswer, settledAnswer, takenAnswer, replaceAnswer}
 use Rattle.edit_shift.specs.Shift.{shiftable, shiftOf, acceptedAnswer, shiftAnswer}
-use Rattle.promise_kept.proofs.Done.{pick-done, equal-done}
+use Rattle.promise_kept.proofs.Done.{pick-done}
 
 -- of a move
 pub move-size : (xs out : List ℕ) {n : ℕ} → moveAnswer xs out ≡ Done n → n ≡ length (moveOf xs)
