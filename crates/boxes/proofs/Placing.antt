@@ -9,12 +9,13 @@ use lib.ListN.{length}
 use lib.Seq.{length-take-le}
 use borrow.Author.Tests.{eqb-true}
 use Rattle.wire.specs.Tests.{pick, ifEq}
+use Rattle.wire.specs.Clauses.{isEq}
 use Rattle.wire.specs.Numbers.{Bytes}
 use Rattle.boxes.specs.declared.walk.BoxAt.{BoxAt}
 use Rattle.boxes.specs.declared.seek.Tiling.{Tiling}
 use Rattle.boxes.specs.declared.seek.Tiling.the-variants.{Whole, Torn}
 use Rattle.boxes.specs.Box.{Box, write}
-use Rattle.boxes.specs.Boxes.{boxes, total, after}
+use Rattle.boxes.specs.Boxes.{boxes, total, after, tiles}
 use Rattle.boxes.specs.Walk.{boxAt}
 use Rattle.boxes.specs.Seek.{tilingOf, count, nth, placeBy, placeIn, startIn, Cut}
 use Rattle.boxes.proofs.Whole.{Good}
@@ -87,6 +88,24 @@ module _ (c n : ℕ) (xs : List ℕ) (v : Bytes xs) where
     pub start-none : (r ≡ startIn c n (boxes xs)) × (r ≤ length xs)
     unfolding startIn
     start-none = (e ∙ sym (place-past (λ x. x .head) c n (boxes xs) h), omega (arith, total-is xs))
+
+-- how a part ends, as a test
+module _ (xs : List ℕ) {t : Tiling} (e : t ≡ tilingOf xs) where
+  pub was-whole : t ≡ Whole → true ≡ tiles xs
+  unfolding tilingOf ifEq isEq
+  was-whole w = go (eqb (length (after xs)) 0) (sym w ∙ e)
+    where
+      go : (b : Bool) → Whole ≡ pick b Whole (Torn (length xs - length (after xs))) → true ≡ b
+      go true q = refl
+      go false q = let z : _≡_ {A = ℕ} 0 1 = cc in absurd (omega arith)
+
+  pub was-torn : (p : ℕ) → t ≡ Torn p → false ≡ tiles xs
+  unfolding tilingOf ifEq isEq
+  was-torn p w = go (eqb (length (after xs)) 0) (sym w ∙ e)
+    where
+      go : (b : Bool) → Torn p ≡ pick b Whole (Torn (length xs - length (after xs))) → false ≡ b
+      go true q = let z : _≡_ {A = ℕ} 0 1 = cc in absurd (omega arith)
+      go false q = refl
 
 -- where the tiling ends
 module _ (xs : List ℕ) {t : Tiling} (e : t ≡ tilingOf xs) where

@@ -6,7 +6,8 @@ use crate::walk::Walk;
 ghost use mathlib.Core.Path.{_≡_};
 ghost use Prim.Native.Nat.{_+_, _≤_, _<_};
 ghost use lib.ListN.{length};
-ghost use Rattle.boxes.specs.Boxes.{boxes, total};
+ghost use Rattle.wire.specs.Clauses.{oneIf};
+ghost use Rattle.boxes.specs.Boxes.{boxes, total, tiles as tilesOf};
 ghost use Rattle.boxes.specs.Seek.{tilingOf, meant as meantBy, count as countOf, nth as nthIn, placeIn, startIn, SeenAs};
 
 // Any box is meant by this number.
@@ -39,6 +40,16 @@ pub fn ends(part: &[u8]) -> Tiling
                 return Tiling::Torn(p);
             }
         }
+    }
+}
+
+// Whether boxes tile a part: 1 or 0.
+pub fn tiles(part: &[u8]) -> usize
+    ensures { λ r. ⌜ r ≡ oneIf (tilesOf (now (part .entry))) ⌝ }
+{
+    match ends(part) {
+        Tiling::Whole => 1,
+        Tiling::Torn(_) => 0,
     }
 }
 

@@ -8,7 +8,7 @@ use Rattle.wire.specs.Tests.{pick}
 use Rattle.wire.specs.Clauses.{oneIf}
 use Rattle.wire.specs.Writing.{Wrote}
 use Rattle.wire.proofs.Clauses.{was-nay, was-yea}
-use Rattle.wire.proofs.Tests.{eq-yea, eq-nay, lt-yea, lt-nay}
+use Rattle.wire.proofs.Tests.{lt-yea, lt-nay}
 use Rattle.boxes.specs.Containers.{LONGEST}
 use Rattle.entry_rules.specs.Entries.{FRAMES}
 use Rattle.entry_rules.specs.Decoders.{recordRule}
@@ -58,11 +58,11 @@ module _ (xs : List ℕ) (i : ℕ) (new out : List ℕ) {kind k : ℕ} (e : kind
   unfolding takenAnswer
   taken-20 z = rw (← e, was-nay _ k z f)
 
-  module _ (z : k ≡ 0 → ⊥) {r : ℕ} (g : r ≡ recordRule kind FRAMES new) where
-    pub taken-21 : (r ≡ 1 → ⊥) → Refused 21 0 ≡ takenAnswer xs i new out
+  module _ (z : k ≡ 0 → ⊥) {r : ℕ} (g : r ≡ oneIf (recordRule kind FRAMES new)) where
+    pub taken-21 : r ≡ 0 → Refused 21 0 ≡ takenAnswer xs i new out
     unfolding takenAnswer
-    taken-21 h = rw (← e, was-yea _ k z f) (eq-nay _ _ _ _ _ (λ y. h (g ∙ y)) refl)
+    taken-21 h = rw (← e, was-yea _ k z f, was-nay _ r h g)
 
-    pub taken-fit : r ≡ 1 → {a : Answer} → a ≡ settledAnswer xs (replaceOf xs i new) out → a ≡ takenAnswer xs i new out
+    pub taken-fit : (r ≡ 0 → ⊥) → {a : Answer} → a ≡ settledAnswer xs (replaceOf xs i new) out → a ≡ takenAnswer xs i new out
     unfolding takenAnswer
-    taken-fit h q = rw (← e, was-yea _ k z f) (eq-yea _ _ _ _ _ (sym g ∙ h) q)
+    taken-fit h q = rw (← e, was-yea _ k z f, was-yea _ r h g) q

@@ -2,8 +2,8 @@
 use Prim.Native.Nat.{ℕ, _+_, _-_, _≤_, _<_}
 use native.Mathlib.Omega.{arith}
 use mathlib.Core.Path.{_≡_, refl, sym, ap, _∙_}
+use mathlib.Core.Bool.{true}
 use mathlib.Core.List.{List, []}
-use mathlib.Core.Logic.{⊎-elim}
 use lib.ListN.{length, take, drop}
 use borrow.Rule.Slice.PartMut.{midOf}
 use Rattle.wire.specs.Tests.{ifEq}
@@ -16,9 +16,9 @@ use Rattle.movie.specs.declared.entry.EntryAt.{EntryAt}
 use Rattle.movie.specs.Entries.{entries}
 use Rattle.movie.specs.Named.{EntryIs}
 use Rattle.movie.proofs.Spots.{bytes-at, bytes-none}
-use Rattle.entry_heads.specs.Kinds.{kindOf}
+use Rattle.entry_heads.specs.Kinds.{SamrKind, kindOf}
 use Rattle.entry_rules.specs.Decoders.{recordRule}
-use Rattle.entry_rules.proofs.Kept.{record-kinds}
+use Rattle.entry_rules.proofs.Kept.{recorded}
 use Rattle.edit_replace.specs.Replace.{kindAt, recordCode, takes}
 
 -- ---- the kind
@@ -49,11 +49,11 @@ module _ (xs : List ℕ) (i : ℕ) where
 -- ---- a record that meets its rule
 
 -- is short, and its kind is editable
-pub record-short : (kind most : ℕ) (new : List ℕ) → recordRule kind most new ≡ 1 → (3 ≤ kind) × (length new ≤ 31)
-record-short kind most new e = let d = record-kinds kind most new e in (⊎-elim (λ p. ⊎-elim (λ q. omega arith) (λ q. omega arith) p) (λ q. omega arith) (d .0), d .1)
+pub record-short : (kind most : ℕ) (new : List ℕ) → recordRule kind most new ≡ true → (SamrKind ≤ kind) × (length new ≤ 31)
+record-short kind most new e = let d = recorded kind most new e in (d .least, d .short)
 
 -- so there is such an entry
-pub record-first : (xs : List ℕ) (i most kind : ℕ) (new : List ℕ) → kind ≡ kindAt xs i → recordRule kind most new ≡ 1 → 1 ≤ i
+pub record-first : (xs : List ℕ) (i most kind : ℕ) (new : List ℕ) → kind ≡ kindAt xs i → recordRule kind most new ≡ true → 1 ≤ i
 record-first xs i most kind new k e = eq-or i 0 (λ z. absurd (omega (arith, kind-zero xs i z, record-short kind most new e .0))) (λ z. omega arith)
 
 -- ---- whether a kind takes a record

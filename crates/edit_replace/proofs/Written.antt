@@ -2,6 +2,7 @@
 use Prim.Native.Nat.{ℕ, _-_, _≤_}
 use native.Mathlib.Omega.{arith}
 use mathlib.Core.Path.{_≡_, refl, sym, ap, _∙_}
+use mathlib.Core.Bool.{true}
 use mathlib.Core.List.{List, _++_}
 use lib.ListN.{length, take, drop}
 use lib.Seq.{take-at, drop-at}
@@ -61,7 +62,7 @@ module _ (xs : List ℕ) (i : ℕ) (new : List ℕ) {moov : List ℕ} (e : moov 
       let u : In t n ≡ spotIn (stsds xs) (i - 1) = sym f ∙ q p ∙ ap (λ (m : List ℕ). spotIn (stsdsFrom 0 (boxes m) p) (i - 1)) e in
       rw (← u, ← g, ← h)
 
-  pub spot-none : r ≡ Past → {kind : ℕ} → kind ≡ kindAt xs i → recordRule kind FRAMES new ≡ 1 → ⊥
+  pub spot-none : r ≡ Past → {kind : ℕ} → kind ≡ kindAt xs i → recordRule kind FRAMES new ≡ true → ⊥
   spot-none f g h = past-none xs i new (named-none xs (i - 1) _ (spot-past xs e (i - 1) r s f) refl) g h
 
 -- ---- the head

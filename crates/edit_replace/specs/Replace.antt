@@ -19,7 +19,7 @@ use Rattle.movie.specs.Ways.{toStsd}
 use Rattle.movie.specs.Stsds.{stsds}
 use Rattle.movie.specs.Entries.{entries}
 use Rattle.movie.specs.Named.{spotIn, bytesAt}
-use Rattle.entry_heads.specs.Kinds.{kindOf}
+use Rattle.entry_heads.specs.Kinds.{OtherKind, SamrKind, SawbKind, S263Kind, kindOf}
 use Rattle.entry_heads.specs.Heads.{headSize}
 use Rattle.entry_rules.specs.Entries.{FRAMES}
 use Rattle.entry_rules.specs.Decoders.{recordRule}
@@ -32,13 +32,13 @@ use Rattle.edit_offsets.specs.Settle.{settled}
 
 -- ---- the entry
 
--- the kind of entry i, and 0 where there is no such entry
+-- the kind of entry i, and that of other codes where there is no such entry
 unfoldable pub kindAt : List ℕ → ℕ → ℕ
-kindAt xs i = ifEq i 0 0 (kindOf (word 4 (bytesAt (i - 1) (entries xs)) 4))
+kindAt xs i = ifEq i 0 OtherKind (kindOf (word 4 (bytesAt (i - 1) (entries xs)) 4))
 
 -- the code of the record of a kind, and 0 for a kind that isn't editable
 unfoldable pub recordCode : ℕ → ℕ
-recordCode kind = ifEq kind 3 DAMR (ifEq kind 4 DAMR (ifEq kind 5 D263 0))
+recordCode kind = ifEq kind SamrKind DAMR (ifEq kind SawbKind DAMR (ifEq kind S263Kind D263 0))
 
 -- ---- its meaning
 
@@ -78,7 +78,7 @@ settledAnswer xs new out = pick (editable xs) (roomAnswer new out) (Refused 23 0
 unfoldable pub takenAnswer : List ℕ → ℕ → List ℕ → List ℕ → Answer
 takenAnswer xs i new out =
     pick (takes (kindAt xs i) new)
-    (ifEq (recordRule (kindAt xs i) FRAMES new) 1 (settledAnswer xs (replaceOf xs i new) out) (Refused 21 0))
+    (pick (recordRule (kindAt xs i) FRAMES new) (settledAnswer xs (replaceOf xs i new) out) (Refused 21 0))
     (Refused 20 0)
 
 -- "20, 21, 23, 24, 25; all after 1 to 10"

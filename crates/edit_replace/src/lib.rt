@@ -12,6 +12,7 @@ use movie::entry;
 use movie::entry::Spot;
 use rule::Answer;
 ghost use mathlib.Core.Path.{_≡_};
+ghost use mathlib.Core.Bool.{true};
 ghost use Prim.Native.Nat.{_≤_};
 ghost use lib.ListN.{length};
 ghost use Rattle.entry_rules.specs.Entries.{FRAMES};
@@ -40,7 +41,7 @@ fn replace_at(file: &[u8], t: usize, n: usize, keep: usize, new: &[u8], out: &mu
 // Of an entry with a record that fits it: 23, 24, 25, or the result is written. There is such an entry, since a kind that
 // has records isn't 0.
 fn replace_fit(file: &[u8], i: usize, kind: usize, new: &[u8], out: &mut [u8]) -> Answer
-    requires { ⌜ (Meets (now file)) × (kind ≡ kindAt (now file) i) × (recordRule kind FRAMES (now new) ≡ 1) ⌝ }
+    requires { ⌜ (Meets (now file)) × (kind ≡ kindAt (now file) i) × (recordRule kind FRAMES (now new) ≡ true) ⌝ }
     ensures { λ r. ⌜ (r ≡ settledAnswer (now (file .entry)) (replaceOf (now (file .entry)) i (now (new .entry))) (now (out .entry))) × (now (out .exit) ≡ outBy r (replaceOf (now (file .entry)) i (now (new .entry))) (now (out .entry))) ⌝ }
 {
     if judge::editable(file) == 0 {
@@ -61,7 +62,7 @@ fn replace_accepted(file: &[u8], i: usize, new: &[u8], out: &mut [u8]) -> Answer
     if record::takes(kind, new) == 0 {
         return Answer::Refused(20, 0);
     }
-    if decoder::record_rule(kind, entry_rules::entry::FRAMES, new) != 1 {
+    if decoder::record_rule(kind, entry_rules::entry::FRAMES, new) == 0 {
         return Answer::Refused(21, 0);
     }
     replace_fit(file, i, kind, new, out)

@@ -18,11 +18,11 @@ pub fn kind_at(file: &[u8], i: usize) -> usize
     ensures { λ r. ⌜ r ≡ kindAt (now (file .entry)) i ⌝ }
 {
     if i == 0 {
-        return 0;
+        return kind::OTHER;
     }
     match entry::entry(file, i - 1) {
         Named::At(e) => kind_of(file, e.place, e.size),
-        Named::Missing => 0,
+        Named::Missing => kind::OTHER,
     }
 }
 
@@ -39,13 +39,13 @@ fn kind_of(file: &[u8], place: usize, size: usize) -> usize
 fn record_code(kind: usize) -> usize
     ensures { λ r. ⌜ r ≡ recordCode kind ⌝ }
 {
-    if kind == 3 {
+    if kind == kind::SAMR {
         return codes::DAMR;
     }
-    if kind == 4 {
+    if kind == kind::SAWB {
         return codes::DAMR;
     }
-    if kind == 5 {
+    if kind == kind::S263 {
         return codes::D263;
     }
     0

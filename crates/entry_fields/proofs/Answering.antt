@@ -41,7 +41,8 @@ module _ (xs out : List ℕ) {r : Record} (e : r ≡ readOf FRAMES xs) where
 
 -- ---- the writer
 
-pub write-as : (ns out : List ℕ) {r : Record} {w v : Written} {after : List ℕ} → r ≡ recordOf ns → (w ≡ writtenOf FRAMES r out) × (after ≡ outOf FRAMES r out) → w ≡ v
+pub write-as : (ns out : List ℕ) {r : Record} {w v : Written} {after : List ℕ} → r ≡ recordOf ns
+    → (w ≡ writtenOf FRAMES r out) × (after ≡ outOf FRAMES r out) → w ≡ v
     → (writtenAnswer v ≡ writeAnswer ns out) × (after ≡ writeOut ns out)
 unfolding writeAnswer
 write-as ns out e (p, q) g = (ap writtenAnswer (sym g ∙ p) ∙ rw e, q ∙ rw e)

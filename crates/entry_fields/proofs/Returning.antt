@@ -67,8 +67,8 @@ written-back ns out n e room =
     let t : take n (writeOut ns out) ≡ textOf (recordOf ns) = ap (take n) (b .1) ∙ room-taken (textOf (recordOf ns)) out n (sym (b .0) ∙ e) in
     let r : readOf FRAMES (take n (writeOut ns out)) ≡ recordOf ns = ap (readOf FRAMES) t ∙ written-reads FRAMES (recordOf ns) a in
     let f = fields-back ns (rule-some (recordOf ns) a) in
-    let s = when-some (recordOf ns) (inRoom ns room) (rule-some (recordOf ns) a) in
-    (rw (r, f) s, rw (r, f, s))
+    let s = when-some (recordOf ns) (inRoom (fieldsOf (recordOf ns)) room) (rule-some (recordOf ns) a) in
+    (rw r (s ∙ rw f), rw (r, s, f))
 
 -- an entry that the reader takes: writing the fields that it read gives its bytes
 pub read-back : (xs room : List ℕ) (n : ℕ) → Bytes xs → readAnswer xs room ≡ Done n → (out : List ℕ)

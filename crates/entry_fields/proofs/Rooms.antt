@@ -1,14 +1,11 @@
 -- The answers of a record that meets its rule. Assumes nothing.
 use Prim.Native.Nat.{ℕ}
-use native.Mathlib.Omega.{arith}
 use mathlib.Core.Path.{_≡_, refl, sym, ap, _∙_}
-use mathlib.Core.Bool.{Bool, true, false}
+use mathlib.Core.Bool.{Bool, true, false, false≢true}
 use mathlib.Core.List.{List, _++_}
-use mathlib.Core.Logic.{⊎-elim}
 use lib.Dec.{ltb}
 use lib.ListN.{length, drop}
 use Rattle.wire.specs.Tests.{pick, ifLt}
-use Rattle.wire.proofs.Tests.{eq-yea, eq-ways}
 use Rattle.entry_rules.specs.Entries.{FRAMES}
 use Rattle.entry_records.specs.declared.field.Record.{Record}
 use Rattle.entry_records.specs.declared.field.Record.the-variants.{Speech, Picture, Broken}
@@ -36,10 +33,10 @@ some-read r a n e g = refused-not 21 0 n (sym (ap (λ (s : Record). whenRead s a
 
 module _ (r : Record) where
   -- a record that meets the rule is refused for the room alone
-  pub rule-room : (out : List ℕ) → fieldsRule FRAMES r ≡ 1 → (writtenAnswer (writtenOf FRAMES r out) ≡ inRoom (textOf r) out) × (outOf FRAMES r out ≡ outBy (inRoom (textOf r) out) (textOf r) out)
+  pub rule-room : (out : List ℕ) → fieldsRule FRAMES r ≡ true
+      → (writtenAnswer (writtenOf FRAMES r out) ≡ inRoom (textOf r) out) × (outOf FRAMES r out ≡ outBy (inRoom (textOf r) out) (textOf r) out)
   unfolding writtenOf outOf inRoom ifLt outBy
-  rule-room out e =
-      (ap writtenAnswer (sym (eq-yea _ _ _ _ _ e refl)) ∙ answers (ltb (length out) (length (textOf r))), sym (eq-yea _ _ _ _ _ e refl) ∙ outs (ltb (length out) (length (textOf r))))
+  rule-room out e = (rw e (answers (ltb (length out) (length (textOf r)))), rw e (outs (ltb (length out) (length (textOf r)))))
     where
       answers : (t : Bool) → writtenAnswer (pick t written.TooShort (written.Done (length (textOf r)))) ≡ pick t (Refused 25 0) (Done (length (textOf r)))
       answers true = refl
@@ -49,10 +46,13 @@ module _ (r : Record) where
       outs true = refl
       outs false = refl
 
-  pub rule-done : (out : List ℕ) (n : ℕ) → writtenAnswer (writtenOf FRAMES r out) ≡ Done n → fieldsRule FRAMES r ≡ 1
+  pub rule-done : (out : List ℕ) (n : ℕ) → writtenAnswer (writtenOf FRAMES r out) ≡ Done n → fieldsRule FRAMES r ≡ true
   unfolding writtenOf
-  rule-done out n e =
-      ⊎-elim (λ w. w .0) (λ w. absurd (refused-not 21 0 n (ap writtenAnswer (w .1) ∙ e))) (eq-ways (fieldsRule FRAMES r) 1 _ written.BadFields _ refl)
+  rule-done out n e = go (fieldsRule FRAMES r) e
+    where
+      go : (t : Bool) → writtenAnswer (pick t (ifLt (length out) (length (textOf r)) written.TooShort (written.Done (length (textOf r)))) written.BadFields) ≡ Done n → t ≡ true
+      go true h = refl
+      go false h = absurd (refused-not 21 0 n h)
 
-  pub rule-some : fieldsRule FRAMES r ≡ 1 → r ≡ Broken → ⊥
-  rule-some e g = absurd (omega (arith, sym e ∙ ap (fieldsRule FRAMES) g))
+  pub rule-some : fieldsRule FRAMES r ≡ true → r ≡ Broken → ⊥
+  rule-some e g = false≢true (sym (ap (fieldsRule FRAMES) g) ∙ e)

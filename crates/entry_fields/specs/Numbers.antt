@@ -3,6 +3,7 @@ use Prim.Native.Nat.{ℕ}
 use mathlib.Core.List.{List}
 use lib.ListN.{length, getD}
 use Rattle.wire.specs.Tests.{ifEq}
+use Rattle.entry_heads.specs.Kinds.{S263Kind}
 use Rattle.entry_rules.specs.Entries.{FRAMES}
 use Rattle.entry_records.specs.declared.field.Amr.{Amr}
 use Rattle.entry_records.specs.declared.field.Rates.{Rates}
@@ -10,11 +11,10 @@ use Rattle.entry_records.specs.declared.field.H263.{H263}
 use Rattle.entry_records.specs.declared.field.Record.{Record}
 use Rattle.entry_records.specs.declared.field.Record.the-variants.{Speech, Picture, Broken}
 use Rattle.entry_records.specs.declared.record.Written.{Written}
-use Rattle.entry_records.specs.declared.record.Written.the-variants as written
-use Rattle.entry_records.specs.Records.{fieldsOf, readOf, writtenOf, outOf}
+use Rattle.entry_records.specs.Records.{fieldsOf, readNumber, readValue, writtenNumber, writtenValue, readOf, writtenOf, outOf}
 use Rattle.rule.specs.declared.Answer.{Answer}
-use Rattle.rule.specs.declared.Answer.the-variants.{Done, Refused}
-use Rattle.rule.specs.Answers.{inRoom, outBy}
+use Rattle.rule.specs.declared.Answer.the-variants.{Done}
+use Rattle.rule.specs.Answers.{unlessRefused, inRoom, outBy}
 
 -- ---- the record of numbers
 
@@ -36,7 +36,7 @@ amrOf ns =
       frames = at ns 7;
     }
 
--- of eleven, the first of them 5
+-- of eleven, the first of them the kind of an `s263`
 abbrev pub ratesOf : List ℕ → Rates
 ratesOf ns = record { given = at ns 8; average = at ns 9; maximum = at ns 10 }
 
@@ -55,17 +55,15 @@ h263Of ns =
 
 -- any other count of numbers is that of no record
 unfoldable pub recordOf : List ℕ → Record
-recordOf ns = ifEq (length ns) 8 (Speech (amrOf ns)) (ifEq (length ns) 11 (ifEq (at ns 0) 5 (Picture (h263Of ns)) Broken) Broken)
+recordOf ns = ifEq (length ns) 8 (Speech (amrOf ns)) (ifEq (length ns) 11 (ifEq (at ns 0) S263Kind (Picture (h263Of ns)) Broken) Broken)
 
 -- ---- the reader
 
--- 21: "the given record isn't one whole box that meets its rule", and else a
+-- a record's refusal, and else a
 abbrev pub whenRead : Record → Answer → Answer
-whenRead (Speech f) a = a
-whenRead (Picture f) a = a
-whenRead Broken a = Refused 21 0
+whenRead r a = unlessRefused (readNumber r) (readValue r) a
 
--- 21, 25, or how many fields there are
+-- the record's refusal, then that of the room, or how many fields there are
 unfoldable pub readAnswer : List ℕ → List ℕ → Answer
 readAnswer xs out = whenRead (readOf FRAMES xs) (inRoom (fieldsOf (readOf FRAMES xs)) out)
 
@@ -75,11 +73,9 @@ readOut xs out = outBy (readAnswer xs out) (fieldsOf (readOf FRAMES xs)) out
 -- ---- the writer
 
 abbrev pub writtenAnswer : Written → Answer
-writtenAnswer (written.Done n) = Done n
-writtenAnswer written.BadFields = Refused 21 0
-writtenAnswer written.TooShort = Refused 25 0
+writtenAnswer w = unlessRefused (writtenNumber w) (writtenValue w) (Done (writtenValue w))
 
--- 21, 25, or the length of the entry
+-- the writer's refusal, or the length of the entry
 unfoldable pub writeAnswer : List ℕ → List ℕ → Answer
 writeAnswer ns out = writtenAnswer (writtenOf FRAMES (recordOf ns) out)
 

@@ -1,4 +1,5 @@
 // The fields of a record as numbers, and back.
+use entry_heads::kind;
 use entry_records::field::Amr;
 use entry_records::field::H263;
 use entry_records::field::Rates;
@@ -37,7 +38,7 @@ pub fn put_h263(f: H263, out: &mut [u64]) -> Answer
     if out.len() < 11 {
         return Answer::Refused(25, 0);
     }
-    out[0] = 5;
+    out[0] = kind::S263 as u64;
     out[1] = f.reference as u64;
     out[2] = f.width as u64;
     out[3] = f.height as u64;
@@ -105,7 +106,7 @@ pub fn record_of(fields: &[u64]) -> Record
         return Record::Speech(amr_of(fields));
     }
     if fields.len() == 11 {
-        if fields[0] == 5 {
+        if fields[0] as usize == kind::S263 {
             return Record::Picture(h263_of(fields));
         }
     }

@@ -1,5 +1,6 @@
 -- A kind and its code. Assumes nothing.
-use Prim.Native.Nat.{ℕ, _<_}
+use Prim.Native.Nat.{ℕ, _≤_}
+use native.Mathlib.Omega.{arith}
 use mathlib.Core.Path.{_≡_, refl, sym, ap, _∙_}
 use mathlib.Core.Bool.{true}
 use mathlib.Core.Logic.{⊎-elim}
@@ -10,14 +11,14 @@ use Rattle.codes.specs.Codes.{MP4V, MP4A, SAMR, SAWB, S263, AVC1}
 use Rattle.wire.specs.Sums.{allTo}
 use Rattle.wire.proofs.Tests.{eq-ways}
 use Rattle.wire.proofs.Sums.{all-at}
-use Rattle.entry_heads.specs.Kinds.{kindOf, codeOf}
+use Rattle.entry_heads.specs.Kinds.{OtherKind, Mp4vKind, Mp4aKind, SamrKind, SawbKind, S263Kind, Avc1Kind, kindOf, codeOf}
 
-codes : (MP4V ≡ codeOf 1) × (MP4A ≡ codeOf 2) × (SAMR ≡ codeOf 3) × (SAWB ≡ codeOf 4) × (S263 ≡ codeOf 5) × (AVC1 ≡ codeOf 6)
+codes : (MP4V ≡ codeOf Mp4vKind) × (MP4A ≡ codeOf Mp4aKind) × (SAMR ≡ codeOf SamrKind) × (SAWB ≡ codeOf SawbKind) × (S263 ≡ codeOf S263Kind) × (AVC1 ≡ codeOf Avc1Kind)
 unfolding codeOf ifEq
 codes = (refl, refl, refl, refl, refl, refl)
 
 -- a known kind has one code
-pub kind-code : (code kind : ℕ) → kindOf code ≡ kind → (kind ≡ 0 → ⊥) → code ≡ codeOf kind
+pub kind-code : (code kind : ℕ) → kindOf code ≡ kind → (kind ≡ OtherKind → ⊥) → code ≡ codeOf kind
 unfolding kindOf
 kind-code code kind h z =
     next _ _ _ (codes .0) (next _ _ _ (codes .1) (next _ _ _ (codes .2) (next _ _ _ (codes .3) (next _ _ _ (codes .4) (next _ _ _ (codes .5) (λ e. absurd (z (sym e)))))))) h
@@ -30,5 +31,5 @@ all-codes : allTo (λ k. eqb (kindOf (codeOf k)) k) 7 ≡ true
 unfolding allTo kindOf codeOf ifEq
 all-codes = refl
 
-pub code-kind : (kind : ℕ) → kind < 7 → kindOf (codeOf kind) ≡ kind
-code-kind kind h = eqb-true _ _ (all-at (λ k. eqb (kindOf (codeOf k)) k) 7 all-codes kind h)
+pub code-kind : (kind : ℕ) → kind ≤ Avc1Kind → kindOf (codeOf kind) ≡ kind
+code-kind kind h = eqb-true _ _ (all-at (λ k. eqb (kindOf (codeOf k)) k) 7 all-codes kind (omega arith))

@@ -1,12 +1,13 @@
 -- The heads of sample entries, byte for byte. An entry is a whole box, its header included.
 use Prim.Native.Nat.{ℕ}
-use mathlib.Core.List.{List, _++_}
-use lib.ListN.{length, take, drop}
+use mathlib.Core.Bool.{Bool, true}
+use mathlib.Core.List.{List, [], _∷_, _++_}
+use lib.ListN.{length}
 use Rattle.wire.specs.Tests.{ifEq}
 use Rattle.wire.specs.Numbers.{bytes, word}
+use Rattle.wire.specs.Clauses.{isEq, isLe, every}
 use Rattle.codes.specs.Codes.{SOUN, VIDE}
-use Rattle.wire.specs.Same.{same}
-use Rattle.entry_heads.specs.Kinds.{handlerOf}
+use Rattle.entry_heads.specs.Kinds.{Avc1Kind, handlerOf}
 
 -- the header of a box
 unfoldable pub boxHeader : ℕ → ℕ → List ℕ
@@ -44,28 +45,45 @@ VISUAL = 86
 unfoldable pub headSize : ℕ → ℕ
 headSize kind = ifEq (handlerOf kind) SOUN AUDIO (ifEq (handlerOf kind) VIDE VISUAL COMMON)
 
--- ---- the head of an entry, made of its own fields
+-- ---- the rule of a head, on the fields where they stand
 
--- the name is free in `avc1`, and 32 zero bytes in the others
-unfoldable pub nameIn : ℕ → List ℕ → List ℕ
-nameIn kind xs = ifEq kind 6 (take 32 (drop 50 xs)) (bytes 32 0)
+-- "All begin with 6 zero bytes and a data reference index"
+unfoldable pub commonRule : List ℕ → Bool
+commonRule xs = every (isLe COMMON (length xs) ∷ isEq (word 6 xs 8) 0 ∷ [])
 
-abbrev pub commonIn : List ℕ → List ℕ
-commonIn xs = commonHead (word 4 xs 0) (word 4 xs 4) (word 2 xs 14)
+-- "then 8 zero bytes, 16-bit 2, 16-bit 16, 4 zero bytes, 16-bit TimeScale .., 2 zero bytes: 36 bytes with the header"
+unfoldable pub audioRule : List ℕ → Bool
+audioRule xs =
+    every
+    (isLe AUDIO (length xs)
+    ∷ isEq (word 6 xs 8) 0
+    ∷ isEq (word 8 xs 16) 0
+    ∷ isEq (word 2 xs 24) 2
+    ∷ isEq (word 2 xs 26) 16
+    ∷ isEq (word 4 xs 28) 0
+    ∷ isEq (word 2 xs 34) 0
+    ∷ [])
 
-abbrev pub audioIn : List ℕ → List ℕ
-audioIn xs = audioHead (word 4 xs 0) (word 4 xs 4) (word 2 xs 14) (word 2 xs 32)
+-- "32 zero bytes (any 32 in avc1)"
+unfoldable pub nameRule : ℕ → List ℕ → Bool
+nameRule kind xs = ifEq kind Avc1Kind true (isEq (word 32 xs 50) 0)
 
-abbrev pub visualIn : List ℕ → List ℕ → List ℕ
-visualIn name xs = visualHead (word 4 xs 0) (word 4 xs 4) (word 2 xs 14) (word 2 xs 32) (word 2 xs 34) name
+-- "then 16 zero bytes, width, height (16 bits each), 0x00480000 twice, 4 zero bytes, 16-bit 1, 32 zero bytes .., 16-bit 24,
+-- 0xFFFF: 86 bytes with the header"
+unfoldable pub visualRule : ℕ → List ℕ → Bool
+visualRule kind xs =
+    every
+    (isLe VISUAL (length xs)
+    ∷ isEq (word 6 xs 8) 0
+    ∷ isEq (word 16 xs 16) 0
+    ∷ isEq (word 4 xs 36) 0x00480000
+    ∷ isEq (word 4 xs 40) 0x00480000
+    ∷ isEq (word 4 xs 44) 0
+    ∷ isEq (word 2 xs 48) 1
+    ∷ nameRule kind xs
+    ∷ isEq (word 2 xs 82) 24
+    ∷ isEq (word 2 xs 84) 0xFFFF
+    ∷ [])
 
--- xs begins with a head: 1, or 0
-unfoldable pub begins : List ℕ → List ℕ → ℕ
-begins head xs = same (take (length head) xs) head
-
--- an entry has the head of its kind exactly where it begins with the one that its own fields make
-unfoldable pub headRule : ℕ → List ℕ → ℕ
-headRule kind xs =
-    ifEq (handlerOf kind) SOUN (begins (audioIn xs) xs)
-    (ifEq (handlerOf kind) VIDE (begins (visualIn (nameIn kind xs) xs) xs)
-    (begins (commonIn xs) xs))
+unfoldable pub headRule : ℕ → List ℕ → Bool
+headRule kind xs = ifEq (handlerOf kind) SOUN (audioRule xs) (ifEq (handlerOf kind) VIDE (visualRule kind xs) (commonRule xs))

@@ -1,16 +1,22 @@
 // The heads of sample entries: written, and told from other bytes.
 use crate::kind;
 use crate::put;
-use wire::compare;
-use wire::lend;
 use wire::number;
 use wire::pen;
 use wire::test;
 ghost use mathlib.Core.Path.{_≡_};
 ghost use Prim.Native.Nat.{_<_};
 ghost use lib.ListN.{length};
+ghost use Rattle.wire.specs.Clauses.{oneIf};
 ghost use Rattle.wire.specs.Writing.{Put};
-ghost use Rattle.entry_heads.specs.Heads.{commonHead, audioHead, visualStart, visualHead, commonIn, audioIn, visualIn, nameIn, headSize, headRule, begins as beginsOf};
+ghost use Rattle.entry_heads.specs.Heads.{commonHead, audioHead, visualStart, visualHead, headSize, commonRule, audioRule, nameRule, visualRule, headRule};
+
+// The lengths of the three heads.
+const COMMON: usize = 16;
+
+const AUDIO: usize = 36;
+
+const VISUAL: usize = 86;
 
 // Writes the beginning of all entries.
 fn put_common(out: &mut [u8], size: usize, code: usize, reference: usize) -> usize
@@ -74,83 +80,104 @@ pub fn put_visual(
     pen::put_number(out, e, 2, 0xFFFF)
 }
 
-// 1 where an entry begins with a head, else 0.
-fn begins(head: &[u8], entry: &[u8]) -> usize
-    ensures { λ r. ⌜ r ≡ beginsOf (now (head .entry)) (now (entry .entry)) ⌝ }
-{
-    compare::same(lend::front(entry, head.len()), head)
-}
-
 // 1 where an entry has the beginning of all entries, else 0.
 fn common(entry: &[u8]) -> usize
-    ensures { λ r. ⌜ r ≡ beginsOf (commonIn (now (entry .entry))) (now (entry .entry)) ⌝ }
+    ensures { λ r. ⌜ r ≡ oneIf (commonRule (now (entry .entry))) ⌝ }
 {
-    let mut made = [0u8; 16];
-    put_common(
-        &mut made,
-        number::word32(entry, 0),
-        number::word32(entry, 4),
-        number::word16(entry, 14),
-    );
-    begins(&made, entry)
+    if entry.len() < COMMON {
+        return 0;
+    }
+    if number::zeros(entry, 8, 6) == 0 {
+        return 0;
+    }
+    1
 }
 
 // 1 where an entry has an audio head, else 0.
 fn audio(entry: &[u8]) -> usize
-    ensures { λ r. ⌜ r ≡ beginsOf (audioIn (now (entry .entry))) (now (entry .entry)) ⌝ }
+    ensures { λ r. ⌜ r ≡ oneIf (audioRule (now (entry .entry))) ⌝ }
 {
-    let mut made = [0u8; 36];
-    put_audio(
-        &mut made,
-        number::word32(entry, 0),
-        number::word32(entry, 4),
-        number::word16(entry, 14),
-        number::word16(entry, 32),
-    );
-    begins(&made, entry)
-}
-
-// 1 where an entry has a visual head with a name, else 0.
-fn visual(name: &[u8], entry: &[u8]) -> usize
-    requires { ⌜ length (now name) ≡ 32 ⌝ }
-    ensures { λ r. ⌜ r ≡ beginsOf (visualIn (now (name .entry)) (now (entry .entry))) (now (entry .entry)) ⌝ }
-{
-    let mut made = [0u8; 86];
-    put_visual(
-        &mut made,
-        number::word32(entry, 0),
-        number::word32(entry, 4),
-        number::word16(entry, 14),
-        number::word16(entry, 32),
-        number::word16(entry, 34),
-        name,
-    );
-    begins(&made, entry)
-}
-
-// 1 where an entry has the visual head of its kind, whose name is free in `avc1`, else 0.
-fn visual_of(kind: usize, entry: &[u8]) -> usize
-    ensures { λ r. ⌜ r ≡ beginsOf (visualIn (nameIn kind (now (entry .entry))) (now (entry .entry))) (now (entry .entry)) ⌝ }
-{
-    if kind == 6 {
-        if entry.len() < 82 {
-            return 0;
-        }
-        return visual(&entry[50..82], entry);
+    if entry.len() < AUDIO {
+        return 0;
     }
-    visual(&[0u8; 32], entry)
+    if number::zeros(entry, 8, 6) == 0 {
+        return 0;
+    }
+    if number::zeros(entry, 16, 8) == 0 {
+        return 0;
+    }
+    if number::word16_in(entry, 24) != 2 {
+        return 0;
+    }
+    if number::word16_in(entry, 26) != 16 {
+        return 0;
+    }
+    if number::word32_in(entry, 28) != 0 {
+        return 0;
+    }
+    if number::word16_in(entry, 34) != 0 {
+        return 0;
+    }
+    1
+}
+
+// 1 where the name of a visual entry is free or zero bytes, else 0.
+fn name(kind: usize, entry: &[u8]) -> usize
+    ensures { λ r. ⌜ r ≡ oneIf (nameRule kind (now (entry .entry))) ⌝ }
+{
+    if kind == kind::AVC1 {
+        return 1;
+    }
+    number::zeros(entry, 50, 32)
+}
+
+// 1 where an entry has the visual head of its kind, else 0.
+fn visual(kind: usize, entry: &[u8]) -> usize
+    ensures { λ r. ⌜ r ≡ oneIf (visualRule kind (now (entry .entry))) ⌝ }
+{
+    if entry.len() < VISUAL {
+        return 0;
+    }
+    if number::zeros(entry, 8, 6) == 0 {
+        return 0;
+    }
+    if number::zeros(entry, 16, 16) == 0 {
+        return 0;
+    }
+    if number::word32_in(entry, 36) != 0x00480000 {
+        return 0;
+    }
+    if number::word32_in(entry, 40) != 0x00480000 {
+        return 0;
+    }
+    if number::word32_in(entry, 44) != 0 {
+        return 0;
+    }
+    if number::word16_in(entry, 48) != 1 {
+        return 0;
+    }
+    if name(kind, entry) == 0 {
+        return 0;
+    }
+    if number::word16_in(entry, 82) != 24 {
+        return 0;
+    }
+    if number::word16_in(entry, 84) != 0xFFFF {
+        return 0;
+    }
+    1
 }
 
 // 1 where an entry has the head of its kind, else 0.
 pub fn rule(kind: usize, entry: &[u8]) -> usize
-    ensures { λ r. ⌜ r ≡ headRule kind (now (entry .entry)) ⌝ }
+    ensures { λ r. ⌜ r ≡ oneIf (headRule kind (now (entry .entry))) ⌝ }
 {
     let handler = kind::handler(kind);
     if handler == codes::SOUN {
         return audio(entry);
     }
     if handler == codes::VIDE {
-        return visual_of(kind, entry);
+        return visual(kind, entry);
     }
     common(entry)
 }
@@ -160,6 +187,6 @@ pub fn size(kind: usize) -> usize
     ensures { λ r. ⌜ r ≡ headSize kind ⌝ }
 {
     let handler = kind::handler(kind);
-    let other = test::choose(handler, codes::VIDE, 86, 16);
-    test::choose(handler, codes::SOUN, 36, other)
+    let other = test::choose(handler, codes::VIDE, VISUAL, COMMON);
+    test::choose(handler, codes::SOUN, AUDIO, other)
 }

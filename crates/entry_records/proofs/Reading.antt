@@ -2,13 +2,15 @@
 use Prim.Native.Nat.{ℕ}
 use native.Mathlib.Omega.{arith}
 use mathlib.Core.Path.{_≡_, refl, sym, ap, _∙_}
+use mathlib.Core.Bool.{true, false≢true}
 use mathlib.Core.List.{List}
 use mathlib.Core.Logic.{inl, inr, ⊎-elim}
 use Rattle.wire.specs.Tests.{ifEq}
 use Rattle.wire.specs.Numbers.{word}
 use Rattle.codes.specs.Codes.{S263}
-use Rattle.wire.proofs.Tests.{eq-yea, eq-nay, eq-ways, eq-met}
-use Rattle.entry_heads.specs.Kinds.{kindOf}
+use Rattle.wire.proofs.Tests.{eq-yea, eq-nay}
+use Rattle.wire.proofs.Clauses.{eq-is, clause, of-two}
+use Rattle.entry_heads.specs.Kinds.{S263Kind, kindOf}
 use Rattle.entry_heads.proofs.Coding.{code-kind}
 use Rattle.entry_rules.specs.declared.entry.Around.the-variants.{Alone}
 use Rattle.entry_rules.specs.Entries.{ruleAs, entryRule}
@@ -18,10 +20,10 @@ use Rattle.entry_records.specs.declared.field.Amr.{Amr}
 use Rattle.entry_records.specs.declared.field.H263.{H263}
 use Rattle.entry_records.specs.declared.field.Record.{Record}
 use Rattle.entry_records.specs.declared.field.Record.the-variants.{Speech, Picture, Broken}
-use Rattle.entry_records.specs.Fields.{amrIn, h263In, recordIn, amrRule, h263Rule, speechRule, fieldsRule}
+use Rattle.entry_records.specs.Fields.{amrIn, h263In, recordIn, amrRule, h263Rule, fieldsRule}
 use Rattle.entry_records.specs.Texts.{amrText, plainText, ratedText, h263Text, textOf}
 use Rattle.entry_records.specs.Records.{readOf}
-use Rattle.entry_records.proofs.Fitting.{below-rule, rates-met}
+use Rattle.entry_records.proofs.Fitting.{rates-met}
 use Rattle.entry_records.proofs.Speaking.{amr-words, amr-at, amr-back}
 use Rattle.entry_records.proofs.Showing.{plain-code, plain-at, plain-back, rated-code, rated-at, rated-back}
 
@@ -30,36 +32,35 @@ unfolding recordIn
 record-speech kind xs s =
     ⊎-elim (λ e. eq-yea _ _ _ _ _ e refl) (λ e. eq-nay _ _ _ _ _ (λ z. omega arith) (eq-yea _ _ _ _ _ e refl)) s
 
-speech-kind : (most : ℕ) (f : Amr) → speechRule most f ≡ 1 → Spoken (f .kind) × (amrRule most f ≡ 1)
-unfolding speechRule
-speech-kind most f e =
-    ⊎-elim (λ w. (inl (w .0), w .1)) (λ w. let a = eq-met _ _ _ (w .1) in (inr (a .0), a .1)) (eq-ways _ _ _ _ _ e)
+speech-kind : (most : ℕ) (f : Amr) → amrRule most f ≡ true → Spoken (f .kind)
+unfolding amrRule
+speech-kind most f e = of-two _ _ (clause 0 _ e) (λ w. inl (eq-is _ _ w)) (λ w. inr (eq-is _ _ w))
 
 -- an entry that meets its rule is read by its kind
-read-as : (most kind : ℕ) (xs : List ℕ) → kindOf (word 4 xs 4) ≡ kind → ruleAs kind Alone most xs ≡ 1 → recordIn kind xs ≡ readOf most xs
+read-as : (most kind : ℕ) (xs : List ℕ) → kindOf (word 4 xs 4) ≡ kind → ruleAs kind Alone most xs ≡ true → recordIn kind xs ≡ readOf most xs
 unfolding readOf entryRule
-read-as most kind xs k e = rw k (eq-yea _ _ _ _ _ e refl)
+read-as most kind xs k e = rw (k, e)
 
-record-picture : (xs : List ℕ) → Picture (h263In xs) ≡ recordIn 5 xs
+record-picture : (xs : List ℕ) → Picture (h263In xs) ≡ recordIn S263Kind xs
 unfolding recordIn ifEq
 record-picture xs = refl
 
-kind-s263 : kindOf S263 ≡ 5
+kind-s263 : kindOf S263 ≡ S263Kind
 unfolding kindOf ifEq
 kind-s263 = refl
 
-read-speech : (most : ℕ) (f : Amr) → speechRule most f ≡ 1 → readOf most (amrText f) ≡ Speech f
+read-speech : (most : ℕ) (f : Amr) → amrRule most f ≡ true → readOf most (amrText f) ≡ Speech f
 read-speech most f e =
     let s = speech-kind most f e in
-    let k : kindOf (word 4 (amrText f) 4) ≡ f .kind = ap kindOf (amr-words most f (s .0) (s .1) .code) ∙ code-kind (f .kind) (⊎-elim (λ q. omega arith) (λ q. omega arith) (s .0)) in
-    sym (read-as most (f .kind) (amrText f) k (speech-is (f .kind) most (amrText f) (s .0) Alone (amr-at most f (s .0) (s .1)) refl))
-    ∙ sym (record-speech (f .kind) (amrText f) (s .0)) ∙ ap Speech (amr-back most f (s .0) (s .1))
+    let k : kindOf (word 4 (amrText f) 4) ≡ f .kind = ap kindOf (amr-words most f s e .code) ∙ code-kind (f .kind) (⊎-elim (λ q. omega arith) (λ q. omega arith) s) in
+    sym (read-as most (f .kind) (amrText f) k (speech-is (f .kind) most (amrText f) s Alone (amr-at most f s e) refl))
+    ∙ sym (record-speech (f .kind) (amrText f) s) ∙ ap Speech (amr-back most f s e)
 
 -- a picture's text that meets the rule and holds the fields
-read-text : (most : ℕ) (f : H263) (xs : List ℕ) → word 4 xs 4 ≡ S263 → ruleAs 5 Alone most xs ≡ 1 → h263In xs ≡ f → readOf most xs ≡ Picture f
-read-text most f xs c e g = sym (read-as most 5 xs (ap kindOf c ∙ kind-s263) e) ∙ sym (record-picture xs) ∙ ap Picture g
+read-text : (most : ℕ) (f : H263) (xs : List ℕ) → word 4 xs 4 ≡ S263 → ruleAs S263Kind Alone most xs ≡ true → h263In xs ≡ f → readOf most xs ≡ Picture f
+read-text most f xs c e g = sym (read-as most S263Kind xs (ap kindOf c ∙ kind-s263) e) ∙ sym (record-picture xs) ∙ ap Picture g
 
-read-picture : (most : ℕ) (f : H263) → h263Rule f ≡ 1 → readOf most (h263Text f) ≡ Picture f
+read-picture : (most : ℕ) (f : H263) → h263Rule f ≡ true → readOf most (h263Text f) ≡ Picture f
 unfolding h263Text h263Rule
 read-picture most f e =
     ⊎-elim
@@ -69,10 +70,10 @@ read-picture most f e =
     (λ r.
     let t : plainText 101 15 f ≡ ifEq (f .rates .given) 1 (ratedText f) (plainText 101 15 f) = eq-nay _ _ _ _ _ (λ z. omega (arith, r .flag)) refl in
     rw (← t) (read-text most f (plainText 101 15 f) (plain-code f e r) (picture-is most (plainText 101 15 f) Alone refl (plain-at f e r)) (plain-back f e r)))
-    (rates-met (f .rates) (below-rule _ _ e))
+    (rates-met (f .rates) (clause 7 _ e))
 
 -- a record that the writer takes reads back as itself
-pub written-reads : (most : ℕ) (r : Record) → fieldsRule most r ≡ 1 → readOf most (textOf r) ≡ r
+pub written-reads : (most : ℕ) (r : Record) → fieldsRule most r ≡ true → readOf most (textOf r) ≡ r
 written-reads most (Speech f) e = read-speech most f e
 written-reads most (Picture f) e = read-picture most f e
-written-reads most Broken e = absurd (omega arith)
+written-reads most Broken e = absurd (false≢true e)

@@ -1,6 +1,7 @@
 -- The entry that the fields of an `s263` record make, with a `bitr` and without. Assumes nothing.
 use native.Mathlib.Omega.{arith}
 use mathlib.Core.Path.{_≡_, refl, sym, _∙_}
+use mathlib.Core.Bool.{true}
 use mathlib.Core.List.{[]}
 use lib.ListN.{length, take}
 use lib.Seq.{take-all}
@@ -18,7 +19,7 @@ use Rattle.entry_records.proofs.Lengths.{plain-length, rated-length}
 use Rattle.entry_records.proofs.Fitting.{Rated, Plain}
 use Rattle.entry_records.proofs.Starting.{picture-words, picture-at}
 
-module _ (f : H263) (a : h263Rule f ≡ 1) (r : Plain (f .rates)) where
+module _ (f : H263) (a : h263Rule f ≡ true) (r : Plain (f .rates)) where
   all : take 101 (plainText 101 15 f) ≡ plainText 101 15 f
   all = take-all 101 _ (rw plain-length (omega arith))
 
@@ -37,7 +38,7 @@ module _ (f : H263) (a : h263Rule f ≡ 1) (r : Plain (f .rates)) where
       let x : word 4 (plainText 101 15 f) 113 ≡ f .rates .maximum = word-out 4 _ 113 (omega arith) ∙ sym (r .maximum) in
       rw (w .reference, w .width, w .height, w .vendor, w .version, w .level, w .profile, c, v, x)
 
-module _ (f : H263) (a : h263Rule f ≡ 1) (r : Rated (f .rates)) where
+module _ (f : H263) (a : h263Rule f ≡ true) (r : Rated (f .rates)) where
   start : take 101 (ratedText f) ≡ plainText 117 31 f
   unfolding ratedText plainText visualHead visualStart commonHead boxHeader bytes bytesOn
   start = refl

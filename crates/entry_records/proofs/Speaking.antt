@@ -2,21 +2,23 @@
 use Prim.Native.Nat.{ℕ, _<_}
 use native.Mathlib.Omega.{arith}
 use mathlib.Core.Path.{_≡_, refl}
+use mathlib.Core.Bool.{true}
 use mathlib.Core.List.{List, []}
 use mathlib.Core.Logic.{⊎-elim}
 use lib.ListN.{take}
 use Rattle.wire.specs.Tests.{ifEq, ifLe}
 use Rattle.wire.specs.Numbers.{bytesOn, bytes, word}
 use Rattle.codes.specs.Codes.{DAMR}
+use Rattle.wire.proofs.Clauses.{lt-is, clause}
 use Rattle.wire.proofs.Numbers.{word-bytes}
 use Rattle.entry_heads.specs.Kinds.{codeOf}
 use Rattle.entry_heads.specs.Heads.{boxHeader, commonHead, audioHead}
+use Rattle.entry_heads.proofs.Heading.{audio-made}
 use Rattle.entry_rules.proofs.Speech.{Spoken, SpeechAt}
 use Rattle.entry_records.specs.declared.field.Amr.{Amr}
 use Rattle.entry_records.specs.Fields.{amrIn, amrRule}
 use Rattle.entry_records.specs.Texts.{amrText}
 use Rattle.entry_records.proofs.Lengths.{amr-length}
-use Rattle.entry_records.proofs.Fitting.{below-at, below-rule}
 
 code-fits : (kind : ℕ) → Spoken kind → codeOf kind < 4294967296
 unfolding codeOf ifEq
@@ -36,22 +38,22 @@ pub record AmrWords (f : Amr) (xs : List ℕ) : Type 0 where
   pub period : word 1 xs 51 ≡ f .period
   pub frames : word 1 xs 52 ≡ f .frames
 
-module _ (most : ℕ) (f : Amr) (s : Spoken (f .kind)) (a : amrRule most f ≡ 1) where
+module _ (most : ℕ) (f : Amr) (s : Spoken (f .kind)) (a : amrRule most f ≡ true) where
   pub amr-words : AmrWords f (amrText f)
   unfolding amrRule amrText audioHead commonHead boxHeader bytes bytesOn word ifLe
   amr-words =
       record {
         size = refl;
         code = word-bytes 4 (codeOf (f .kind)) [] (code-fits (f .kind) s);
-        reference = word-bytes 2 (f .reference) [] (below-at 0 _ _ a);
-        scale = word-bytes 2 (f .scale) [] (below-at 1 _ _ a);
+        reference = word-bytes 2 (f .reference) [] (lt-is _ _ (clause 1 _ a));
+        scale = word-bytes 2 (f .scale) [] (lt-is _ _ (clause 2 _ a));
         inner = refl;
         damr = refl;
-        vendor = word-bytes 4 (f .vendor) [] (below-at 2 _ _ a);
-        version = word-bytes 1 (f .version) [] (below-at 3 _ _ a);
-        modes = word-bytes 2 (f .modes) [] (below-at 4 _ _ a);
-        period = word-bytes 1 (f .period) [] (below-at 5 _ _ a);
-        frames = word-bytes 1 (f .frames) [] (below-at 6 _ _ a);
+        vendor = word-bytes 4 (f .vendor) [] (lt-is _ _ (clause 3 _ a));
+        version = word-bytes 1 (f .version) [] (lt-is _ _ (clause 4 _ a));
+        modes = word-bytes 2 (f .modes) [] (lt-is _ _ (clause 5 _ a));
+        period = word-bytes 1 (f .period) [] (lt-is _ _ (clause 6 _ a));
+        frames = word-bytes 1 (f .frames) [] (lt-is _ _ (clause 7 _ a));
       }
 
   amr-front : take 36 (amrText f) ≡ audioHead 53 (codeOf (f .kind)) (f .reference) (f .scale)
@@ -65,10 +67,10 @@ module _ (most : ℕ) (f : Amr) (s : Spoken (f .kind)) (a : amrRule most f ≡ 1
       record {
         long = amr-length f;
         size = w .size;
-        front = rw (w .size, w .code, w .reference, w .scale) amr-front;
+        head = audio-made (amrText f) 53 (codeOf (f .kind)) (f .reference) (f .scale) amr-front;
         inner = w .inner;
         code = w .damr;
-        frames = rw (w .modes, w .period, w .frames) (below-rule _ _ a);
+        frames = rw (w .modes, w .period, w .frames) (clause 8 _ a);
       }
 
   pub amr-back : amrIn (f .kind) (amrText f) ≡ f

@@ -2,19 +2,22 @@
 use Prim.Native.Nat.{ℕ, _+_, _≤_, _<_}
 use native.Mathlib.Omega.{arith}
 use mathlib.Core.Path.{_≡_, refl, sym, ap, _∙_}
+use mathlib.Core.Bool.{true}
 use mathlib.Core.List.{List, []}
 use lib.ListN.{length, take}
 use lib.Seq.{take-take}
 use Rattle.wire.specs.Tests.{ifLe}
 use Rattle.wire.specs.Numbers.{bytesOn, bytes, word}
 use Rattle.codes.specs.Codes.{S263, D263}
-use Rattle.wire.proofs.Numbers.{word-bytes, word-take}
+use Rattle.wire.proofs.Clauses.{lt-is, clause}
+use Rattle.wire.proofs.Numbers.{word-bytes, word-front}
 use Rattle.entry_heads.specs.Heads.{boxHeader, commonHead, visualStart, visualHead}
+use Rattle.entry_heads.proofs.Heading.{visual-made}
 use Rattle.entry_rules.proofs.Picture.{PictureAt}
 use Rattle.entry_records.specs.declared.field.H263.{H263}
 use Rattle.entry_records.specs.Texts.{plainText}
 use Rattle.entry_records.specs.Fields.{h263Rule}
-use Rattle.entry_records.proofs.Fitting.{below-at}
+use Rattle.entry_records.proofs.Lengths.{plain-length}
 
 -- what stands where up to the profile
 pub record PictureWords (n : ℕ) (f : H263) (xs : List ℕ) : Type 0 where
@@ -30,22 +33,22 @@ pub record PictureWords (n : ℕ) (f : H263) (xs : List ℕ) : Type 0 where
   pub level : word 1 xs 99 ≡ f .level
   pub profile : word 1 xs 100 ≡ f .profile
 
-module _ (f : H263) (a : h263Rule f ≡ 1) where
+module _ (f : H263) (a : h263Rule f ≡ true) where
   plain-words : (n : ℕ) → n < 100 → PictureWords n f (plainText (86 + n) n f)
   unfolding h263Rule plainText visualHead visualStart commonHead boxHeader bytes bytesOn word ifLe
   plain-words n h =
       record {
         size = word-bytes 4 (86 + n) [] (omega arith);
         code = refl;
-        reference = word-bytes 2 (f .reference) [] (below-at 0 _ _ a);
-        width = word-bytes 2 (f .width) [] (below-at 1 _ _ a);
-        height = word-bytes 2 (f .height) [] (below-at 2 _ _ a);
+        reference = word-bytes 2 (f .reference) [] (lt-is _ _ (clause 0 _ a));
+        width = word-bytes 2 (f .width) [] (lt-is _ _ (clause 1 _ a));
+        height = word-bytes 2 (f .height) [] (lt-is _ _ (clause 2 _ a));
         inner = word-bytes 4 n [] (omega arith);
         d263 = refl;
-        vendor = word-bytes 4 (f .vendor) [] (below-at 3 _ _ a);
-        version = word-bytes 1 (f .version) [] (below-at 4 _ _ a);
-        level = word-bytes 1 (f .level) [] (below-at 5 _ _ a);
-        profile = word-bytes 1 (f .profile) [] (below-at 6 _ _ a);
+        vendor = word-bytes 4 (f .vendor) [] (lt-is _ _ (clause 3 _ a));
+        version = word-bytes 1 (f .version) [] (lt-is _ _ (clause 4 _ a));
+        level = word-bytes 1 (f .level) [] (lt-is _ _ (clause 5 _ a));
+        profile = word-bytes 1 (f .profile) [] (lt-is _ _ (clause 6 _ a));
       }
 
   plain-front : (n : ℕ) → take 86 (plainText (86 + n) n f) ≡ visualHead (86 + n) S263 (f .reference) (f .width) (f .height) (bytes 32 0)
@@ -55,7 +58,7 @@ module _ (f : H263) (a : h263Rule f ≡ 1) where
   -- a text that begins so
   module _ (n : ℕ) (h : n < 100) (xs : List ℕ) (t : take 101 xs ≡ plainText (86 + n) n f) (l : length xs ≡ 86 + n) (m : 15 ≤ n) where
     up : (w at : ℕ) → at + w ≤ 101 → word w xs at ≡ word w (plainText (86 + n) n f) at
-    up w at k = sym (word-take w 101 xs at k (omega arith)) ∙ ap (λ (ys : List ℕ). word w ys at) t
+    up = word-front 101 xs (plainText (86 + n) n f) t (plain-length (86 + n) n f)
 
     pub picture-words : PictureWords n f xs
     picture-words =
@@ -83,7 +86,7 @@ module _ (f : H263) (a : h263Rule f ≡ 1) where
         record {
           long = l;
           size = w .size;
-          front = rw (w .size, w .code, w .reference, w .width, w .height) front;
+          head = visual-made xs (86 + n) S263 (f .reference) (f .width) (f .height) front;
           inner = w .inner;
           code = w .d263;
         }

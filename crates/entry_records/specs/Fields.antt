@@ -1,9 +1,12 @@
--- The fields of a record, read from where they stand in an entry, and the rule that they meet: 1, or 0.
+-- The fields of a record, read from where they stand in an entry, and the rule that they meet.
 use Prim.Native.Nat.{ℕ}
+use mathlib.Core.Bool.{Bool, false}
 use mathlib.Core.List.{List, [], _∷_}
 use lib.ListN.{length}
-use Rattle.wire.specs.Tests.{ifEq, ifLt}
+use Rattle.wire.specs.Tests.{ifEq}
+use Rattle.wire.specs.Clauses.{isEq, isLt, every, either}
 use Rattle.wire.specs.Numbers.{word}
+use Rattle.entry_heads.specs.Kinds.{SamrKind, SawbKind, S263Kind}
 use Rattle.entry_rules.specs.Decoders.{framesRule}
 use Rattle.entry_records.specs.declared.field.Amr.{Amr}
 use Rattle.entry_records.specs.declared.field.Rates.{Rates}
@@ -45,41 +48,50 @@ h263In xs =
 
 -- the record of an entry of a kind: the other kinds have none
 unfoldable pub recordIn : ℕ → List ℕ → Record
-recordIn kind xs = ifEq kind 3 (Speech (amrIn kind xs)) (ifEq kind 4 (Speech (amrIn kind xs)) (ifEq kind 5 (Picture (h263In xs)) Broken))
+recordIn kind xs =
+    ifEq kind SamrKind (Speech (amrIn kind xs))
+    (ifEq kind SawbKind (Speech (amrIn kind xs)) (ifEq kind S263Kind (Picture (h263In xs)) Broken))
 
--- ---- their rule
+-- ---- their rule: every number fits its place, and the decoder record's own rule holds
 
--- r where each number is below its limit, else 0
-unfoldable pub below : List (ℕ × ℕ) → ℕ → ℕ
-below [] r = r
-below (p ∷ ps) r = ifLt (p .0) (p .1) (below ps r) 0
-
--- every number fits its place, and the decoder record's own rule holds
-unfoldable pub amrRule : ℕ → Amr → ℕ
+-- a `samr` or a `sawb`
+unfoldable pub amrRule : ℕ → Amr → Bool
 amrRule most f =
-    below
-    ((f .reference, 65536) ∷ (f .scale, 65536) ∷ (f .vendor, 4294967296) ∷ (f .version, 256)
-    ∷ (f .modes, 65536) ∷ (f .period, 256) ∷ (f .frames, 256) ∷ [])
-    (framesRule (f .kind) most (f .modes) (f .period) (f .frames))
+    every
+    (either (isEq (f .kind) SamrKind ∷ isEq (f .kind) SawbKind ∷ [])
+    ∷ isLt (f .reference) 65536
+    ∷ isLt (f .scale) 65536
+    ∷ isLt (f .vendor) 4294967296
+    ∷ isLt (f .version) 256
+    ∷ isLt (f .modes) 65536
+    ∷ isLt (f .period) 256
+    ∷ isLt (f .frames) 256
+    ∷ framesRule (f .kind) most (f .modes) (f .period) (f .frames)
+    ∷ [])
 
 -- the rates of a `bitr` fit their places; without one they are 0
-unfoldable pub ratesRule : Rates → ℕ
+unfoldable pub ratesRule : Rates → Bool
 ratesRule r =
-    ifEq (r .given) 1 (below ((r .average, 4294967296) ∷ (r .maximum, 4294967296) ∷ []) 1)
-    (ifEq (r .given) 0 (ifEq (r .average) 0 (ifEq (r .maximum) 0 1 0) 0) 0)
+    either
+    (every (isEq (r .given) 1 ∷ isLt (r .average) 4294967296 ∷ isLt (r .maximum) 4294967296 ∷ [])
+    ∷ every (isEq (r .given) 0 ∷ isEq (r .average) 0 ∷ isEq (r .maximum) 0 ∷ [])
+    ∷ [])
 
-unfoldable pub h263Rule : H263 → ℕ
+-- an `s263`
+unfoldable pub h263Rule : H263 → Bool
 h263Rule f =
-    below
-    ((f .reference, 65536) ∷ (f .width, 65536) ∷ (f .height, 65536) ∷ (f .vendor, 4294967296)
-    ∷ (f .version, 256) ∷ (f .level, 256) ∷ (f .profile, 256) ∷ [])
-    (ratesRule (f .rates))
+    every
+    (isLt (f .reference) 65536
+    ∷ isLt (f .width) 65536
+    ∷ isLt (f .height) 65536
+    ∷ isLt (f .vendor) 4294967296
+    ∷ isLt (f .version) 256
+    ∷ isLt (f .level) 256
+    ∷ isLt (f .profile) 256
+    ∷ ratesRule (f .rates)
+    ∷ [])
 
--- speech is of kind 3 or 4
-unfoldable pub speechRule : ℕ → Amr → ℕ
-speechRule most f = ifEq (f .kind) 3 (amrRule most f) (ifEq (f .kind) 4 (amrRule most f) 0)
-
-abbrev pub fieldsRule : ℕ → Record → ℕ
-fieldsRule most (Speech f) = speechRule most f
+abbrev pub fieldsRule : ℕ → Record → Bool
+fieldsRule most (Speech f) = amrRule most f
 fieldsRule most (Picture f) = h263Rule f
-fieldsRule most Broken = 0
+fieldsRule most Broken = false

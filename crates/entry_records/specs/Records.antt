@@ -2,9 +2,9 @@
 use Prim.Native.Nat.{ℕ}
 use mathlib.Core.List.{List, [], _∷_, _++_}
 use lib.ListN.{length, drop}
-use Rattle.wire.specs.Tests.{ifEq, ifLt}
+use Rattle.wire.specs.Tests.{pick, ifLt}
 use Rattle.wire.specs.Numbers.{word}
-use Rattle.entry_heads.specs.Kinds.{kindOf}
+use Rattle.entry_heads.specs.Kinds.{S263Kind, kindOf}
 use Rattle.entry_rules.specs.declared.entry.Around.the-variants.{Alone}
 use Rattle.entry_rules.specs.Entries.{entryRule}
 use Rattle.entry_records.specs.declared.field.Record.{Record}
@@ -20,7 +20,7 @@ use Rattle.entry_records.specs.Texts.{textOf}
 abbrev pub fieldsOf : Record → List ℕ
 fieldsOf (Speech f) = f .kind ∷ f .reference ∷ f .scale ∷ f .vendor ∷ f .version ∷ f .modes ∷ f .period ∷ f .frames ∷ []
 fieldsOf (Picture f) =
-    5 ∷ f .reference ∷ f .width ∷ f .height ∷ f .vendor ∷ f .version ∷ f .level ∷ f .profile
+    S263Kind ∷ f .reference ∷ f .width ∷ f .height ∷ f .vendor ∷ f .version ∷ f .level ∷ f .profile
     ∷ f .rates .given ∷ f .rates .average ∷ f .rates .maximum ∷ []
 fieldsOf Broken = []
 
@@ -48,16 +48,16 @@ writtenValue TooShort = 0
 
 -- the fields of an entry of one of the three kinds that meets its rule alone
 unfoldable pub readOf : ℕ → List ℕ → Record
-readOf most xs = ifEq (entryRule Alone most xs) 1 (recordIn (kindOf (word 4 xs 4)) xs) Broken
+readOf most xs = pick (entryRule Alone most xs) (recordIn (kindOf (word 4 xs 4)) xs) Broken
 
 -- ---- the writer
 
 -- fields that break the rule are refused first, then a buffer that is too short
 unfoldable pub writtenOf : ℕ → Record → List ℕ → Written
 writtenOf most r out =
-    ifEq (fieldsRule most r) 1 (ifLt (length out) (length (textOf r)) TooShort (Done (length (textOf r)))) BadFields
+    pick (fieldsRule most r) (ifLt (length out) (length (textOf r)) TooShort (Done (length (textOf r)))) BadFields
 
 -- a refusal writes nothing; else the entry stands at the front, and what lies past it stays
 unfoldable pub outOf : ℕ → Record → List ℕ → List ℕ
 outOf most r out =
-    ifEq (fieldsRule most r) 1 (ifLt (length out) (length (textOf r)) out (textOf r ++ drop (length (textOf r)) out)) out
+    pick (fieldsRule most r) (ifLt (length out) (length (textOf r)) out (textOf r ++ drop (length (textOf r)) out)) out

@@ -1,11 +1,15 @@
 // The fields of a record, and their rule.
+use entry_heads::kind;
 use entry_rules::decoder;
 use wire::number;
 use wire::test;
 ghost use mathlib.Core.Path.{_≡_};
-ghost use Rattle.entry_records.specs.Fields.{amrIn, ratesIn, h263In, recordIn, amrRule, ratesRule, h263Rule, speechRule, fieldsRule};
+ghost use mathlib.Core.List.{[], _∷_};
+ghost use Rattle.wire.specs.Clauses.{isEq, either, oneIf};
+ghost use Rattle.entry_heads.specs.Kinds.{SamrKind, SawbKind};
+ghost use Rattle.entry_records.specs.Fields.{amrIn, ratesIn, h263In, recordIn, amrRule, ratesRule, h263Rule, fieldsRule};
 
-// A `samr` or `sawb` entry: its kind is 3 or 4.
+// A `samr` or `sawb` entry, by its kind.
 pub struct Amr {
     pub kind: usize,
     pub reference: usize,
@@ -90,70 +94,121 @@ fn read_h263(entry: &[u8]) -> H263
 pub fn inside(kind: usize, entry: &[u8]) -> Record
     ensures { λ r. ⌜ r ≡ recordIn kind (now (entry .entry)) ⌝ }
 {
-    if kind == 3 {
+    if kind == kind::SAMR {
         return Record::Speech(read_amr(kind, entry));
     }
-    if kind == 4 {
+    if kind == kind::SAWB {
         return Record::Speech(read_amr(kind, entry));
     }
-    if kind == 5 {
+    if kind == kind::S263 {
         return Record::Picture(read_h263(entry));
     }
     Record::Broken
 }
 
-// 1 where each field fits its place and the modes, period and frames meet their rule, else 0.
+// Whether a kind is `samr` or `sawb`: 1 or 0.
+fn spoken(kind: usize) -> usize
+    ensures { λ r. ⌜ r ≡ oneIf (either (isEq kind SamrKind ∷ isEq kind SawbKind ∷ [])) ⌝ }
+{
+    if kind == kind::SAMR {
+        return 1;
+    }
+    if kind == kind::SAWB {
+        return 1;
+    }
+    0
+}
+
+// Whether each field of a `samr` or `sawb` fits its place and the modes, period and frames meet their rule: 1 or 0.
 fn amr_rule(most: usize, f: Amr) -> usize
-    ensures { λ r. ⌜ r ≡ amrRule most f ⌝ }
+    ensures { λ r. ⌜ r ≡ oneIf (amrRule most f) ⌝ }
 {
-    let r = decoder::frames_rule(f.kind, most, f.modes, f.period, f.frames);
-    let r = test::under(f.frames, 256, r);
-    let r = test::under(f.period, 256, r);
-    let r = test::under(f.modes, 65536, r);
-    let r = test::under(f.version, 256, r);
-    let r = test::under(f.vendor, 4294967296, r);
-    let r = test::under(f.scale, 65536, r);
-    test::under(f.reference, 65536, r)
+    if spoken(f.kind) == 0 {
+        return 0;
+    }
+    if f.reference >= 65536 {
+        return 0;
+    }
+    if f.scale >= 65536 {
+        return 0;
+    }
+    if f.vendor >= 4294967296 {
+        return 0;
+    }
+    if f.version >= 256 {
+        return 0;
+    }
+    if f.modes >= 65536 {
+        return 0;
+    }
+    if f.period >= 256 {
+        return 0;
+    }
+    if f.frames >= 256 {
+        return 0;
+    }
+    decoder::frames_rule(f.kind, most, f.modes, f.period, f.frames)
 }
 
-// 1 where rates fit their places, or are 0 where no `bitr` follows, else 0.
+// Whether rates fit their places, or are 0 where no `bitr` follows: 1 or 0.
 fn rates_rule(rates: Rates) -> usize
-    ensures { λ r. ⌜ r ≡ ratesRule rates ⌝ }
+    ensures { λ r. ⌜ r ≡ oneIf (ratesRule rates) ⌝ }
 {
-    let zero = test::choose(rates.average, 0, test::choose(rates.maximum, 0, 1, 0), 0);
-    let fits = test::under(rates.maximum, 4294967296, 1);
-    let fits = test::under(rates.average, 4294967296, fits);
-    test::choose(rates.given, 1, fits, test::choose(rates.given, 0, zero, 0))
+    if rates.given == 1 {
+        if rates.average >= 4294967296 {
+            return 0;
+        }
+        if rates.maximum >= 4294967296 {
+            return 0;
+        }
+        return 1;
+    }
+    if rates.given != 0 {
+        return 0;
+    }
+    if rates.average != 0 {
+        return 0;
+    }
+    if rates.maximum != 0 {
+        return 0;
+    }
+    1
 }
 
-// 1 where each field of an `s263` fits its place, else 0.
+// Whether each field of an `s263` fits its place: 1 or 0.
 fn h263_rule(f: H263) -> usize
-    ensures { λ r. ⌜ r ≡ h263Rule f ⌝ }
+    ensures { λ r. ⌜ r ≡ oneIf (h263Rule f) ⌝ }
 {
-    let r = rates_rule(f.rates);
-    let r = test::under(f.profile, 256, r);
-    let r = test::under(f.level, 256, r);
-    let r = test::under(f.version, 256, r);
-    let r = test::under(f.vendor, 4294967296, r);
-    let r = test::under(f.height, 65536, r);
-    let r = test::under(f.width, 65536, r);
-    test::under(f.reference, 65536, r)
+    if f.reference >= 65536 {
+        return 0;
+    }
+    if f.width >= 65536 {
+        return 0;
+    }
+    if f.height >= 65536 {
+        return 0;
+    }
+    if f.vendor >= 4294967296 {
+        return 0;
+    }
+    if f.version >= 256 {
+        return 0;
+    }
+    if f.level >= 256 {
+        return 0;
+    }
+    if f.profile >= 256 {
+        return 0;
+    }
+    rates_rule(f.rates)
 }
 
-// 1 where fields are those of a `samr` or a `sawb`, else 0.
-fn speech_rule(most: usize, f: Amr) -> usize
-    ensures { λ r. ⌜ r ≡ speechRule most f ⌝ }
-{
-    let r = amr_rule(most, f);
-    test::choose(f.kind, 3, r, test::choose(f.kind, 4, r, 0))
-}
-
-// 1 where fields meet the rule, else 0.
+// Whether fields meet the rule: 1 or 0.
 pub fn rule(most: usize, fields: Record) -> usize
-    ensures { λ r. ⌜ r ≡ fieldsRule most fields ⌝ }
+    ensures { λ r. ⌜ r ≡ oneIf (fieldsRule most fields) ⌝ }
 {
     match fields {
-        Record::Speech(f) => speech_rule(most, f),
+        Record::Speech(f) => amr_rule(most, f),
         Record::Picture(f) => h263_rule(f),
         Record::Broken => 0,
     }

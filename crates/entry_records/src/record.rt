@@ -19,21 +19,21 @@ pub enum Written {
 pub fn read(entry: &[u8], most: usize) -> Record
     ensures { λ r. ⌜ r ≡ readOf most (now (entry .entry)) ⌝ }
 {
-    if entry::entry_rule(entry, Around::Alone, most) == 1 {
-        return field::inside(kind::of_code(number::word32(entry, 4)), entry);
+    if entry::entry_rule(entry, Around::Alone, most) == 0 {
+        return Record::Broken;
     }
-    Record::Broken
+    field::inside(kind::of_code(number::word32(entry, 4)), entry)
 }
 
 // Writes an entry.
 pub fn write(fields: Record, most: usize, out: &mut [u8]) -> Written
     ensures { λ r. ⌜ (r ≡ writtenOf most fields (now (out .entry))) × (now (out .exit) ≡ outOf most fields (now (out .entry))) ⌝ }
 {
-    if field::rule(most, fields) == 1 {
-        if out.len() < text::length(fields) {
-            return Written::TooShort;
-        }
-        return Written::Done(text::put_record(out, fields));
+    if field::rule(most, fields) == 0 {
+        return Written::BadFields;
     }
-    Written::BadFields
+    if out.len() < text::length(fields) {
+        return Written::TooShort;
+    }
+    Written::Done(text::put_record(out, fields))
 }

@@ -2,10 +2,13 @@
 use Prim.Native.Nat.{ℕ, _≤_}
 use native.Mathlib.Omega.{arith}
 use mathlib.Core.Path.{_≡_, refl, sym}
+use mathlib.Core.Bool.{true}
 use mathlib.Core.List.{List}
 use lib.ListN.{length, drop}
 use Rattle.wire.specs.Numbers.{word}
-use Rattle.wire.proofs.Tests.{eq-yea, eq-nay, lt-nay, eq-met}
+use Rattle.wire.proofs.Tests.{eq-nay}
+use Rattle.wire.proofs.Clauses.{is-eq, eq-is, holds, done, clause}
+use Rattle.entry_heads.specs.Kinds.{SamrKind, S263Kind}
 use Rattle.entry_heads.specs.Heads.{headSize, headRule}
 use Rattle.entry_rules.specs.declared.entry.Around.{Around}
 use Rattle.entry_rules.specs.Decoders.{boxRule, recordRule}
@@ -14,36 +17,33 @@ use Rattle.entry_rules.specs.Entries.{aroundRule, insideRule, ruleAs}
 -- an entry of a kind meets its rule
 pub record Met (kind : ℕ) (around : Around) (most : ℕ) (xs : List ℕ) : Type 0 where
   pub size : word 4 xs 0 ≡ length xs
-  pub head : headRule kind xs ≡ 1
-  pub fits : aroundRule around kind xs ≡ 1
-  pub inside : insideRule kind most (drop (headSize kind) xs) ≡ 1
+  pub head : headRule kind xs ≡ true
+  pub fits : aroundRule around kind xs ≡ true
+  pub inside : insideRule kind most (drop (headSize kind) xs) ≡ true
 
 module _ (kind : ℕ) (around : Around) (most : ℕ) (xs : List ℕ) where
-  pub rule-met : ruleAs kind around most xs ≡ 1 → Met kind around most xs
+  pub rule-met : ruleAs kind around most xs ≡ true → Met kind around most xs
   unfolding ruleAs
-  rule-met e =
-      let a = eq-met _ _ _ e in
-      let b = eq-met _ _ _ (a .1) in
-      let d = eq-met _ _ _ (b .1) in
-      record { size = a .0; head = b .0; fits = d .0; inside = d .1 }
+  rule-met e = record { size = eq-is _ _ (clause 0 _ e); head = clause 1 _ e; fits = clause 2 _ e; inside = clause 3 _ e }
 
-  pub rule-is : Met kind around most xs → ruleAs kind around most xs ≡ 1
+  pub rule-is : Met kind around most xs → ruleAs kind around most xs ≡ true
   unfolding ruleAs
-  rule-is m = sym (eq-yea _ _ _ _ _ (m .size) (eq-yea _ _ _ _ _ (m .head) (eq-yea _ _ _ _ _ (m .fits) (sym (m .inside)))))
+  rule-is m = sym (holds _ _ (is-eq _ _ (m .size)) (holds _ _ (m .head) (holds _ _ (m .fits) (holds _ _ (m .inside) done))))
 
 -- what follows the head of `samr`, `sawb` and `s263` is a decoder record
-pub inside-record : (kind most : ℕ) (xs : List ℕ) → 3 ≤ kind → kind ≤ 5 → insideRule kind most xs ≡ recordRule kind most xs
+pub inside-record : (kind most : ℕ) (xs : List ℕ) → SamrKind ≤ kind → kind ≤ S263Kind → insideRule kind most xs ≡ recordRule kind most xs
 unfolding insideRule
-inside-record kind most xs h k = sym (eq-nay _ _ _ _ _ (λ e. omega arith) (lt-nay _ _ _ _ _ h (eq-nay _ _ _ _ _ (λ e. omega arith) refl)))
+inside-record kind most xs h k =
+    sym
+    (eq-nay _ _ _ _ _ (λ e. omega arith)
+    (eq-nay _ _ _ _ _ (λ e. omega arith) (eq-nay _ _ _ _ _ (λ e. omega arith) (eq-nay _ _ _ _ _ (λ e. omega arith) refl))))
 
 -- one whole box
 module _ (code : ℕ) (xs : List ℕ) where
-  pub box-met : boxRule code xs ≡ 1 → (word 4 xs 0 ≡ length xs) × (word 4 xs 4 ≡ code)
+  pub box-met : boxRule code xs ≡ true → (word 4 xs 0 ≡ length xs) × (word 4 xs 4 ≡ code)
   unfolding boxRule
-  box-met e =
-      let a = eq-met _ _ _ e in
-      (a .0, eq-met _ _ _ (a .1) .0)
+  box-met e = (eq-is _ _ (clause 0 _ e), eq-is _ _ (clause 1 _ e))
 
-  pub box-is : word 4 xs 0 ≡ length xs → word 4 xs 4 ≡ code → boxRule code xs ≡ 1
+  pub box-is : word 4 xs 0 ≡ length xs → word 4 xs 4 ≡ code → boxRule code xs ≡ true
   unfolding boxRule
-  box-is e f = sym (eq-yea _ _ _ _ _ e (eq-yea _ _ _ _ _ f refl))
+  box-is e f = sym (holds _ _ (is-eq _ _ e) (holds _ _ (is-eq _ _ f) done))

@@ -1,6 +1,6 @@
+pub mod Modes
 pub mod Judging
 pub mod Speech
 pub mod Picture
 pub mod Replacing
-pub mod Keeping
 pub mod Kept

@@ -4,7 +4,7 @@ use native.Mathlib.Omega.{arith}
 use mathlib.Core.Path.{_≡_, ap, _∙_}
 use mathlib.Core.List.{List, _++_, append-assoc}
 use lib.ListN.{length, take, drop, length-append, length-drop}
-use lib.Seq.{take-at, drop-at, length-take-le}
+use lib.Seq.{drop-at, length-take-le}
 use Rattle.wire.specs.Numbers.{bytes, word}
 use Rattle.wire.proofs.Numbers.{length-bytes, word-bytes, word-drop, word-left, word-right, word-take}
 use Rattle.entry_rules.specs.Entries.{behindHead}
@@ -23,10 +23,6 @@ module _ (head : ℕ) (xs ys : List ℕ) (h : 4 ≤ head) (l : head ≤ length x
   pub new-length : length (behindHead head xs ys) ≡ head + length ys
   unfolding behindHead front
   new-length = length-append front ys ∙ ap (λ (n : ℕ). n + length ys) front-length
-
-  pub new-front : take head (behindHead head xs ys) ≡ bytes 4 (head + length ys) ++ drop 4 (take head xs)
-  unfolding behindHead front
-  new-front = take-at front ys head front-length
 
   pub new-rest : drop head (behindHead head xs ys) ≡ ys
   unfolding behindHead front

@@ -1,15 +1,15 @@
--- Rule 10: a sample entry, 1 where it meets the rule, and 0 where not.
+-- Rule 10: a sample entry, in the words of the scope document.
 use Prim.Native.Nat.{ℕ, _+_}
-use mathlib.Core.List.{List, _++_}
+use mathlib.Core.Bool.{Bool, true}
+use mathlib.Core.List.{List, [], _∷_, _++_}
 use lib.ListN.{length, take, drop}
-use Rattle.wire.specs.Tests.{ifEq, ifLt}
+use Rattle.wire.specs.Tests.{ifEq}
+use Rattle.wire.specs.Clauses.{isEq, isLe, every}
 use Rattle.wire.specs.Numbers.{bytes, word}
 use Rattle.codes.specs.Codes.{ESDS, AVCC, SOUN}
-use Rattle.boxes.specs.Boxes.{boxes}
-use Rattle.boxes.specs.Seek.{tilingOf, count}
-use Rattle.boxes.specs.declared.seek.Tiling.{Tiling}
-use Rattle.boxes.specs.declared.seek.Tiling.the-variants.{Whole, Torn}
-use Rattle.entry_heads.specs.Kinds.{kindOf, handlerOf}
+use Rattle.boxes.specs.Boxes.{boxes, tiles}
+use Rattle.boxes.specs.Seek.{count}
+use Rattle.entry_heads.specs.Kinds.{OtherKind, Mp4vKind, Mp4aKind, Avc1Kind, kindOf, handlerOf}
 use Rattle.entry_heads.specs.Heads.{headSize, headRule}
 use Rattle.entry_rules.specs.declared.entry.Around.{Around}
 use Rattle.entry_rules.specs.declared.entry.Around.the-variants.{Track, Alone}
@@ -21,52 +21,53 @@ FRAMES = 15
 
 -- ---- what a track says of its entries
 
--- the data reference is 1 to the count of `dref`; a known kind has its handler; TimeScale is that of `mdhd`
-unfoldable pub trackRule : ℕ → ℕ → ℕ → ℕ → List ℕ → ℕ
-trackRule scale handler references kind xs =
-    ifEq (word 2 xs 14) 0 0
-    (ifLt references (word 2 xs 14) 0
-    (ifEq (handlerOf kind) 0 1
-    (ifEq (handlerOf kind) handler
-    (ifEq handler SOUN (ifEq (word 2 xs 32) scale 1 0) 1)
-    0)))
+-- "handler soun", "handler vide", or "any handler"
+unfoldable pub handlerRule : ℕ → ℕ → Bool
+handlerRule kind handler = ifEq (handlerOf kind) 0 true (isEq (handlerOf kind) handler)
 
--- an entry alone, in a sheet or as a record, is judged by none of the three
-abbrev pub aroundRule : Around → ℕ → List ℕ → ℕ
+-- "TimeScale equal to that of mdhd", of an audio kind
+unfoldable pub scaleRule : ℕ → ℕ → List ℕ → Bool
+scaleRule kind scale xs = ifEq (handlerOf kind) SOUN (isEq (word 2 xs 32) scale) true
+
+-- "a data reference index, 1 to the dref count"; and these two
+unfoldable pub trackRule : ℕ → ℕ → ℕ → ℕ → List ℕ → Bool
+trackRule scale handler references kind xs =
+    every (isLe 1 (word 2 xs 14) ∷ isLe (word 2 xs 14) references ∷ handlerRule kind handler ∷ scaleRule kind scale xs ∷ [])
+
+-- an entry alone, in a sheet or as a record, is judged "apart from TimeScale, data reference and handler"
+abbrev pub aroundRule : Around → ℕ → List ℕ → Bool
 aroundRule (Track scale handler references) kind xs = trackRule scale handler references kind xs
-aroundRule Alone kind xs = 1
+aroundRule Alone kind xs = true
 
 -- ---- what follows the head
 
--- exactly one `esds` and nothing after it: payload at least 4, first four bytes 0
-unfoldable pub esdsRule : List ℕ → ℕ
-esdsRule xs = ifEq (boxRule ESDS xs) 1 (ifLt (length xs) 12 0 (ifEq (word 4 xs 8) 0 1 0)) 0
+-- "exactly one esds and nothing after it, payload at least 4, first four bytes 0, the rest opaque"
+unfoldable pub esdsRule : List ℕ → Bool
+esdsRule xs = every (boxRule ESDS xs ∷ isLe 12 (length xs) ∷ isEq (word 4 xs 8) 0 ∷ [])
 
-abbrev pub tiled : Tiling → ℕ
-tiled Whole = 1
-tiled (Torn at) = 0
+-- "boxes tile the rest, exactly one is avcC, all opaque"
+unfoldable pub avcRule : List ℕ → Bool
+avcRule xs = every (tiles xs ∷ isEq (count AVCC (boxes xs)) 1 ∷ [])
 
--- boxes tile it, exactly one is `avcC`
-unfoldable pub avcRule : List ℕ → ℕ
-avcRule xs = ifEq (tiled (tilingOf xs)) 1 (ifEq (count AVCC (boxes xs)) 1 1 0) 0
-
--- after another code's head all is opaque
-unfoldable pub insideRule : ℕ → ℕ → List ℕ → ℕ
+-- by the kind; after another code's head the "rest [is] opaque"
+unfoldable pub insideRule : ℕ → ℕ → List ℕ → Bool
 insideRule kind most xs =
-    ifEq kind 0 1 (ifLt kind 3 (esdsRule xs) (ifEq kind 6 (avcRule xs) (recordRule kind most xs)))
+    ifEq kind OtherKind true
+    (ifEq kind Mp4vKind (esdsRule xs) (ifEq kind Mp4aKind (esdsRule xs) (ifEq kind Avc1Kind (avcRule xs) (recordRule kind most xs))))
 
 -- ---- the whole
 
 -- the size field is the length, the head that of the kind, and so is what follows it; `most` is the largest frames_per_sample
-unfoldable pub ruleAs : ℕ → Around → ℕ → List ℕ → ℕ
+unfoldable pub ruleAs : ℕ → Around → ℕ → List ℕ → Bool
 ruleAs kind around most xs =
-    ifEq (word 4 xs 0) (length xs)
-    (ifEq (headRule kind xs) 1
-    (ifEq (aroundRule around kind xs) 1
-    (insideRule kind most (drop (headSize kind) xs))
-    0) 0) 0
+    every
+    (isEq (word 4 xs 0) (length xs)
+    ∷ headRule kind xs
+    ∷ aroundRule around kind xs
+    ∷ insideRule kind most (drop (headSize kind) xs)
+    ∷ [])
 
-unfoldable pub entryRule : Around → ℕ → List ℕ → ℕ
+unfoldable pub entryRule : Around → ℕ → List ℕ → Bool
 entryRule around most xs = ruleAs (kindOf (word 4 xs 4)) around most xs
 
 -- ---- another decoder record

@@ -1,30 +1,41 @@
-// Decoder records: the `damr` and `d263` boxes of an entry.
+// Decoder records: the `damr` and `d263` boxes of an entry. Each answer is 1 or 0.
+use entry_heads::kind;
 use wire::lend;
 use wire::number;
 use wire::test;
 ghost use mathlib.Core.Path.{_≡_};
 ghost use Prim.Native.Nat.{_<_};
-ghost use Rattle.entry_rules.specs.Decoders.{boxRule, strayModes, periodRule, framesRule, damrRule, d263Rule, recordRule};
+ghost use Rattle.wire.specs.Clauses.{oneIf};
+ghost use Rattle.entry_rules.specs.Decoders.{boxRule, modesRule, periodRule, framesRule, damrRule, ratedRule, d263Rule, recordRule};
 
-// 1 where a part is one whole box of a code, else 0.
+// Whether a part is one whole box of a code.
 pub fn box_rule(code: usize, part: &[u8]) -> usize
-    ensures { λ r. ⌜ r ≡ boxRule code (now (part .entry)) ⌝ }
+    ensures { λ r. ⌜ r ≡ oneIf (boxRule code (now (part .entry))) ⌝ }
 {
-    let coded = test::choose(number::word32(part, 4), code, 1, 0);
-    test::choose(number::word32(part, 0), part.len(), coded, 0)
+    if number::word32(part, 0) != part.len() {
+        return 0;
+    }
+    if number::word32(part, 4) != code {
+        return 0;
+    }
+    1
 }
 
-// The modes that a codec doesn't have.
-fn stray_modes(kind: usize, modes: usize) -> usize
-    ensures { λ r. ⌜ r ≡ strayModes kind modes ⌝ }
+// Whether a codec has the modes: bits 9 to 14 are no modes of `samr`, 10 to 14 none of `sawb`.
+fn modes_rule(kind: usize, modes: usize) -> usize
+    ensures { λ r. ⌜ r ≡ oneIf (modesRule kind modes) ⌝ }
 {
-    test::choose(kind, 3, modes / 512 % 64, modes / 1024 % 32)
+    let stray = test::choose(kind, kind::SAMR, modes / 512 % 64, modes / 1024 % 32);
+    if stray != 0 {
+        return 0;
+    }
+    1
 }
 
-// 1 where a period fits the frames, else 0.
+// Whether a period fits the frames.
 fn period_rule(period: usize, frames: usize) -> usize
     requires { ⌜ 0 < frames ⌝ }
-    ensures { λ r. ⌜ r ≡ periodRule period frames ⌝ }
+    ensures { λ r. ⌜ r ≡ oneIf (periodRule period frames) ⌝ }
 {
     if period == 0 {
         return 1;
@@ -38,57 +49,78 @@ fn period_rule(period: usize, frames: usize) -> usize
     0
 }
 
-// 1 where modes, period and frames meet the rule, else 0.
+// Whether modes, period and frames meet the rule.
 pub fn frames_rule(kind: usize, most: usize, modes: usize, period: usize, frames: usize) -> usize
-    ensures { λ r. ⌜ r ≡ framesRule kind most modes period frames ⌝ }
+    ensures { λ r. ⌜ r ≡ oneIf (framesRule kind most modes period frames) ⌝ }
 {
-    if stray_modes(kind, modes) == 0 {
-        if frames == 0 {
-            return 0;
-        }
-        if most < frames {
-            return 0;
-        }
-        return period_rule(period, frames);
+    if modes_rule(kind, modes) == 0 {
+        return 0;
     }
-    0
+    if frames == 0 {
+        return 0;
+    }
+    if most < frames {
+        return 0;
+    }
+    period_rule(period, frames)
 }
 
-// 1 where a part is the `damr` of a kind, else 0.
+// Whether a part is the `damr` of a kind.
 fn damr_rule(kind: usize, most: usize, part: &[u8]) -> usize
-    ensures { λ r. ⌜ r ≡ damrRule kind most (now (part .entry)) ⌝ }
+    ensures { λ r. ⌜ r ≡ oneIf (damrRule kind most (now (part .entry))) ⌝ }
 {
-    let fields = frames_rule(
+    if box_rule(codes::DAMR, part) == 0 {
+        return 0;
+    }
+    if part.len() != 17 {
+        return 0;
+    }
+    frames_rule(
         kind,
         most,
         number::word16(part, 13),
         number::byte(part, 15),
         number::byte(part, 16),
-    );
-    let sized = test::choose(part.len(), 17, fields, 0);
-    test::choose(box_rule(codes::DAMR, part), 1, sized, 0)
+    )
 }
 
-// 1 where a part is a `d263`, else 0.
+// Whether a `d263` ends with its profile or with one `bitr`.
+fn rated_rule(part: &[u8]) -> usize
+    ensures { λ r. ⌜ r ≡ oneIf (ratedRule (now (part .entry))) ⌝ }
+{
+    if part.len() == 15 {
+        return 1;
+    }
+    if part.len() != 31 {
+        return 0;
+    }
+    if box_rule(codes::BITR, lend::rest(part, 15)) == 0 {
+        return 0;
+    }
+    1
+}
+
+// Whether a part is a `d263`.
 fn d263_rule(part: &[u8]) -> usize
-    ensures { λ r. ⌜ r ≡ d263Rule (now (part .entry)) ⌝ }
+    ensures { λ r. ⌜ r ≡ oneIf (d263Rule (now (part .entry))) ⌝ }
 {
-    let rates = box_rule(codes::BITR, lend::rest(part, 15));
-    let sized = test::choose(part.len(), 15, 1, test::choose(part.len(), 31, rates, 0));
-    test::choose(box_rule(codes::D263, part), 1, sized, 0)
+    if box_rule(codes::D263, part) == 0 {
+        return 0;
+    }
+    rated_rule(part)
 }
 
-// 1 where a part is the decoder record of an entry of a kind, else 0.
+// Whether a part is the decoder record of an entry of a kind.
 pub fn record_rule(kind: usize, most: usize, part: &[u8]) -> usize
-    ensures { λ r. ⌜ r ≡ recordRule kind most (now (part .entry)) ⌝ }
+    ensures { λ r. ⌜ r ≡ oneIf (recordRule kind most (now (part .entry))) ⌝ }
 {
-    if kind == 3 {
+    if kind == kind::SAMR {
         return damr_rule(kind, most, part);
     }
-    if kind == 4 {
+    if kind == kind::SAWB {
         return damr_rule(kind, most, part);
     }
-    if kind == 5 {
+    if kind == kind::S263 {
         return d263_rule(part);
     }
     0

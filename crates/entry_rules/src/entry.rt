@@ -1,15 +1,13 @@
-// Rule 10: a sample entry.
+// Rule 10: a sample entry. Each answer is 1 or 0.
 use crate::decoder;
 use boxes::seek;
-use boxes::seek::Tiling;
 use entry_heads::head;
 use entry_heads::kind;
 use wire::lend;
 use wire::number;
-use wire::test;
 ghost use mathlib.Core.Path.{_≡_};
-ghost use Rattle.boxes.specs.Seek.{tilingOf};
-ghost use Rattle.entry_rules.specs.Entries.{trackRule, aroundRule, esdsRule, tiled, avcRule, insideRule, ruleAs, entryRule};
+ghost use Rattle.wire.specs.Clauses.{oneIf};
+ghost use Rattle.entry_rules.specs.Entries.{handlerRule, scaleRule, trackRule, aroundRule, esdsRule, avcRule, insideRule, ruleAs, entryRule};
 
 // The largest frames_per_sample.
 pub const FRAMES: usize = 15;
@@ -24,9 +22,36 @@ pub enum Around {
     Alone,
 }
 
-// 1 where an entry fits its track, else 0.
+// Whether the handler of a track is that of a kind.
+fn handler_rule(kind: usize, handler: usize) -> usize
+    ensures { λ r. ⌜ r ≡ oneIf (handlerRule kind handler) ⌝ }
+{
+    let own = kind::handler(kind);
+    if own == 0 {
+        return 1;
+    }
+    if own != handler {
+        return 0;
+    }
+    1
+}
+
+// Whether an audio entry has the time scale of its track.
+fn scale_rule(kind: usize, scale: usize, entry: &[u8]) -> usize
+    ensures { λ r. ⌜ r ≡ oneIf (scaleRule kind scale (now (entry .entry))) ⌝ }
+{
+    if kind::handler(kind) != codes::SOUN {
+        return 1;
+    }
+    if number::word16(entry, 32) != scale {
+        return 0;
+    }
+    1
+}
+
+// Whether an entry fits its track.
 fn track_rule(scale: usize, handler: usize, references: usize, kind: usize, entry: &[u8]) -> usize
-    ensures { λ r. ⌜ r ≡ trackRule scale handler references kind (now (entry .entry)) ⌝ }
+    ensures { λ r. ⌜ r ≡ oneIf (trackRule scale handler references kind (now (entry .entry))) ⌝ }
 {
     let reference = number::word16(entry, 14);
     if reference == 0 {
@@ -35,15 +60,15 @@ fn track_rule(scale: usize, handler: usize, references: usize, kind: usize, entr
     if references < reference {
         return 0;
     }
-    let scaled = test::choose(number::word16(entry, 32), scale, 1, 0);
-    let timed = test::choose(handler, codes::SOUN, scaled, 1);
-    let own = kind::handler(kind);
-    test::choose(own, 0, 1, test::choose(own, handler, timed, 0))
+    if handler_rule(kind, handler) == 0 {
+        return 0;
+    }
+    scale_rule(kind, scale, entry)
 }
 
-// 1 where an entry fits what stands around it, else 0.
+// Whether an entry fits what stands around it.
 fn around_rule(around: Around, kind: usize, entry: &[u8]) -> usize
-    ensures { λ r. ⌜ r ≡ aroundRule around kind (now (entry .entry)) ⌝ }
+    ensures { λ r. ⌜ r ≡ oneIf (aroundRule around kind (now (entry .entry))) ⌝ }
 {
     match around {
         Around::Track {
@@ -55,74 +80,73 @@ fn around_rule(around: Around, kind: usize, entry: &[u8]) -> usize
     }
 }
 
-// 1 where a part is one `esds`, else 0.
+// Whether a part is one `esds`.
 fn esds_rule(part: &[u8]) -> usize
-    ensures { λ r. ⌜ r ≡ esdsRule (now (part .entry)) ⌝ }
+    ensures { λ r. ⌜ r ≡ oneIf (esdsRule (now (part .entry))) ⌝ }
 {
-    if decoder::box_rule(codes::ESDS, part) == 1 {
-        if part.len() < 12 {
-            return 0;
-        }
-        return test::choose(number::word32(part, 8), 0, 1, 0);
+    if decoder::box_rule(codes::ESDS, part) == 0 {
+        return 0;
     }
-    0
+    if part.len() < 12 {
+        return 0;
+    }
+    if number::word32(part, 8) != 0 {
+        return 0;
+    }
+    1
 }
 
-// 1 where boxes tile a part, else 0.
-fn tiles(part: &[u8]) -> usize
-    ensures { λ r. ⌜ r ≡ tiled (tilingOf (now (part .entry))) ⌝ }
-{
-    match seek::ends(part) {
-        Tiling::Whole => 1,
-        Tiling::Torn(_) => 0,
-    }
-}
-
-// 1 where boxes tile a part and one is `avcC`, else 0.
+// Whether boxes tile a part and one is `avcC`.
 fn avc_rule(part: &[u8]) -> usize
-    ensures { λ r. ⌜ r ≡ avcRule (now (part .entry)) ⌝ }
+    ensures { λ r. ⌜ r ≡ oneIf (avcRule (now (part .entry))) ⌝ }
 {
-    if tiles(part) == 1 {
-        return test::choose(seek::count(part, codes::AVCC), 1, 1, 0);
+    if seek::tiles(part) == 0 {
+        return 0;
     }
-    0
+    if seek::count(part, codes::AVCC) != 1 {
+        return 0;
+    }
+    1
 }
 
-// 1 where a part follows the head of a kind rightly, else 0.
+// Whether a part follows the head of a kind rightly.
 fn inside_rule(kind: usize, most: usize, part: &[u8]) -> usize
-    ensures { λ r. ⌜ r ≡ insideRule kind most (now (part .entry)) ⌝ }
+    ensures { λ r. ⌜ r ≡ oneIf (insideRule kind most (now (part .entry))) ⌝ }
 {
-    if kind == 0 {
+    if kind == kind::OTHER {
         return 1;
     }
-    if kind < 3 {
+    if kind == kind::MP4V {
         return esds_rule(part);
     }
-    if kind == 6 {
+    if kind == kind::MP4A {
+        return esds_rule(part);
+    }
+    if kind == kind::AVC1 {
         return avc_rule(part);
     }
     decoder::record_rule(kind, most, part)
 }
 
-// 1 where an entry meets the rule of a kind, else 0.
+// Whether an entry meets the rule of a kind.
 fn rule_as(kind: usize, around: Around, most: usize, entry: &[u8]) -> usize
-    ensures { λ r. ⌜ r ≡ ruleAs kind around most (now (entry .entry)) ⌝ }
+    ensures { λ r. ⌜ r ≡ oneIf (ruleAs kind around most (now (entry .entry))) ⌝ }
 {
-    if number::word32(entry, 0) == entry.len() {
-        if head::rule(kind, entry) == 1 {
-            if around_rule(around, kind, entry) == 1 {
-                return inside_rule(kind, most, lend::rest(entry, head::size(kind)));
-            }
-            return 0;
-        }
+    if number::word32(entry, 0) != entry.len() {
         return 0;
     }
-    0
+    if head::rule(kind, entry) == 0 {
+        return 0;
+    }
+    if around_rule(around, kind, entry) == 0 {
+        return 0;
+    }
+    inside_rule(kind, most, lend::rest(entry, head::size(kind)))
 }
 
-// 1 where an entry meets rule 10, else 0; `most` is the largest frames_per_sample.
+// Whether an entry meets rule 10; `most` is the largest frames_per_sample.
 pub fn entry_rule(entry: &[u8], around: Around, most: usize) -> usize
-    ensures { λ r. ⌜ r ≡ entryRule around most (now (entry .entry)) ⌝ }
+    ensures { λ r. ⌜ r ≡ oneIf (entryRule around most (now (entry .entry))) ⌝ }
 {
     rule_as(kind::of_code(number::word32(entry, 4)), around, most, entry)
 }

@@ -8,7 +8,7 @@ use Rattle.wire.specs.Text.{text}
 use Rattle.codes.specs.Codes.{VIDE, SOUN, TEXT}
 use Rattle.movie.specs.Entries.{Entry}
 use Rattle.sample_tables.specs.declared.time.MediaTicks.{MediaTicks}
-use Rattle.entry_heads.specs.Kinds.{kindOf}
+use Rattle.entry_heads.specs.Kinds.{OtherKind, kindOf}
 use Rattle.listing.specs.Decimal.{labelled}
 
 -- "Handlers but vide, soun, text .. print other"
@@ -17,7 +17,7 @@ handlerText h = ifEq h VIDE (text "vide") (ifEq h SOUN (text "soun") (ifEq h TEX
 
 -- ".. and codes of kind 0 print other"
 unfoldable pub codeText : ℕ → List ℕ
-codeText c = ifEq (kindOf c) 0 (text "other") (bytes 4 c)
+codeText c = ifEq (kindOf c) OtherKind (text "other") (bytes 4 c)
 
 -- "track 1 soun 160/8000"
 unfoldable pub trackLine : ℕ → ℕ → MediaTicks → ℕ → List ℕ

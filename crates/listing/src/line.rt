@@ -1,4 +1,5 @@
 // Writers of one line and its parts. Each answers the place past its text, fit or not.
+use entry_heads::kind;
 use sample_tables::time::MediaTicks;
 use wire::pen;
 ghost use Prim.Native.Nat.{_+_, _^_, _≤_, _<_};
@@ -50,7 +51,7 @@ fn put_code(out: &mut [u8], at: usize, c: usize) -> usize
     requires { ⌜ at < 2 ^ 62 ⌝ }
     ensures { λ r. ⌜ Put (codeText c) (now (out .entry)) at r (now (out .exit)) × (r ≤ at + 5) ⌝ }
 {
-    if entry_heads::kind::of_code(c) == 0 {
+    if kind::of_code(c) == kind::OTHER {
         return pen::put_part(out, at, b"other");
     }
     pen::put_number(out, at, 4, c)

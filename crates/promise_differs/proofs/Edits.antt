@@ -3,6 +3,7 @@
 use Prim.Native.Nat.{ℕ, _-_, _≤_, _<_}
 use native.Mathlib.Omega.{arith}
 use mathlib.Core.Path.{_≡_, refl, sym, ap, _∙_}
+use mathlib.Core.Bool.{true}
 use mathlib.Core.List.{List, [], _∷_}
 use mathlib.Core.Logic.{⊎-elim}
 use lib.IntN.{ℤ}
@@ -50,7 +51,7 @@ nowhere-past (s ∷ l) i e =
     (λ h. let k = nowhere-past l (i - length (entriesOf s)) (lt-nay _ _ _ _ _ h refl ∙ e) in rw length-append (omega arith))
 
 -- "Replace decoder record of entry i": one that meets its rule, where the result is not too long
-pub replace-differs : (xs : List ℕ) (i : ℕ) (new : List ℕ) → Bytes xs → Bytes new → Meets xs → recordRule (kindAt xs i) FRAMES new ≡ 1 → length (replaceOf xs i new) ≤ LONGEST → Replaces xs i new (replaceOf xs i new)
+pub replace-differs : (xs : List ℕ) (i : ℕ) (new : List ℕ) → Bytes xs → Bytes new → Meets xs → recordRule (kindAt xs i) FRAMES new ≡ true → length (replaceOf xs i new) ≤ LONGEST → Replaces xs i new (replaceOf xs i new)
 unfolding replaceOf recordReplaced entries
 replace-differs xs i new w v m r h = go (spotIn (stsds xs) (i - 1)) refl (rw settled-length at h)
   where

@@ -40,7 +40,7 @@ pub record Changed (new b b′ : List ℕ) : Type 0 where
   pub rest : after (drop FRONT b′) ≡ after (drop FRONT b)
   pub good : Good entry
   pub is : kindOf (entry .code) ≡ kind
-  pub meets : recordRule kind FRAMES new ≡ 1
+  pub meets : recordRule kind FRAMES new ≡ true
 
 -- one box of a list for another
 all-swap : (f : Box → Bool) (t : Bool) (p : List Box) (x y : Box) (q : List Box) → (f x ≡ true → f y ≡ true) → allList f t (p ++ x ∷ q) ≡ true → allList f t (p ++ y ∷ q) ≡ true

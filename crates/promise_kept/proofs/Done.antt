@@ -3,12 +3,11 @@ use Prim.Native.Nat.{ℕ, _≤_}
 use mathlib.Core.Path.{_≡_, refl, _∙_}
 use mathlib.Core.Bool.{Bool, true, false}
 use mathlib.Core.List.{List}
-use mathlib.Core.Logic.{⊎-elim}
 use lib.IntN.{ℤ}
 use lib.ListN.{length}
-use Rattle.wire.specs.Tests.{pick, ifEq}
+use Rattle.wire.specs.Tests.{pick}
 use Rattle.wire.specs.Numbers.{Bytes}
-use Rattle.wire.proofs.Tests.{lt-yea, eq-ways, lt-or}
+use Rattle.wire.proofs.Tests.{lt-yea, lt-or}
 use Rattle.boxes.specs.Containers.{LONGEST}
 use Rattle.entry_rules.specs.Entries.{FRAMES}
 use Rattle.entry_rules.specs.Decoders.{recordRule}
@@ -32,9 +31,6 @@ pub pick-done : (t : Bool) (a : Answer) (k p : ℕ) {n : ℕ} → pick t a (Refu
 pick-done true a k p e = (refl, e)
 pick-done false a k p e = absurd (refused-not k p _ e)
 
-pub equal-done : (m r : ℕ) (a : Answer) (k p : ℕ) {n : ℕ} → ifEq m r a (Refused k p) ≡ Done n → (m ≡ r) × (a ≡ Done n)
-equal-done m r a k p e = ⊎-elim (λ w. w) (λ w. absurd (refused-not k p _ (w .1))) (eq-ways _ _ _ _ _ e)
-
 room-done : (new out : List ℕ) {n : ℕ} → roomAnswer new out ≡ Done n → length new ≤ LONGEST
 unfolding roomAnswer
 room-done new out e = lt-or LONGEST (length new) (λ h. absurd (refused-not 24 0 _ (lt-yea _ _ _ _ _ h refl ∙ e))) (λ h. h)
@@ -49,13 +45,13 @@ pub shift-passed : (z : ℤ) (xs out : List ℕ) {n : ℕ} → shiftAnswer z xs 
 unfolding shiftAnswer
 shift-passed z xs out e = accepted-meets xs (when-done (judged xs) _ e .0)
 
-pub replace-passed : (xs : List ℕ) (i : ℕ) (new out : List ℕ) {n : ℕ} → replaceAnswer xs i new out ≡ Done n → Meets xs × (recordRule (kindAt xs i) FRAMES new ≡ 1) × (length (replaceOf xs i new) ≤ LONGEST)
+pub replace-passed : (xs : List ℕ) (i : ℕ) (new out : List ℕ) {n : ℕ} → replaceAnswer xs i new out ≡ Done n → Meets xs × (recordRule (kindAt xs i) FRAMES new ≡ true) × (length (replaceOf xs i new) ≤ LONGEST)
 unfolding replaceAnswer takenAnswer settledAnswer
 replace-passed xs i new out e =
     let a = when-done (judged xs) _ e in
     let s = pick (editable xs) (roomAnswer (replaceOf xs i new) out) (Refused 23 0) in
-    let b = pick-done (takes (kindAt xs i) new) (ifEq (recordRule (kindAt xs i) FRAMES new) 1 s (Refused 21 0)) 20 0 (a .1) in
-    let c = equal-done (recordRule (kindAt xs i) FRAMES new) 1 s 21 0 (b .1) in
+    let b = pick-done (takes (kindAt xs i) new) (pick (recordRule (kindAt xs i) FRAMES new) s (Refused 21 0)) 20 0 (a .1) in
+    let c = pick-done (recordRule (kindAt xs i) FRAMES new) s 21 0 (b .1) in
     let d = pick-done (editable xs) (roomAnswer (replaceOf xs i new) out) 23 0 (c .1) in
     (accepted-meets xs (a .0), c .0, room-done (replaceOf xs i new) out (d .1))
 

@@ -1,6 +1,7 @@
 -- Demand 3 of each edit: what it makes of an accepted file is accepted, edits take it again, and every track has the same samples. Assumes nothing.
 use Prim.Native.Nat.{ℕ, _-_, _≤_}
 use mathlib.Core.Path.{_≡_, refl}
+use mathlib.Core.Bool.{true}
 use mathlib.Core.List.{List}
 use lib.IntN.{ℤ}
 use lib.ListN.{length}
@@ -39,7 +40,7 @@ unfolding shiftOf
 keeps-shift z xs w m = keeps-stay xs _ w m (shift-content (shiftTime z) xs w (m .most))
 
 -- "Replace decoder record of entry i": one that meets its rule, where the result is not too long
-pub keeps-replace : (xs : List ℕ) (i : ℕ) (new : List ℕ) → Bytes xs → Bytes new → Meets xs → recordRule (kindAt xs i) FRAMES new ≡ 1 → length (replaceOf xs i new) ≤ LONGEST → Kept xs (replaceOf xs i new)
+pub keeps-replace : (xs : List ℕ) (i : ℕ) (new : List ℕ) → Bytes xs → Bytes new → Meets xs → recordRule (kindAt xs i) FRAMES new ≡ true → length (replaceOf xs i new) ≤ LONGEST → Kept xs (replaceOf xs i new)
 unfolding replaceOf recordReplaced
 keeps-replace xs i new w v m r h = go (spotIn (stsds xs) (i - 1)) refl (rw settled-length at h)
   where

@@ -4,41 +4,22 @@ use native.Mathlib.Omega.{arith}
 use mathlib.Core.Path.{_≡_, ap, _∙_}
 use mathlib.Core.Bool.{true}
 use mathlib.Core.List.{List, _++_, append-assoc}
-use mathlib.Core.Logic.{_⊎_, ⊎-elim}
 use lib.ListN.{length, take, drop, length-append}
 use lib.Seq.{drop-at, length-take-le}
 use Rattle.wire.specs.Numbers.{bytes, word}
 use Rattle.wire.proofs.Lists.{take-past}
 use Rattle.wire.proofs.Numbers.{length-bytes, word-bytes, word-right}
-use Rattle.wire.proofs.Clauses.{is-eq, eq-is}
 use Rattle.boxes.specs.Box.{Box, size, header, remade}
 use Rattle.boxes.specs.Boxes.{HEAD}
 use Rattle.boxes.specs.Way.{tailBy}
 use Rattle.boxes.proofs.Whole.{Good, length-header}
 use Rattle.entry_heads.specs.Kinds.{kindOf}
 use Rattle.entry_heads.specs.Heads.{headSize}
-use Rattle.entry_heads.proofs.Heading.{audio-size, visual-size}
 use Rattle.entry_rules.specs.declared.entry.Around.{Around}
 use Rattle.entry_rules.specs.Decoders.{recordRule}
-use Rattle.entry_rules.specs.Entries.{entryRule, behindHead, FRAMES}
-use Rattle.entry_rules.proofs.Speech.{Spoken, soun, speech-met}
-use Rattle.entry_rules.proofs.Picture.{vide, picture-met}
-use Rattle.entry_rules.proofs.Kept.{record-kinds, entry-kept}
+use Rattle.entry_rules.specs.Entries.{behindHead, FRAMES}
+use Rattle.entry_rules.proofs.Kept.{recorded, entry-head, entry-kept}
 use Rattle.rule_entries.specs.Ten.{meets, entryFine}
-
--- its head lies inside an entry that meets its rule
-head-inside : (around : Around) (most kind : ℕ) (xs : List ℕ) → kindOf (word 4 xs 4) ≡ kind → entryRule around most xs ≡ 1 → Spoken kind ⊎ (kind ≡ 5) → (HEAD ≤ headSize kind) × (headSize kind ≤ length xs)
-unfolding entryRule
-head-inside around most kind xs k e =
-    ⊎-elim
-    (λ p.
-    let h = audio-size kind xs (soun kind most xs p) in
-    let n = speech-met kind most xs p around (rw k at e) .long in
-    (omega arith, omega arith))
-    (λ q.
-    let h : headSize kind ≡ 86 = ap headSize q ∙ visual-size 5 xs (vide most xs) in
-    let n : 86 ≤ length xs = ⊎-elim (λ p. omega (arith, p .long)) (λ p. omega (arith, p .start .long)) (picture-met most xs around (rw (k ∙ q) at e)) in
-    (omega arith, omega arith))
 
 -- ---- the box
 
@@ -59,11 +40,11 @@ module _ (x : Box) (g : Good x) where
       rw (t, d, n) (simp append-assoc)
 
   -- a given record that meets its rule, in the place of the entry's own
-  pub entry-changed : (a : Around) (kind : ℕ) (new : List ℕ) → kindOf (x .code) ≡ kind → recordRule kind FRAMES new ≡ 1 → entryFine a x ≡ true → entryFine a (remade x (tailBy (headSize kind - HEAD) new (x .body))) ≡ true
+  pub entry-changed : (a : Around) (kind : ℕ) (new : List ℕ) → kindOf (x .code) ≡ kind → recordRule kind FRAMES new ≡ true → entryFine a x ≡ true → entryFine a (remade x (tailBy (headSize kind - HEAD) new (x .body))) ≡ true
   unfolding meets
   entry-changed a kind new k r e =
-      let f : entryRule a FRAMES (header x ++ x .body) ≡ 1 = eq-is _ _ e in
       let c : kindOf (word 4 (header x ++ x .body) 4) ≡ kind = ap kindOf code-is ∙ k in
-      let i = head-inside a FRAMES kind (header x ++ x .body) c f (record-kinds kind FRAMES new r .0) in
-      let n : 8 + (headSize kind - HEAD) ≡ headSize kind = omega (arith, i .0) in
-      is-eq _ _ (rw (tail-is (headSize kind - HEAD) new (omega (arith, i .1, length-append (header x) (x .body), length-header x)), n) (entry-kept a FRAMES kind (header x ++ x .body) new c f r))
+      let d = recorded kind FRAMES new r in
+      let i = entry-head a FRAMES kind (header x ++ x .body) c e in
+      let n : 8 + (headSize kind - HEAD) ≡ headSize kind = omega arith in
+      rw (tail-is (headSize kind - HEAD) new (omega (arith, length-append (header x) (x .body), length-header x)), n) (entry-kept a FRAMES kind (header x ++ x .body) new c e r)

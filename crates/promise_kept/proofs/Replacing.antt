@@ -2,6 +2,7 @@
 use Prim.Native.Nat.{ℕ, _-_, _≤_, _<_}
 use native.Mathlib.Omega.{arith}
 use mathlib.Core.Path.{_≡_, refl, sym, ap, subst, _∙_}
+use mathlib.Core.Bool.{true}
 use mathlib.Core.List.{List, _++_}
 use lib.ListN.{length, take, drop, length-append}
 use lib.Seq.{take-at, drop-at, length-take-le}
@@ -32,7 +33,7 @@ use Rattle.promise_kept.proofs.Content.{Content}
 use Rattle.promise_kept.proofs.Once.{once-content}
 use Rattle.promise_kept.proofs.Named.{EntryIn, entry-in}
 
-module _ (xs : List ℕ) (i : ℕ) (new : List ℕ) (w : Bytes xs) (few : length xs ≤ LONGEST) (r : recordRule (kindAt xs i) FRAMES new ≡ 1) (t n : ℕ) (e : spotIn (stsds xs) (i - 1) ≡ In t n) where
+module _ (xs : List ℕ) (i : ℕ) (new : List ℕ) (w : Bytes xs) (few : length xs ≤ LONGEST) (r : recordRule (kindAt xs i) FRAMES new ≡ true) (t n : ℕ) (e : spotIn (stsds xs) (i - 1) ≡ In t n) where
   abbrev keep : ℕ
   keep = headSize (kindAt xs i) - HEAD
 

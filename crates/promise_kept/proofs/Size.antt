@@ -4,7 +4,7 @@ use mathlib.Core.Path.{_≡_, refl, _∙_}
 use mathlib.Core.List.{List}
 use lib.IntN.{ℤ}
 use lib.ListN.{length}
-use Rattle.wire.specs.Tests.{pick, ifEq, ifLt}
+use Rattle.wire.specs.Tests.{pick, ifLt}
 use Rattle.wire.proofs.Tests.{lt-yea, lt-nay, lt-or}
 use Rattle.boxes.specs.Containers.{LONGEST}
 use Rattle.entry_rules.specs.Entries.{FRAMES}
@@ -18,7 +18,7 @@ use Rattle.judge.proofs.Calls.{when-done}
 use Rattle.edit_move.specs.Moving.{moveOf, moveAnswer}
 use Rattle.edit_replace.specs.Replace.{kindAt, takes, replaceOf, roomAnswer, settledAnswer, takenAnswer, replaceAnswer}
 use Rattle.edit_shift.specs.Shift.{shiftable, shiftOf, acceptedAnswer, shiftAnswer}
-use Rattle.promise_kept.proofs.Done.{pick-done, equal-done}
+use Rattle.promise_kept.proofs.Done.{pick-done}
 
 -- of a move
 pub move-size : (xs out : List ℕ) {n : ℕ} → moveAnswer xs out ≡ Done n → n ≡ length (moveOf xs)
@@ -39,8 +39,8 @@ unfolding replaceAnswer takenAnswer settledAnswer roomAnswer
 replace-size xs i new out e =
     let a = when-done (judged xs) _ e in
     let s = pick (editable xs) (ifLt LONGEST (length (replaceOf xs i new)) (Refused 24 0) (inRoom (replaceOf xs i new) out)) (Refused 23 0) in
-    let b = pick-done (takes (kindAt xs i) new) (ifEq (recordRule (kindAt xs i) FRAMES new) 1 s (Refused 21 0)) 20 0 (a .1) in
-    let c = equal-done (recordRule (kindAt xs i) FRAMES new) 1 s 21 0 (b .1) in
+    let b = pick-done (takes (kindAt xs i) new) (pick (recordRule (kindAt xs i) FRAMES new) s (Refused 21 0)) 20 0 (a .1) in
+    let c = pick-done (recordRule (kindAt xs i) FRAMES new) s 21 0 (b .1) in
     let d = pick-done (editable xs) (ifLt LONGEST (length (replaceOf xs i new)) (Refused 24 0) (inRoom (replaceOf xs i new) out)) 23 0 (c .1) in
     lt-or LONGEST (length (replaceOf xs i new))
     (λ h. absurd (refused-not 24 0 _ (lt-yea _ _ _ _ _ h refl ∙ d .1)))

@@ -4,9 +4,7 @@ use mathlib.Core.Path.{_≡_, refl}
 use mathlib.Core.Bool.{true}
 use mathlib.Core.List.{List, [], _∷_, _++_}
 use Rattle.wire.specs.Numbers.{word}
-use Rattle.wire.specs.Clauses.{isEq}
 use Rattle.wire.proofs.Tests.{both}
-use Rattle.wire.proofs.Clauses.{is-eq, eq-is}
 use Rattle.boxes.specs.Box.{Box, size, header}
 use Rattle.movie.specs.Entries.{Entry, entriesFrom}
 use Rattle.entry_heads.specs.Kinds.{kindOf}
@@ -18,7 +16,7 @@ use Rattle.rule.specs.Rule.{allList}
 use Rattle.rule_entries.specs.Ten.{meets, entryFine}
 use Rattle.sheet_table.specs.Form.{allMeet}
 
-pub alone : (a : Around) (most : ℕ) (xs : List ℕ) → entryRule a most xs ≡ 1 → entryRule Alone most xs ≡ 1
+pub alone : (a : Around) (most : ℕ) (xs : List ℕ) → entryRule a most xs ≡ true → entryRule Alone most xs ≡ true
 unfolding entryRule
 alone a most xs e =
     let kind = kindOf (word 4 xs 4) in
@@ -31,11 +29,11 @@ unfolding allList entriesFrom allMeet meets
 from-meet a t [] p q = refl
 from-meet a t (x ∷ l) p q =
     let b = both (entryFine a x) (allList (entryFine a) true l) q in
-    rw (is-eq _ _ (alone a FRAMES (header x ++ x .body) (eq-is _ _ (b .0)))) (from-meet a t l (p + size x) (b .1))
+    rw (alone a FRAMES (header x ++ x .body) (b .0)) (from-meet a t l (p + size x) (b .1))
 
 pub meet-append : (d e : List Entry) → allMeet d ≡ true → allMeet e ≡ true → allMeet (d ++ e) ≡ true
 unfolding allMeet
 meet-append [] e p q = q
 meet-append (x ∷ d) e p q =
-    let b = both (isEq (entryRule Alone FRAMES (x .bytes)) 1) (allMeet d) p in
+    let b = both (entryRule Alone FRAMES (x .bytes)) (allMeet d) p in
     rw (b .0) (meet-append d e (b .1) q)

@@ -75,11 +75,11 @@ sheet-unsheet = roundTrip.sheet-unsheet
 -- ---- records
 
 -- a record that the writer takes reads back as itself
-pub record-back : (most : ℕ) (r : Record) → fieldsRule most r ≡ 1 → readOf most (textOf r) ≡ r
+pub record-back : (most : ℕ) (r : Record) → fieldsRule most r ≡ true → readOf most (textOf r) ≡ r
 record-back = written-reads
 
 -- a record that was read is one that the writer takes, and it writes the bytes that it was read from
-pub bytes-back : (most : ℕ) (xs : List ℕ) → Bytes xs → (r : Record) → readOf most xs ≡ r → (r ≡ Broken → ⊥) → (fieldsRule most r ≡ 1) × (textOf r ≡ xs)
+pub bytes-back : (most : ℕ) (xs : List ℕ) → Bytes xs → (r : Record) → readOf most xs ≡ r → (r ≡ Broken → ⊥) → (fieldsRule most r ≡ true) × (textOf r ≡ xs)
 bytes-back most xs v r e b = let a = read-writes most xs v r e b in (a .rule, a .text)
 
 -- numbers that the writer took: the reader gives them back

@@ -1,7 +1,7 @@
 -- Nothing is vacuous: the file of the paper's printed listing is accepted, and so is one with each kind of entry, by computation.
 use mathlib.Core.Path.{_≡_, refl}
 use mathlib.Core.List.{[], _∷_}
-use Rattle.wire.specs.Clauses.{isEq, isLt, isLe, every, oneIf}
+use Rattle.wire.specs.Clauses.{isEq, isLt, isLe, every, either, oneIf}
 use Rattle.wire.specs.Numbers.{bytesOn, bytes, word}
 use Rattle.wire.specs.Same.{same}
 use Rattle.wire.specs.Sums.{sumTo, allTo}
@@ -18,10 +18,10 @@ use Rattle.sample_tables.specs.Tables.{hasForm}
 use Rattle.sample_tables.specs.Times.{timedTo}
 use Rattle.mdat.specs.Payloads.{mdats, inBox, past, resolve, inAt}
 use Rattle.mdat.specs.Rules.{chunkIn, chunksIn}
-use Rattle.entry_heads.specs.Heads.{boxHeader, commonHead, audioHead, visualStart, visualHead, headSize, nameIn, begins, headRule}
+use Rattle.entry_heads.specs.Heads.{boxHeader, commonHead, audioHead, visualStart, visualHead, headSize, commonRule, audioRule, nameRule, visualRule, headRule}
 use Rattle.entry_heads.specs.Kinds.{kindOf, handlerOf}
-use Rattle.entry_rules.specs.Decoders.{boxRule, strayModes, periodRule, framesRule, damrRule, d263Rule, recordRule}
-use Rattle.entry_rules.specs.Entries.{trackRule, esdsRule, avcRule, insideRule, ruleAs, entryRule}
+use Rattle.entry_rules.specs.Decoders.{boxRule, modeMask, modesRule, periodRule, framesRule, damrRule, ratedRule, d263Rule, recordRule}
+use Rattle.entry_rules.specs.Entries.{handlerRule, scaleRule, trackRule, esdsRule, avcRule, insideRule, ruleAs, entryRule}
 use Rattle.rule.specs.Judge.{judgeList, judgeBox, judgeIn}
 use Rattle.rule.specs.Verdict.{sooner, unless}
 use Rattle.rule_shape.specs.Shape.{needed, exactly, first, besides, shape}
@@ -41,5 +41,5 @@ use Rattle.judge.specs.Judgement.{unlessBroken, judgedFrom, judged}
 use Rattle.promises.specs.Example.{kinds, numbers}
 
 pub every-kind : numbers kinds ≡ 0 ∷ 0 ∷ 0 ∷ 0 ∷ 0 ∷ 0 ∷ 0 ∷ 0 ∷ []
-unfolding isEq isLt isLe every oneIf bytesOn bytes word same sumTo allTo ifEq ifLt ifLe header write whole boxes total after parent kindIn tilingOf meant count nth placeBy placeIn startIn samplesIn firstSample chunkAt extentOf descriptionOf emptyTogether tablesAgree rises runFine runsFine runAmong runOf sizesListed sizeAt bytesFrom hasForm timedTo mdats inBox past resolve inAt chunkIn chunksIn boxHeader commonHead audioHead visualStart visualHead headSize nameIn begins headRule kindOf handlerOf boxRule strayModes periodRule framesRule damrRule d263Rule recordRule trackRule esdsRule avcRule insideRule ruleAs entryRule judgeList judgeBox judgeIn sooner unless needed exactly first besides shape listForm formIn follow isUrl brandsForm headForm handlerForm ifBox form tracksIn identity fresh tkhdPlace freshTo eightHolds eightAt sevenHolds sevenIn tableFine tableIn sixHolds meets tenAt unlessBroken judgedFrom judged placeAlong references handler scale stsdsFrom passing aroundOf entriesJudged stsdsJudged
+unfolding isEq isLt isLe every either oneIf bytesOn bytes word same sumTo allTo ifEq ifLt ifLe header write whole boxes total after parent kindIn tilingOf meant count nth placeBy placeIn startIn samplesIn firstSample chunkAt extentOf descriptionOf emptyTogether tablesAgree rises runFine runsFine runAmong runOf sizesListed sizeAt bytesFrom hasForm timedTo mdats inBox past resolve inAt chunkIn chunksIn boxHeader commonHead audioHead visualStart visualHead headSize commonRule audioRule nameRule visualRule headRule kindOf handlerOf boxRule modeMask modesRule periodRule framesRule damrRule ratedRule d263Rule recordRule handlerRule scaleRule trackRule esdsRule avcRule insideRule ruleAs entryRule judgeList judgeBox judgeIn sooner unless needed exactly first besides shape listForm formIn follow brokenAt entriesOf entries overMost isUrl brandsForm headForm handlerForm ifBox form tracksIn identity fresh tkhdPlace freshTo eightHolds eightAt sevenHolds sevenIn tableFine tableIn sixHolds aroundIn stsdStart meets entriesFrom tenAt unlessBroken judgedFrom judged
 every-kind = refl

@@ -4,6 +4,7 @@ use mathlib.Core.Bool.{Bool, true, _&&_}
 use mathlib.Core.List.{List, [], _∷_, _++_, map}
 use lib.Dec.{eqb}
 use lib.IntN.{ℤ, pos}
+use Rattle.wire.specs.Clauses.{oneIf}
 use Rattle.wire.specs.Numbers.{bytes}
 use Rattle.codes.specs.Codes.{SAMR, SAWB, SOUN}
 use Rattle.entry_rules.specs.declared.entry.Around.the-variants.{Track, Alone}
@@ -62,7 +63,7 @@ markedCases =
     ∷ []
 
 abbrev pub asMarked : Row → Bool
-asMarked (ofEntry c) = eqb (entryRule (Track (c .scale) SOUN 1) 15 (entry c)) (c .fine) && eqb (entryRule Alone 15 (entry c)) (c .fine)
+asMarked (ofEntry c) = eqb (oneIf (entryRule (Track (c .scale) SOUN 1) 15 (entry c))) (c .fine) && eqb (oneIf (entryRule Alone 15 (entry c))) (c .fine)
 asMarked (ofFile xs n p) = eqb (judgedNumber (judged xs)) n && eqb (judgedPlace (judged xs)) p
 asMarked (ofShift xs z n) = eqb (answer.answerNumber (shiftAnswer z xs [])) n
 

@@ -6,8 +6,9 @@ use mathlib.Core.List.{List, [], _∷_, _++_, append-assoc}
 use lib.ListN.{length, take, drop, length-append}
 use lib.Seq.{take-at}
 use Rattle.wire.specs.Numbers.{Bytes}
+use Rattle.wire.specs.Clauses.{oneIf}
 use Rattle.codes.specs.Codes.{MOOV, TRAK}
-use Rattle.wire.proofs.Clauses.{is-eq, not-eq}
+use Rattle.wire.proofs.Clauses.{was-yea, was-nay}
 use Rattle.wire.proofs.Tests.{eq-yea, eq-nay}
 use Rattle.boxes.specs.declared.walk.Walk.{Walk}
 use Rattle.boxes.specs.declared.walk.BoxAt.{BoxAt}
@@ -34,13 +35,13 @@ use Rattle.rule_entries.specs.Ten.{aroundOf, meets, bytesOf, entryFine, 
 
 -- ---- one entry
 
-pub meets-yea : (a : Around) (xs : List ℕ) (p : ℕ) {r : ℕ} → r ≡ entryRule a FRAMES xs → r ≡ 1 → Fine ≡ unless (meets a xs) p
+pub meets-yea : (a : Around) (xs : List ℕ) (p : ℕ) {r : ℕ} → r ≡ oneIf (entryRule a FRAMES xs) → (r ≡ 0 → ⊥) → Fine ≡ unless (meets a xs) p
 unfolding meets
-meets-yea a xs p e q = unless-yea _ p (sym (is-eq _ _ (sym e ∙ q)))
+meets-yea a xs p e q = unless-yea _ p (sym (was-yea _ _ q e))
 
-pub meets-nay : (a : Around) (xs : List ℕ) (p : ℕ) {r : ℕ} → r ≡ entryRule a FRAMES xs → (r ≡ 1 → ⊥) → Bad p ≡ unless (meets a xs) p
+pub meets-nay : (a : Around) (xs : List ℕ) (p : ℕ) {r : ℕ} → r ≡ oneIf (entryRule a FRAMES xs) → r ≡ 0 → Bad p ≡ unless (meets a xs) p
 unfolding meets
-meets-nay a xs p e q = unless-nay _ p (sym (not-eq _ _ (λ z. q (e ∙ z))))
+meets-nay a xs p e q = unless-nay _ p (sym (was-nay _ _ q e))
 
 -- the bytes of a box that a step found are its header and its payload
 pub bytes-is : {xs : List ℕ} {at : ℕ} {b : BoxAt} {w : Walk} → Bytes xs → Ran xs at b w → bytesOf xs b ≡ header (boxAt xs b) ++ payload xs b

@@ -4,7 +4,6 @@ use mathlib.Core.Bool.{Bool, true, false}
 use mathlib.Core.List.{List, [], _∷_, _++_}
 use lib.ListN.{take, drop}
 use Rattle.wire.specs.Tests.{pick, ifEq}
-use Rattle.wire.specs.Clauses.{isEq}
 use Rattle.codes.specs.Codes.{MOOV}
 use Rattle.boxes.specs.declared.walk.BoxAt.{BoxAt}
 use Rattle.boxes.specs.Box.{Box, header}
@@ -28,7 +27,7 @@ aroundOf b = Track (scale b) (handler b) (references b)
 
 -- an entry, header and all, meets its rule
 unfoldable pub meets : Around → List ℕ → Bool
-meets a xs = isEq (entryRule a FRAMES xs) 1
+meets a xs = entryRule a FRAMES xs
 
 -- the bytes of a box that was found
 abbrev pub bytesOf : List ℕ → BoxAt → List ℕ

@@ -36,10 +36,10 @@ fn entry_at(list: &[u8], b: BoxAt, base: usize, around: Around) -> Verdict
 {
     let from = b.at;
     let to = b.at + b.size;
-    if entry::entry_rule(&list[from..to], around, entry::FRAMES) == 1 {
-        return Verdict::Fine;
+    if entry::entry_rule(&list[from..to], around, entry::FRAMES) == 0 {
+        return Verdict::Bad(base + from);
     }
-    Verdict::Bad(base + from)
+    Verdict::Fine
 }
 
 // The first entry of a list that breaks its rule.

@@ -1,24 +1,11 @@
 // Rule 5 of one `stsd` or `dref`.
 use boxes::seek;
-use boxes::seek::Tiling;
 use boxes::walk::FRONT;
 use wire::lend;
 use wire::number;
 ghost use mathlib.Core.Path.{_≡_};
-ghost use lib.ListN.{length};
-ghost use Rattle.wire.specs.Clauses.{isEq, oneIf};
-ghost use Rattle.boxes.specs.Boxes.{after};
+ghost use Rattle.wire.specs.Clauses.{oneIf};
 ghost use Rattle.rule_lists.specs.Five.{listForm, formIn};
-
-// Whether boxes tile a part: 1 or 0.
-fn tiled(part: &[u8]) -> usize
-    ensures { λ r. ⌜ r ≡ oneIf (isEq (length (after (now (part .entry)))) 0) ⌝ }
-{
-    match seek::ends(part) {
-        Tiling::Whole => 1,
-        Tiling::Torn(_) => 0,
-    }
-}
 
 // Whether a payload has the form of rule 5: 1 or 0.
 pub fn list_form(body: &[u8]) -> usize
@@ -35,7 +22,7 @@ pub fn list_form(body: &[u8]) -> usize
     if n < 1 {
         return 0;
     }
-    if tiled(list) == 0 {
+    if seek::tiles(list) == 0 {
         return 0;
     }
     if seek::count(list, seek::ANY) != n {

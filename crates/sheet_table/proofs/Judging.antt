@@ -5,7 +5,7 @@ use mathlib.Core.List.{List}
 use lib.ListN.{take, getD}
 use Rattle.wire.specs.Numbers.{word}
 use Rattle.wire.specs.Clauses.{oneIf}
-use Rattle.wire.proofs.Clauses.{is-eq, not-eq, was-nay, was-yea}
+use Rattle.wire.proofs.Clauses.{was-nay, was-yea}
 use Rattle.entry_rules.specs.declared.entry.Around.the-variants.{Alone}
 use Rattle.entry_rules.specs.Entries.{entryRule, FRAMES}
 use Rattle.sheet_table.specs.Form.{read, follows, steps, allMeet}
@@ -32,11 +32,11 @@ pub meet-none : (n : ℕ) (xs ys : List ℕ) → n ≡ 0 → 1 ≡ oneIf (allMee
 unfolding allMeet oneIf
 meet-none n xs ys e = rw (read-none n xs ys e)
 
-module _ {n f : ℕ} (xs ys : List ℕ) {first : List ℕ} (h : n ≡ 0 → ⊥) (b : first ≡ take (word 4 xs 8) ys) (e : f ≡ entryRule Alone FRAMES first) where
-  pub meet-bad : (f ≡ 1 → ⊥) → 0 ≡ oneIf (allMeet (read n xs ys))
+module _ {n f : ℕ} (xs ys : List ℕ) {first : List ℕ} (h : n ≡ 0 → ⊥) (b : first ≡ take (word 4 xs 8) ys) (e : f ≡ oneIf (entryRule Alone FRAMES first)) where
+  pub meet-bad : f ≡ 0 → 0 ≡ oneIf (allMeet (read n xs ys))
   unfolding allMeet oneIf
-  meet-bad z = rw (read-more h (past-is xs ys), ← b, ← e, not-eq f 1 z)
+  meet-bad z = rw (read-more h (past-is xs ys), ← b, was-nay (entryRule Alone FRAMES first) f z e)
 
-  pub meet-more : {r : ℕ} {rest past : List ℕ} → Past xs ys rest past → f ≡ 1 → r ≡ oneIf (allMeet (read (n - 1) rest past)) → r ≡ oneIf (allMeet (read n xs ys))
+  pub meet-more : {r : ℕ} {rest past : List ℕ} → Past xs ys rest past → (f ≡ 0 → ⊥) → r ≡ oneIf (allMeet (read (n - 1) rest past)) → r ≡ oneIf (allMeet (read n xs ys))
   unfolding allMeet
-  meet-more p z g = g ∙ rw (read-more h p, ← b, ← e, is-eq f 1 z)
+  meet-more p z g = g ∙ rw (read-more h p, ← b, was-yea (entryRule Alone FRAMES first) f z e)

@@ -40,7 +40,7 @@ steps t (e ∷ es) = pick (follows t (e .track)) (steps (e .track) es) false
 -- "each body must be a box of its kind that meets its entry rule, apart from TimeScale, data reference and handler"
 unfoldable pub allMeet : List Entry → Bool
 allMeet [] = true
-allMeet (e ∷ es) = pick (isEq (entryRule Alone FRAMES (e .bytes)) 1) (allMeet es) false
+allMeet (e ∷ es) = pick (entryRule Alone FRAMES (e .bytes)) (allMeet es) false
 
 -- "A sheet must have the form above": it is the sheet that its own entries make, whatever their places
 unfoldable pub formed : ℕ → List ℕ → Bool

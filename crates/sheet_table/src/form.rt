@@ -71,14 +71,14 @@ fn all_meet(slots: &[u8], bodies: &[u8], n: usize) -> usize
     if n == 0 {
         return 1;
     }
-    if entry::entry_rule(slots::body(slots, bodies), Around::Alone, entry::FRAMES) == 1 {
-        return all_meet(
-            lend::rest(slots, slots::SLOT),
-            slots::past(slots, bodies),
-            n - 1,
-        );
+    if entry::entry_rule(slots::body(slots, bodies), Around::Alone, entry::FRAMES) == 0 {
+        return 0;
     }
-    0
+    all_meet(
+        lend::rest(slots, slots::SLOT),
+        slots::past(slots, bodies),
+        n - 1,
+    )
 }
 
 // 1 where a sheet of n entries is the one that they make, else 0.

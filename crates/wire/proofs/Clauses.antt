@@ -6,7 +6,7 @@ use mathlib.Core.Bool.{Bool, true, false}
 use mathlib.Core.List.{List, [], _∷_}
 use lib.ListN.{getD}
 use borrow.Author.Tests.{ltb-true, leb-true, eqb-true, le-ltb, lt-ltb, le-leb, lt-leb, eq-eqb, ne-eqb}
-use Rattle.wire.specs.Clauses.{isEq, isLt, isLe, every, oneIf}
+use Rattle.wire.specs.Clauses.{isEq, isLt, isLe, every, either, oneIf}
 use Rattle.wire.proofs.Tests.{both}
 
 -- ---- a test, from its numbers and back
@@ -79,6 +79,38 @@ clause i [] e = refl
 clause zero (t ∷ ts) e = both t (every ts) e .0
 clause (suc i) (t ∷ ts) e = clause i ts (both t (every ts) e .1)
 
+-- all, with another first one that holds
+pub another : (s t : Bool) (ts : List Bool) → t ≡ true → every (s ∷ ts) ≡ true → every (t ∷ ts) ≡ true
+unfolding every
+another s t ts h e = rw h (both s (every ts) e .1)
+
+-- ---- one of a list of clauses
+
+-- clause i, from 0, holds
+pub one : (i : ℕ) (ts : List Bool) → getD ts i false ≡ true → true ≡ either ts
+unfolding either
+one i [] e = sym e
+one zero (t ∷ ts) e = rw e
+one (suc i) (true ∷ ts) e = refl
+one (suc i) (false ∷ ts) e = one i ts e
+
+-- none does
+pub none : false ≡ either []
+unfolding either
+none = refl
+
+-- one that fails says nothing
+pub lacks : {r : Bool} (t : Bool) (ts : List Bool) → t ≡ false → r ≡ either ts → r ≡ either (t ∷ ts)
+unfolding either
+lacks t ts h e = rw h e
+
+-- one of two, from either
+pub of-two : {A : Type 0} (s t : Bool) → either (s ∷ t ∷ []) ≡ true → (s ≡ true → A) → (t ≡ true → A) → A
+unfolding either
+of-two true t e f g = f refl
+of-two false true e f g = g refl
+of-two false false e f g = f e
+
 -- ---- the answer
 
 pub yea : (t : Bool) → true ≡ t → 1 ≡ oneIf t
@@ -89,6 +121,10 @@ pub nay : (t : Bool) → false ≡ t → 0 ≡ oneIf t
 unfolding oneIf
 nay t e = rw (← e)
 
+-- the answer to the same rule, said otherwise
+pub answer : (s t : Bool) {r : ℕ} → r ≡ oneIf s → s ≡ t → r ≡ oneIf t
+answer s t e q = rw q at e
+
 pub was-nay : (t : Bool) (r : ℕ) → r ≡ 0 → r ≡ oneIf t → t ≡ false
 unfolding oneIf
 was-nay true r z e = absurd (omega arith)
@@ -98,3 +134,10 @@ pub was-yea : (t : Bool) (r : ℕ) → (r ≡ 0 → ⊥) → r ≡ oneIf t → t
 unfolding oneIf
 was-yea true r z e = refl
 was-yea false r z e = absurd (z e)
+
+-- a rule that was asked
+pub asked-yea : (t : Bool) → (oneIf t ≡ 0 → ⊥) → t ≡ true
+asked-yea t z = was-yea t (oneIf t) z refl
+
+pub asked-nay : (t : Bool) → oneIf t ≡ 0 → t ≡ false
+asked-nay t z = was-nay t (oneIf t) z refl

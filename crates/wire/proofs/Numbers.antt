@@ -1,12 +1,12 @@
 -- Laws of big-endian numbers, over every width. Assumes nothing.
 use Prim.Native.Nat.{ℕ, zero, suc, _+_, _-_, _*_, _/_, _%_, _^_, _≤_, _<_}
 use native.Mathlib.Omega.{arith}
-use native.Mathlib.Nat.{add-mul, mul-assoc, mul-le-mul-right, one-le-pow, pow-suc, pow-succ', div-one, zero-add, div-div-eq-div-mul, mul-add-div-right, div-eq-of-lt}
+use native.Mathlib.Nat.{add-mul, mul-assoc, mul-le-mul-left, mul-le-mul-right, one-le-pow, pow-suc, pow-succ', div-one, zero-add, div-div-eq-div-mul, mul-add-div-right, div-eq-of-lt}
 use mathlib.Core.Path.{_≡_, refl, sym, ap, _∙_}
 use mathlib.Core.Bool.{Bool, true, false}
 use mathlib.Core.List.{List, [], _∷_, _++_, append-nil}
 use lib.Dec.{leb}
-use lib.ListN.{length, getD, take, drop, length-append, length-drop, take-append-drop, List·getD-eq-default}
+use lib.ListN.{length, getD, take, drop, length-append, length-take, length-drop, take-append-drop, List·getD-eq-default}
 use lib.Seq.{getD-drop, take-add, drop-drop, drop-cons, take-append-le, drop-append-le, take-at, drop-at, length-take-le}
 use Rattle.wire.specs.Tests.{pick, ifLe}
 use Rattle.wire.specs.Numbers.{Bytes, numberOn, bytesOn, bytes, word}
@@ -134,6 +134,26 @@ word-join v w xs at h =
     let l : length (take w (drop (at + v) xs)) ≡ w = length-take-le w (drop (at + v) xs) (rw length-drop (omega arith)) in
     rw (word-in v xs at (omega arith), word-in w xs (at + v) (omega arith), word-in (v + w) xs at h, take-add v w (drop at xs), drop-drop v at xs, number-append, number-front (numberOn 0 (take v (drop at xs))) (take w (drop (at + v) xs)), l)
 
+-- a number is 0 where both of its parts are
+pub zero-join : (v w : ℕ) (xs : List ℕ) (at : ℕ) → at + (v + w) ≤ length xs → word v xs at ≡ 0 → word w xs (at + v) ≡ 0 → word (v + w) xs at ≡ 0
+zero-join v w xs at h e f = sym (word-join v w xs at h) ∙ rw (e, f) (omega arith)
+
+pub zero-split : (v w : ℕ) (xs : List ℕ) (at : ℕ) → at + (v + w) ≤ length xs → word (v + w) xs at ≡ 0 → (word v xs at ≡ 0) × (word w xs (at + v) ≡ 0)
+zero-split v w xs at h e =
+    let k : word v xs at * 1 ≤ word v xs at * 256 ^ w = mul-le-mul-left (word v xs at) (one-le-pow w 256 (omega arith)) in
+    (omega (arith, word-join v w xs at h), omega (arith, word-join v w xs at h))
+
+-- one byte more
+pub zero-more : (xs : List ℕ) (at i : ℕ) → at + i < length xs → word i xs at ≡ 0 → getD xs (at + i) 0 ≡ 0 → word (i + 1) xs at ≡ 0
+zero-more xs at i h e f = zero-join i 1 xs at (omega arith) e (word-byte xs (at + i) ∙ f)
+
+-- a number with a byte that is not 0
+pub zero-not : (n : ℕ) (xs : List ℕ) (at i : ℕ) → at + n ≤ length xs → i < n → (getD xs (at + i) 0 ≡ 0 → ⊥) → word n xs at ≡ 0 → ⊥
+zero-not n xs at i h k f e =
+    let s : i + (1 + (n - i - 1)) ≡ n = omega arith in
+    let a = zero-split i (1 + (n - i - 1)) xs at (omega arith) (rw s e) in
+    f (sym (word-byte xs (at + i)) ∙ zero-split 1 (n - i - 1) xs (at + i) (omega arith) (a .1) .0)
+
 pub word-fits : (w : ℕ) (xs : List ℕ) (at : ℕ) → Bytes xs → word w xs at < 256 ^ w
 word-fits w xs at h =
     lt-or (length xs) (at + w)
@@ -160,7 +180,7 @@ word-bytes w n xs h =
     let l = length-bytes w n in
     rw (word-in w (bytes w n ++ xs) 0 (rw length-append (omega arith)), take-at (bytesOn w n []) xs w l, number-on 0 w n [] h) (omega arith)
 
-word-none : (xs : List ℕ) (at : ℕ) → word 0 xs at ≡ 0
+pub word-none : (xs : List ℕ) (at : ℕ) → word 0 xs at ≡ 0
 unfolding word ifLe
 word-none xs at = go (leb (at + 0) (length xs))
   where
@@ -190,6 +210,10 @@ pub word-take : (w n : ℕ) (xs : List ℕ) (at : ℕ) → at + w ≤ n → n �
 word-take w n xs at h k =
     let l : length (take n xs) ≡ n = length-take-le n xs k in
     sym (ap (λ (ys : List ℕ). word w ys at) (sym (take-append-drop n xs)) ∙ word-left w (take n xs) (drop n xs) at (omega arith))
+
+-- a word of a part that begins with ys, at a place in ys
+pub word-front : (n : ℕ) (xs ys : List ℕ) → take n xs ≡ ys → length ys ≡ n → (w at : ℕ) → at + w ≤ n → word w xs at ≡ word w ys at
+word-front n xs ys e l w at h = sym (word-take w n xs at h (omega (arith, length-take n xs, ap length e))) ∙ ap (λ (zs : List ℕ). word w zs at) e
 
 -- the two widths of the format, as code puts them together
 pub word16-is : (xs : List ℕ) (at : ℕ) {a b : ℕ} → a ≡ getD xs at 0 → b ≡ getD xs (at + 1) 0 → at + 2 ≤ length xs → a * 256 + b ≡ word 2 xs at

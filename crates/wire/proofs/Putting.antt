@@ -2,13 +2,13 @@
 use Prim.Native.Nat.{ℕ, _+_, _-_, _/_, _%_, _≤_}
 use native.Mathlib.Omega.{arith}
 use mathlib.Core.Path.{_≡_, ap, _∙_}
-use mathlib.Core.List.{List, [], _∷_, _++_, append-nil}
-use lib.ListN.{length, take, drop, drop-of-length-le}
+use mathlib.Core.List.{List, [], _∷_, _++_}
+use lib.ListN.{length, take}
 use lib.Seq.{take-add}
 use Rattle.wire.specs.Numbers.{Bytes, bytesOn, bytes, word}
 use Rattle.wire.specs.Writing.{Put}
 use Rattle.wire.proofs.Numbers.{bytes-join, bytes-word}
-use Rattle.wire.proofs.Writing.{pen-none, pen-then, pen-is, pen-front}
+use Rattle.wire.proofs.Writing.{pen-none, pen-then, pen-is}
 
 -- no bytes
 pub number-none : (out : List ℕ) (at width n : ℕ) → width ≡ 0 → Put (bytes width n) out at at out
@@ -21,12 +21,6 @@ unfolding bytes bytesOn
 number-more width n h p q =
     let e : 1 + (width - 1) ≡ width = omega arith in
     pen-is (bytes-join (width - 1) 1 n ∙ ap (λ (w : ℕ). bytes w n) e) (pen-then p q)
-
--- a text that fills a buffer
-pub made-is : {xs start made : List ℕ} {r : ℕ} → Put xs start 0 r made → length start ≡ length xs → made ≡ xs
-made-is {xs} {start} {made} {r} p l =
-    let d : drop r start ≡ [] = drop-of-length-le start {i = r} (omega (arith, p .next)) in
-    pen-front p (omega (arith, p .next)) .is ∙ rw (d, append-nil)
 
 -- the front of a part, one number longer
 pub grow : (xs : List ℕ) → Bytes xs → {p : List ℕ} (at w n : ℕ) → at + w ≤ length xs → word w xs at ≡ n → take at xs ≡ p → take (at + w) xs ≡ p ++ bytes w n

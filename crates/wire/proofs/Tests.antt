@@ -1,6 +1,5 @@
 -- A test's two ways, each in the direction of a need: the result is the choice; and back from the choice. Assumes nothing.
 use Prim.Native.Nat.{ℕ, _≤_, _<_}
-use native.Mathlib.Omega.{arith}
 use mathlib.Core.Path.{_≡_, refl, sym, subst, ap, _∙_}
 use mathlib.Core.Bool.{Bool, true, false}
 use mathlib.Core.Logic.{_⊎_, inl, inr, ⊎-elim}
@@ -56,13 +55,6 @@ eq-ways m n a b r h = eq-or m n (λ e. inl (e, eq-yea m n a b a e refl ∙ h)) (
 
 pub lt-ways : {A : Type 0} (m n : ℕ) (a b r : A) → ifLt m n a b ≡ r → ((m < n) × (a ≡ r)) ⊎ ((n ≤ m) × (b ≡ r))
 lt-ways m n a b r h = lt-or m n (λ e. inl (e, lt-yea m n a b a e refl ∙ h)) (λ e. inr (e, lt-nay m n a b b e refl ∙ h))
-
--- a rule that was met
-pub eq-met : (m n a : ℕ) → ifEq m n a 0 ≡ 1 → (m ≡ n) × (a ≡ 1)
-eq-met m n a h = ⊎-elim (λ w. w) (λ w. absurd (omega (arith, w .1))) (eq-ways m n a 0 1 h)
-
-pub lt-met : (m n a : ℕ) → ifLt m n a 0 ≡ 1 → (m < n) × (a ≡ 1)
-lt-met m n a h = ⊎-elim (λ w. w) (λ w. absurd (omega (arith, w .1))) (lt-ways m n a 0 1 h)
 
 -- what holds of both holds of the choice
 pub eq-any : {A : Type 0} (P : A → Type 0) (m n : ℕ) (a b : A) → P a → P b → P (ifEq m n a b)

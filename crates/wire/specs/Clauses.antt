@@ -18,6 +18,11 @@ unfoldable pub every : List Bool → Bool
 every [] = true
 every (t ∷ ts) = pick t (every ts) false
 
+-- at least one holds
+unfoldable pub either : List Bool → Bool
+either [] = false
+either (t ∷ ts) = pick t true (either ts)
+
 -- what code answers to a rule: 1 where it holds, else 0
 unfoldable pub oneIf : Bool → ℕ
 oneIf t = pick t 1 0

@@ -3,6 +3,7 @@ ghost use mathlib.Core.Path.{_≡_};
 ghost use mathlib.Core.List.{[], _∷_};
 ghost use Prim.Native.Nat.{_+_, _^_, _≤_, _<_, min};
 ghost use lib.ListN.{length, getD};
+ghost use Rattle.wire.specs.Clauses.{isEq, oneIf};
 ghost use Rattle.wire.specs.Numbers.{bytes, word};
 ghost use Rattle.wire.specs.Writing.{put};
 
@@ -69,6 +70,26 @@ pub fn word32(part: &[u8], at: usize) -> usize
         return 0;
     }
     0
+}
+
+// 1 where the n bytes at a place are all 0, or don't lie inside, else 0.
+pub fn zeros(part: &[u8], at: usize, n: usize) -> usize
+    ensures { λ r. ⌜ r ≡ oneIf (isEq (word n (now (part .entry)) at) 0) ⌝ }
+{
+    if part.len() < at {
+        return 1;
+    }
+    if part.len() - at < n {
+        return 1;
+    }
+    let mut i = 0;
+    while i < n {
+        if part[at + i] != 0 {
+            return 0;
+        }
+        i += 1;
+    }
+    1
 }
 
 fn put_pair(out: &mut [u8], at: usize, high: u8, low: u8)

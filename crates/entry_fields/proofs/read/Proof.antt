@@ -1,3 +1,4 @@
+-- `read` meets its contract. Assumes nothing.
 use borrow.Author.Needs.{needs}
 use Rattle.entry_fields.proofs.Answering.{read-as, read-broken}
 use Rattle.entry_fields.proofs.read.Statement.{statement}

@@ -1,3 +1,4 @@
+-- `write` meets its contract. Assumes nothing.
 use borrow.Author.Needs.{needs}
 use Rattle.entry_fields.proofs.Answering.{write-as}
 use Rattle.entry_fields.proofs.write.Statement.{statement}

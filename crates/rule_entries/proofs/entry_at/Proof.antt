@@ -10,6 +10,6 @@ entry-at-spec = tie.close (tie.spec
     (λ c. search needs)
     (λ c. search needs)
     (λ c κs. search needs)
-    (λ c. meets-yea _ _ _ (c .before .entry-rule .ensures) (c .if1 .taken))
     (λ c. search needs)
-    (λ c. meets-nay _ _ _ (c .before .entry-rule .ensures) (c .if1 .left)))
+    (λ c. meets-nay _ _ _ (c .before .entry-rule .ensures) (c .if1 .taken))
+    (λ c. meets-yea _ _ _ (c .before .entry-rule .ensures) (c .if1 .left)))

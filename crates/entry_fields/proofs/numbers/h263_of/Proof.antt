@@ -1,3 +1,4 @@
+-- `numbers::h263_of` meets its contract. Assumes nothing.
 use borrow.Author.Needs.{needs}
 use Rattle.entry_fields.proofs.numbers.h263_of.Statement.{statement}
 use Rattle.entry_fields.proofs.numbers.h263_of.Tie as tie

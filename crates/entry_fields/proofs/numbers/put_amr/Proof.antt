@@ -1,3 +1,4 @@
+-- `numbers::put_amr` meets its contract. Assumes nothing.
 use borrow.Author.Needs.{needs}
 use Rattle.entry_fields.proofs.Answering.{put-short, put-fits}
 use lib.ListN.{length-set}

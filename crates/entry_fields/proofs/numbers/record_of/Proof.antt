@@ -1,3 +1,4 @@
+-- `numbers::record_of` meets its contract. Assumes nothing.
 use borrow.Author.Needs.{needs}
 use Rattle.entry_fields.specs.Numbers.{recordOf}
 use Rattle.entry_records.specs.declared.field.Record.the-variants.{Speech, Picture}

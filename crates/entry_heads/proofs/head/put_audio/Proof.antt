@@ -1,3 +1,4 @@
+-- `head::put_audio` meets its contract. Assumes nothing.
 use borrow.Author.Needs.{needs}
 use Rattle.entry_heads.specs.Heads.{audioHead}
 use Rattle.wire.proofs.Writing.{pen-then}

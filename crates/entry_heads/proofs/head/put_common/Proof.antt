@@ -1,3 +1,4 @@
+-- `head::put_common` meets its contract. Assumes nothing.
 use borrow.Author.Needs.{needs}
 use Rattle.entry_heads.specs.Heads.{commonHead}
 use Rattle.wire.proofs.Writing.{pen-then}

@@ -1,3 +1,4 @@
+-- `head::put_visual_start` meets its contract. Assumes nothing.
 use borrow.Author.Needs.{needs}
 use Rattle.entry_heads.specs.Heads.{visualStart}
 use Rattle.wire.proofs.Writing.{pen-then}

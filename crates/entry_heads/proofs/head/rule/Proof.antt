@@ -1,6 +1,9 @@
+-- `head::rule` meets its contract. Assumes nothing.
 use borrow.Author.Needs.{needs}
 use Rattle.entry_heads.specs.Heads.{headRule}
+use Rattle.wire.proofs.Clauses.{answer}
 use Rattle.wire.proofs.Tests.{eq-yea, eq-nay}
+use mathlib.Core.Path.{refl}
 use native.Mathlib.Omega.{arith}
 use Rattle.entry_heads.proofs.head.rule.Statement.{statement}
 use Rattle.entry_heads.proofs.head.rule.Tie as tie
@@ -10,8 +13,8 @@ unfolding headRule
 rule-spec = tie.close (tie.spec
     (λ c κs. search needs)
     (λ c κs. search needs)
-    (λ c. eq-yea _ _ _ _ _ (omega arith) (c .audio .ensures))
+    (λ c. answer _ _ (c .audio .ensures) (eq-yea _ _ _ _ _ (omega arith) refl))
     (λ c κs. search needs)
-    (λ c. eq-nay _ _ _ _ _ (omega arith) (eq-yea _ _ _ _ _ (omega arith) (c .visual-of .ensures)))
+    (λ c. answer _ _ (c .visual .ensures) (eq-nay _ _ _ _ _ (omega arith) (eq-yea _ _ _ _ _ (omega arith) refl)))
     (λ c κs. search needs)
-    (λ c. eq-nay _ _ _ _ _ (omega arith) (eq-nay _ _ _ _ _ (omega arith) (c .common .ensures))))
+    (λ c. answer _ _ (c .common .ensures) (eq-nay _ _ _ _ _ (omega arith) (eq-nay _ _ _ _ _ (omega arith) refl))))

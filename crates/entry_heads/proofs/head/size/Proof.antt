@@ -1,3 +1,4 @@
+-- `head::size` meets its contract. Assumes nothing.
 use borrow.Author.Needs.{needs}
 use Rattle.entry_heads.specs.Heads.{headSize}
 use Rattle.entry_heads.proofs.head.size.Statement.{statement}

@@ -1,3 +1,4 @@
+-- `kind::code` meets its contract. Assumes nothing.
 use borrow.Author.Needs.{needs}
 use Rattle.entry_heads.specs.Kinds.{codeOf}
 use Rattle.entry_heads.proofs.kind.code.Statement.{statement}

@@ -1,3 +1,4 @@
+-- `kind::handler` meets its contract. Assumes nothing.
 use borrow.Author.Needs.{needs}
 use Rattle.entry_heads.specs.Kinds.{handlerOf}
 use Rattle.entry_heads.proofs.kind.handler.Statement.{statement}

@@ -1,3 +1,4 @@
+-- `kind::of_code` meets its contract. Assumes nothing.
 use borrow.Author.Needs.{needs}
 use Rattle.entry_heads.specs.Kinds.{kindOf}
 use Rattle.entry_heads.proofs.kind.of_code.Statement.{statement}

@@ -1,3 +1,4 @@
+-- `put::header` meets its contract. Assumes nothing.
 use borrow.Author.Needs.{needs}
 use Rattle.entry_heads.specs.Heads.{boxHeader}
 use Rattle.wire.proofs.Writing.{pen-then}

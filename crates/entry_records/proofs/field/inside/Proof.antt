@@ -1,3 +1,4 @@
+-- `field::inside` meets its contract. Assumes nothing.
 use borrow.Author.Needs.{needs}
 use Rattle.entry_records.specs.Fields.{recordIn}
 use Rattle.entry_records.specs.declared.field.Record.the-variants.{Speech, Picture}

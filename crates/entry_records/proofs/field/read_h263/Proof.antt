@@ -1,3 +1,4 @@
+-- `field::read_h263` meets its contract. Assumes nothing.
 use borrow.Author.Needs.{needs}
 use Rattle.wire.proofs.Numbers.{word-byte}
 use Rattle.entry_records.proofs.field.read_h263.Statement.{statement}

@@ -1,3 +1,4 @@
+-- `field::read_rates` meets its contract. Assumes nothing.
 use borrow.Author.Needs.{needs}
 use Rattle.entry_records.proofs.field.read_rates.Statement.{statement}
 use Rattle.entry_records.proofs.field.read_rates.Tie as tie

@@ -1,6 +1,8 @@
+-- `field::rule` meets its contract. Assumes nothing.
 use borrow.Author.Needs.{needs}
 use Rattle.entry_records.specs.Fields.{fieldsRule}
-use mathlib.Core.Path.{sym, ap, _∙_}
+use Rattle.wire.proofs.Clauses.{nay, answer}
+use mathlib.Core.Path.{sym, ap}
 use Rattle.entry_records.proofs.field.rule.Statement.{statement}
 use Rattle.entry_records.proofs.field.rule.Tie as tie
 
@@ -11,6 +13,6 @@ rule-spec = tie.close (tie.spec
     (λ c. search needs)
     (λ c κs. search needs)
     (λ c. search needs)
-    (λ c. c .speech-rule .ensures ∙ sym (ap (fieldsRule _) (c .before .before .fields .given .1)))
-    (λ c. c .h263-rule .ensures ∙ sym (ap (fieldsRule _) (c .before .before .fields2 .given .1)))
-    (λ c. sym (ap (fieldsRule _) (c .enum-told .given .1))))
+    (λ c. answer _ _ (c .amr-rule .ensures) (sym (ap (fieldsRule _) (c .before .before .fields .given .1))))
+    (λ c. answer _ _ (c .h263-rule .ensures) (sym (ap (fieldsRule _) (c .before .before .fields2 .given .1))))
+    (λ c. nay _ (sym (ap (fieldsRule _) (c .enum-told .given .1)))))

@@ -1,17 +1,15 @@
+-- `record::read` meets its contract. Assumes nothing.
 use borrow.Author.Needs.{needs}
-use Rattle.entry_records.specs.Records.{readOf}
-use Rattle.wire.proofs.Tests.{eq-yea, eq-nay}
-use mathlib.Core.Path.{refl}
+use Rattle.entry_records.proofs.Answers.{read-broken, read-done}
 use native.Mathlib.Omega.{arith}
 use Rattle.entry_records.proofs.record.read.Statement.{statement}
 use Rattle.entry_records.proofs.record.read.Tie as tie
 
 pub read-spec : {M : Type 1} → statement M
-unfolding readOf
 read-spec = tie.close (tie.spec
     (λ c κs. search needs)
+    (λ c. read-broken _ _ (omega arith))
     (λ c κs. search needs)
     (λ c κs. search needs)
     (λ c κs. search needs)
-    (λ c. eq-yea _ _ _ _ _ (omega arith) (cc))
-    (λ c. eq-nay _ _ _ _ _ (omega arith) refl))
+    (λ c. read-done _ _ (λ e. omega arith) (c .before .before .word32 .ensures .0) (c .before .of-code .ensures) (c .inside .ensures)))

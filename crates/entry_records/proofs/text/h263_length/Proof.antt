@@ -1,3 +1,4 @@
+-- `text::h263_length` meets its contract. Assumes nothing.
 use borrow.Author.Needs.{needs}
 use Rattle.entry_records.proofs.Lengths.{h263-length}
 use mathlib.Core.Path.{_∙_}

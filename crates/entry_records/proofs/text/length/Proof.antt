@@ -1,3 +1,4 @@
+-- `text::length` meets its contract. Assumes nothing.
 use borrow.Author.Needs.{needs}
 use Rattle.entry_records.proofs.Lengths.{amr-length}
 use Rattle.entry_records.specs.Texts.{textOf}

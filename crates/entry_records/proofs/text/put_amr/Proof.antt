@@ -1,3 +1,4 @@
+-- `text::put_amr` meets its contract. Assumes nothing.
 use borrow.Author.Needs.{needs}
 use Rattle.entry_records.specs.Texts.{amrText}
 use Rattle.wire.proofs.Writing.{pen-then}

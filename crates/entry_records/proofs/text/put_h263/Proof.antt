@@ -1,3 +1,4 @@
+-- `text::put_h263` meets its contract. Assumes nothing.
 use borrow.Author.Needs.{needs}
 use Rattle.entry_records.specs.Texts.{h263Text}
 use Rattle.wire.proofs.Tests.{eq-yea, eq-nay}

@@ -1,3 +1,4 @@
+-- `text::put_plain` meets its contract. Assumes nothing.
 use borrow.Author.Needs.{needs}
 use Rattle.entry_records.specs.Texts.{plainText}
 use Rattle.wire.proofs.Writing.{pen-then}

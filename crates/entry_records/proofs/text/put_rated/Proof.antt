@@ -1,3 +1,4 @@
+-- `text::put_rated` meets its contract. Assumes nothing.
 use borrow.Author.Needs.{needs}
 use Rattle.entry_records.specs.Texts.{ratedText}
 use Rattle.wire.proofs.Writing.{pen-then}

@@ -1,3 +1,4 @@
+-- `text::put_record` meets its contract. Assumes nothing.
 use borrow.Author.Needs.{needs}
 use Rattle.entry_records.specs.Texts.{textOf}
 use Rattle.wire.proofs.Writing.{pen-is, pen-none}

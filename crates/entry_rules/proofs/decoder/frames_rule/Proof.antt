@@ -1,7 +1,7 @@
+-- `decoder::frames_rule` meets its contract. Assumes nothing.
 use borrow.Author.Needs.{needs}
 use Rattle.entry_rules.specs.Decoders.{framesRule}
-use Rattle.wire.proofs.Tests.{eq-yea, eq-nay, lt-yea, lt-nay}
-use mathlib.Core.Path.{refl}
+use Rattle.wire.proofs.Clauses.{is-le, not-le, fails, holds, nay, asked-yea, asked-nay, answer, decides}
 use native.Mathlib.Omega.{arith}
 use Rattle.entry_rules.proofs.decoder.frames_rule.Statement.{statement}
 use Rattle.entry_rules.proofs.decoder.frames_rule.Tie as tie
@@ -10,8 +10,9 @@ pub frames-rule-spec : {M : Type 1} → statement M
 unfolding framesRule
 frames-rule-spec = tie.close (tie.spec
     (λ c κs. search needs)
-    (λ c. eq-yea _ _ _ _ _ (omega arith) (eq-yea _ _ _ _ _ (omega arith) refl))
-    (λ c. eq-yea _ _ _ _ _ (omega arith) (eq-nay _ _ _ _ _ (omega arith) (lt-yea _ _ _ _ _ (omega arith) refl)))
+    (λ c. nay _ (fails 0 _ (asked-nay _ (omega arith))))
+    (λ c. nay _ (fails 1 _ (not-le _ _ (omega arith))))
+    (λ c. nay _ (fails 2 _ (not-le _ _ (omega arith))))
     (λ c κs. search needs)
-    (λ c. eq-yea _ _ _ _ _ (omega arith) (eq-nay _ _ _ _ _ (omega arith) (lt-nay _ _ _ _ _ (omega arith) (c .period-rule .ensures))))
-    (λ c. eq-nay _ _ _ _ _ (omega arith) refl))
+    (λ c. answer _ _ (c .period-rule .ensures) (holds _ _ (asked-yea _ (λ e. omega arith)) (holds _ _ (is-le _ _ (omega arith))
+    (holds _ _ (is-le _ _ (omega arith)) (decides _))))))

@@ -1,3 +1,4 @@
+-- `entry::entry_rule` meets its contract. Assumes nothing.
 use borrow.Author.Needs.{needs}
 use Rattle.entry_rules.specs.Entries.{entryRule}
 use Rattle.entry_rules.proofs.entry.entry_rule.Statement.{statement}

@@ -1,7 +1,7 @@
+-- `entry::track_rule` meets its contract. Assumes nothing.
 use borrow.Author.Needs.{needs}
 use Rattle.entry_rules.specs.Entries.{trackRule}
-use Rattle.wire.proofs.Tests.{eq-yea, eq-nay, lt-yea, lt-nay}
-use mathlib.Core.Path.{refl}
+use Rattle.wire.proofs.Clauses.{is-le, not-le, fails, holds, nay, asked-yea, asked-nay, answer, decides}
 use native.Mathlib.Omega.{arith}
 use Rattle.entry_rules.proofs.entry.track_rule.Statement.{statement}
 use Rattle.entry_rules.proofs.entry.track_rule.Tie as tie
@@ -10,12 +10,10 @@ pub track-rule-spec : {M : Type 1} → statement M
 unfolding trackRule
 track-rule-spec = tie.close (tie.spec
     (λ c κs. search needs)
-    (λ c. eq-yea _ _ _ _ _ (omega arith) refl)
-    (λ c. eq-nay _ _ _ _ _ (omega arith) (lt-yea _ _ _ _ _ (omega arith) refl))
+    (λ c. nay _ (fails 0 _ (not-le _ _ (omega arith))))
+    (λ c. nay _ (fails 1 _ (not-le _ _ (omega arith))))
     (λ c κs. search needs)
+    (λ c. nay _ (fails 2 _ (asked-nay _ (omega arith))))
     (λ c κs. search needs)
-    (λ c κs. search needs)
-    (λ c κs. search needs)
-    (λ c κs. search needs)
-    (λ c κs. search needs)
-    (λ c. eq-nay _ _ _ _ _ (omega arith) (lt-nay _ _ _ _ _ (omega arith) (cc))))
+    (λ c. answer _ _ (c .scale-rule .ensures) (holds _ _ (is-le _ _ (omega arith)) (holds _ _ (is-le _ _ (omega arith))
+    (holds _ _ (asked-yea _ (λ e. omega arith)) (decides _))))))

@@ -1,7 +1,6 @@
 use borrow.Author.Needs.{needs}
-use Rattle.rule_lists.proofs.Forms.{answer}
 use Rattle.rule_lists.specs.Five.{formIn}
-use Rattle.wire.proofs.Clauses.{yea}
+use Rattle.wire.proofs.Clauses.{yea, answer}
 use Rattle.wire.proofs.Tests.{eq-yea, eq-nay}
 use mathlib.Core.Path.{refl}
 use native.Mathlib.Omega.{arith}
