@@ -17,6 +17,7 @@ use Rattle.movie.specs.Entries.{entries}
 use Rattle.movie.specs.Named.{EntryIs}
 use Rattle.movie.proofs.Spots.{bytes-at, bytes-none}
 use Rattle.entry_heads.specs.Kinds.{SamrKind, kindOf}
+use Rattle.entry_rules.specs.Entries.{FRAMES}
 use Rattle.entry_rules.specs.Decoders.{recordRule}
 use Rattle.entry_rules.proofs.Kept.{recorded}
 use Rattle.edit_replace.specs.Replace.{kindAt, recordCode, takes}
@@ -75,3 +76,12 @@ module _ (kind : ℕ) (new : List ℕ) {code : ℕ} (e : code ≡ recordCode kin
     pub takes-other : 8 ≤ length new → {r : ℕ} → r ≡ word 4 new 4 → (r ≡ code → ⊥) → 0 ≡ oneIf (takes kind new)
     unfolding takes
     takes-other h q s = nay _ (fails 1 _ (sym (lt-nay _ _ _ _ _ h (sym (not-eq _ _ (λ u. s (q ∙ u ∙ sym e)))))))
+
+-- ---- the tests of 20 and 21, by the kind that was found
+
+module _ {xs : List ℕ} {i kind : ℕ} (e : kind ≡ kindAt xs i) {new : List ℕ} {r : ℕ} where
+  pub takes-kind : r ≡ oneIf (takes kind new) → r ≡ oneIf (takes (kindAt xs i) new)
+  takes-kind h = rw e at h
+
+  pub rule-kind : r ≡ oneIf (recordRule kind FRAMES new) → r ≡ oneIf (recordRule (kindAt xs i) FRAMES new)
+  rule-kind h = rw e at h

@@ -51,7 +51,7 @@ module _ (xs : List ℕ) (t n keep : ℕ) (new out : List ℕ) (f : Fits xs t n 
 -- ---- the spot
 
 -- no record goes into an entry past them all
-pub past-none : (xs : List ℕ) (i : ℕ) (new : List ℕ) → length (entries xs) ≤ i - 1 → {kind : ℕ} → kind ≡ kindAt xs i → recordRule kind FRAMES new ≡ 1 → ⊥
+pub past-none : (xs : List ℕ) (i : ℕ) (new : List ℕ) → length (entries xs) ≤ i - 1 → {kind : ℕ} → kind ≡ kindAt xs i → recordRule kind FRAMES new ≡ true → ⊥
 past-none xs i new m {kind} g h = omega (arith, kind-none xs i m, record-short kind FRAMES new h .0)
 
 module _ (xs : List ℕ) (i : ℕ) (new : List ℕ) {moov : List ℕ} (e : moov ≡ find MOOV (boxes xs)) (r : Spot) (s : SpotAs moov (i - 1) r) (q : (p : ℕ) → r ≡ spotIn (stsdsFrom 0 (boxes moov) p) (i - 1)) where

@@ -4,7 +4,7 @@ use Prim.Native.Nat.{ℕ, _-_}
 use mathlib.Core.Bool.{Bool, true}
 use mathlib.Core.List.{List, [], _∷_, _++_, map}
 use lib.ListN.{length}
-use Rattle.wire.specs.Tests.{pick, ifEq, ifLt}
+use Rattle.wire.specs.Tests.{ifEq, ifLt}
 use Rattle.wire.specs.Clauses.{isEq, isLt, every}
 use Rattle.wire.specs.Numbers.{word}
 use Rattle.codes.specs.Codes.{MOOV, TRAK, DAMR, D263}
@@ -12,7 +12,6 @@ use Rattle.boxes.specs.declared.way.Turn.{Turn}
 use Rattle.boxes.specs.Boxes.{HEAD, FRONT}
 use Rattle.boxes.specs.Seek.{ANY}
 use Rattle.boxes.specs.Way.{editWay, tailBy}
-use Rattle.boxes.specs.Containers.{LONGEST}
 use Rattle.movie.specs.declared.entry.Spot.{Spot}
 use Rattle.movie.specs.declared.entry.Spot.the-variants.{In, Past}
 use Rattle.movie.specs.Ways.{toStsd}
@@ -23,10 +22,8 @@ use Rattle.entry_heads.specs.Kinds.{OtherKind, SamrKind, SawbKind, S263Kind, ki
 use Rattle.entry_heads.specs.Heads.{headSize}
 use Rattle.entry_rules.specs.Entries.{FRAMES}
 use Rattle.entry_rules.specs.Decoders.{recordRule}
-use Rattle.rule.specs.declared.Answer.{Answer}
-use Rattle.rule.specs.declared.Answer.the-variants.{Refused}
-use Rattle.rule.specs.Answers.{inRoom, outBy}
-use Rattle.judge.specs.Judgement.{judged, whenAccepted}
+use Rattle.rule.specs.Results.{Result, inLimit}
+use Rattle.judge.specs.Calls.{resultOn}
 use Rattle.judge.specs.Acceptance.{editable}
 use Rattle.edit_offsets.specs.Settle.{settled}
 
@@ -66,24 +63,13 @@ replaceOf xs i new = settled xs (recordReplaced xs i new)
 unfoldable pub takes : ℕ → List ℕ → Bool
 takes kind new = every (isLt 0 (recordCode kind) ∷ ifLt (length new) HEAD true (isEq (word 4 new 4) (recordCode kind)) ∷ [])
 
--- 24, 25
-unfoldable pub roomAnswer : List ℕ → List ℕ → Answer
-roomAnswer new out = ifLt LONGEST (length new) (Refused 24 0) (inRoom new out)
-
--- 23, 24, 25
-unfoldable pub settledAnswer : List ℕ → List ℕ → List ℕ → Answer
-settledAnswer xs new out = pick (editable xs) (roomAnswer new out) (Refused 23 0)
-
--- 20, 21, and then those
-unfoldable pub takenAnswer : List ℕ → ℕ → List ℕ → List ℕ → Answer
-takenAnswer xs i new out =
-    pick (takes (kindAt xs i) new)
-    (pick (recordRule (kindAt xs i) FRAMES new) (settledAnswer xs (replaceOf xs i new) out) (Refused 21 0))
-    (Refused 20 0)
-
--- "20, 21, 23, 24, 25; all after 1 to 10"
-unfoldable pub replaceAnswer : List ℕ → ℕ → List ℕ → List ℕ → Answer
-replaceAnswer xs i new out = whenAccepted (judged xs) (takenAnswer xs i new out)
-
-abbrev pub replaceOut : List ℕ → ℕ → List ℕ → List ℕ → List ℕ
-replaceOut xs i new out = outBy (replaceAnswer xs i new out) (replaceOf xs i new) out
+-- "replace 20, 21, 23, 24, 25"
+unfoldable pub replaceResult : List ℕ → ℕ → List ℕ → Result
+replaceResult xs i new =
+    resultOn xs
+    ((20, takes (kindAt xs i) new)
+    ∷ (21, recordRule (kindAt xs i) FRAMES new)
+    ∷ (23, editable xs)
+    ∷ (24, inLimit (replaceOf xs i new))
+    ∷ [])
+    (replaceOf xs i new)

@@ -22,7 +22,7 @@ use Rattle.rule.specs.declared.Answer.{Answer}
 use Rattle.rule.specs.declared.Answer.the-variants.{Refused}
 use Rattle.rule.specs.Results.{asked, Exact}
 use Rattle.rule.specs.Results.Result.{gives}
-use Rattle.rule.proofs.Results.{asked-nay}
+use Rattle.rule.proofs.Results.{test-nay}
 use Rattle.judge.specs.Acceptance.{editable}
 use Rattle.judge.specs.declared.Judgement.{Judgement}
 use Rattle.judge.specs.declared.Judgement.the-variants.{Accepted}
@@ -60,7 +60,7 @@ far-is z xs h = nay _ (fails 0 _ h)
 module _ (z : ℤ) (xs out : List ℕ) {j : Judgement} (e : j ≡ judged xs) (f : j ≡ Accepted) {w : Zoned} (g : w ≡ zonedOf z) where
   pub shift-far : w ≡ NoZone → Exact (shiftResult z xs) out (Refused 22 0) out
   unfolding shiftResult
-  shift-far h = result-accepted xs e _ _ out f (asked-nay 22 _ _ _ out (far-is z xs (zone-missing z g h)) refl)
+  shift-far h = result-accepted xs e _ _ out f (test-nay 22 _ _ _ out (far-is z xs (zone-missing z g h)) refl)
 
   pub shift-near : Bytes xs → (v : Zone) → w ≡ Seconds v → {r : Answer} {left : List ℕ} → Exact (zoneResult v xs) out r left → Exact (shiftResult z xs) out r left
   unfolding shiftResult

@@ -1,48 +1,66 @@
--- What the two calls answer, and what they leave in the room that they were lent. Assumes nothing.
-use Prim.Native.Nat.{ℕ, _+_, _≤_, _<_}
+-- How the two calls keep their promises. Assumes nothing.
+use Prim.Native.Nat.{ℕ, _+_, _≤_}
 use native.Mathlib.Omega.{arith}
 use mathlib.Core.Path.{_≡_, refl, sym, ap, _∙_}
-use mathlib.Core.List.{List, []}
-use lib.ListN.{length}
+use mathlib.Core.Bool.{Bool, true, false}
+use mathlib.Core.List.{List, [], _∷_, _++_}
+use lib.Dec.{ltb}
+use lib.ListN.{length, drop}
 use lib.Seq.{sets, sets-eq}
+use Rattle.wire.specs.Tests.{pick, ifLt}
 use Rattle.entry_rules.specs.Entries.{FRAMES}
 use Rattle.entry_records.specs.declared.field.Record.{Record}
-use Rattle.entry_records.specs.declared.field.Record.the-variants.{Broken}
+use Rattle.entry_records.specs.declared.field.Record.the-variants.{Speech, Picture, Broken}
 use Rattle.entry_records.specs.declared.record.Written.{Written}
-use Rattle.entry_records.specs.Records.{fieldsOf, readOf, writtenOf, outOf}
+use Rattle.entry_records.specs.declared.record.Written.the-variants as written
+use Rattle.entry_records.specs.Fields.{fieldsRule}
+use Rattle.entry_records.specs.Texts.{textOf}
+use Rattle.entry_records.specs.Records.{fieldsOf, writtenNumber, writtenValue, readOf, writtenOf, outOf}
 use Rattle.rule.specs.declared.Answer.{Answer}
 use Rattle.rule.specs.declared.Answer.the-variants.{Done, Refused}
-use Rattle.rule.specs.Answers.{inRoom}
-use Rattle.rule.proofs.Answers.{Left, answered, room-short, room-fits, out-kept, out-wrote}
-use Rattle.entry_fields.specs.Numbers.{recordOf, whenRead, readAnswer, readOut, writtenAnswer, writeAnswer, writeOut}
+use Rattle.rule.specs.Results.{asked, answerIn, leftIn, Exact}
+use Rattle.rule.specs.Results.Result.{gives}
+use Rattle.rule.proofs.Results.{exact-refuses, exact-wrote}
+use Rattle.entry_fields.specs.Numbers.{recordOf, isRecord, readResult, writeResult}
 
 -- ---- numbers into a list
 
-module _ (ns out : List ℕ) where
-  pub put-short : length out < length ns → Left (Refused 25 0) (inRoom ns out) ns out out
-  put-short h = (room-short ns out h, out-kept ns out (Refused 25 0) refl)
-
-  pub put-fits : length ns ≤ length out → Left (Done (length ns)) (inRoom ns out) ns out (sets out 0 ns)
-  put-fits h =
-      let z : 0 + length ns ≡ length ns = omega arith in
-      (room-fits ns out h refl, out-wrote ns out (Done (length ns)) refl (record { size = refl; is = rw z at (sets-eq ns out 0 (omega arith)) }))
+pub put-fits : (ns out : List ℕ) → length ns ≤ length out → Exact (gives ns) out (Done (length ns)) (sets out 0 ns)
+put-fits ns out h = let z : 0 + length ns ≡ length ns = omega arith in exact-wrote ns out h (record { size = refl; is = rw z at (sets-eq ns out 0 (omega arith)) })
 
 -- ---- the reader
 
 module _ (xs out : List ℕ) {r : Record} (e : r ≡ readOf FRAMES xs) where
-  -- the answer that the record has
-  pub read-as : (s : Record) → r ≡ s → {a : Answer} {after : List ℕ} → Left a (whenRead s (inRoom (fieldsOf s) out)) (fieldsOf s) out after
-      → (a ≡ readAnswer xs out) × (after ≡ readOut xs out)
-  unfolding readAnswer
-  read-as s g (p, q) = let h : readOf FRAMES xs ≡ s = sym e ∙ g in rw h (answered (fieldsOf s) out p q)
+  pub read-some : (s : Record) → r ≡ s → isRecord s ≡ true → {a : Answer} {left : List ℕ} → Exact (gives (fieldsOf s)) out a left → Exact (readResult xs) out a left
+  unfolding readResult asked
+  read-some s g h x = let f : readOf FRAMES xs ≡ s = sym e ∙ g in rw (f, h) x
 
-  pub read-broken : r ≡ Broken → (Refused 21 0 ≡ readAnswer xs out) × (out ≡ readOut xs out)
-  read-broken g = read-as Broken g (refl, out-kept [] out (Refused 21 0) refl)
+  pub read-broken : r ≡ Broken → Exact (readResult xs) out (Refused 21 0) out
+  unfolding readResult asked
+  read-broken g = let f : readOf FRAMES xs ≡ Broken = sym e ∙ g in rw f (exact-refuses 21 0 out)
 
 -- ---- the writer
 
-pub write-as : (ns out : List ℕ) {r : Record} {w v : Written} {after : List ℕ} → r ≡ recordOf ns
-    → (w ≡ writtenOf FRAMES r out) × (after ≡ outOf FRAMES r out) → w ≡ v
-    → (writtenAnswer v ≡ writeAnswer ns out) × (after ≡ writeOut ns out)
-unfolding writeAnswer
-write-as ns out e (p, q) g = (ap writtenAnswer (sym g ∙ p) ∙ rw e, q ∙ rw e)
+-- an answer of it in the paper's numbers
+abbrev pub writtenAnswer : Written → Answer
+writtenAnswer (written.Done n) = Done n
+writtenAnswer written.BadFields = Refused (writtenNumber written.BadFields) (writtenValue written.BadFields)
+writtenAnswer written.TooShort = Refused (writtenNumber written.TooShort) (writtenValue written.TooShort)
+
+writes : (t : Bool) (r : Record) (out : List ℕ)
+    → Exact (asked ((21, t) ∷ []) (gives (textOf r))) out
+    (writtenAnswer (pick t (ifLt (length out) (length (textOf r)) written.TooShort (written.Done (length (textOf r)))) written.BadFields))
+    (pick t (ifLt (length out) (length (textOf r)) out (textOf r ++ drop (length (textOf r)) out)) out)
+unfolding asked answerIn leftIn ifLt
+writes false r out = record { answers = refl; leaves = refl }
+writes true r out = record { answers = go (ltb (length out) (length (textOf r))); leaves = refl }
+  where
+    go : (t : Bool) → writtenAnswer (pick t written.TooShort (written.Done (length (textOf r)))) ≡ pick t (Refused 25 0) (Done (length (textOf r)))
+    go true = refl
+    go false = refl
+
+pub write-as : (ns out : List ℕ) {r : Record} {w v : Written} {left : List ℕ} → r ≡ recordOf ns → (w ≡ writtenOf FRAMES r out) × (left ≡ outOf FRAMES r out) → w ≡ v → Exact (writeResult ns) out (writtenAnswer v) left
+unfolding writeResult writtenOf outOf
+write-as ns out e (p, q) g =
+    let x = writes (fieldsRule FRAMES (recordOf ns)) (recordOf ns) out in
+    record { answers = ap writtenAnswer (sym g ∙ p) ∙ rw e (x .answers); leaves = q ∙ rw e (x .leaves) }

@@ -2,25 +2,28 @@
 use Prim.Native.Nat.{ℕ, zero, suc, _+_}
 use native.Mathlib.Omega.{arith}
 use mathlib.Core.Path.{_≡_, refl, sym, ap, _∙_}
+use mathlib.Core.Bool.{true, false≢true}
 use mathlib.Core.List.{List, [], _∷_}
 use mathlib.Core.Logic.{⊎-elim}
 use lib.ListN.{length, getD, take, drop}
 use lib.Seq.{drop-cons, drop-length}
 use Rattle.wire.specs.Tests.{ifEq}
 use Rattle.wire.specs.Numbers.{Bytes}
+use Rattle.wire.proofs.Clauses.{clause}
 use Rattle.wire.proofs.Tests.{eq-ways}
 use Rattle.entry_rules.specs.Entries.{FRAMES}
 use Rattle.entry_records.specs.declared.field.Record.{Record}
 use Rattle.entry_records.specs.declared.field.Record.the-variants.{Speech, Picture, Broken}
+use Rattle.entry_records.specs.Fields.{fieldsRule}
 use Rattle.entry_records.specs.Texts.{textOf}
 use Rattle.entry_records.specs.Records.{fieldsOf, readOf}
 use Rattle.entry_records.proofs.Reading.{written-reads}
 use Rattle.entry_records.proofs.Rewriting.{read-writes}
 use Rattle.rule.specs.declared.Answer.the-variants.{Done}
-use Rattle.rule.specs.Answers.{inRoom, outBy}
-use Rattle.rule.proofs.Answers.{room-taken}
-use Rattle.entry_fields.specs.Numbers.{recordOf, readAnswer, readOut, writeAnswer, writeOut}
-use Rattle.entry_fields.proofs.Rooms.{when-some, some-read, rule-room, rule-done, rule-some}
+use Rattle.rule.specs.Results.{asked, answerIn, leftIn}
+use Rattle.rule.specs.Results.Result.{gives}
+use Rattle.rule.proofs.Results.{gives-done, asked-done}
+use Rattle.entry_fields.specs.Numbers.{recordOf, isRecord, readResult, writeResult}
 
 -- ---- records and their numbers
 
@@ -57,27 +60,31 @@ fields-back ns h =
 
 -- ---- the round trips
 
+is-record : (r : Record) → (r ≡ Broken → ⊥) → isRecord r ≡ true
+is-record (Speech f) h = refl
+is-record (Picture f) h = refl
+is-record Broken h = absurd (h refl)
+
+not-broken : (r : Record) → isRecord r ≡ true → r ≡ Broken → ⊥
+not-broken r e g = false≢true (sym (ap isRecord g) ∙ e)
+
+rule-some : (r : Record) → fieldsRule FRAMES r ≡ true → r ≡ Broken → ⊥
+rule-some r e g = false≢true (sym (ap (fieldsRule FRAMES) g) ∙ e)
+
 -- numbers that the writer takes: reading the entry that it wrote gives them
-pub written-back : (ns out : List ℕ) (n : ℕ) → writeAnswer ns out ≡ Done n → (room : List ℕ)
-    → (readAnswer (take n (writeOut ns out)) room ≡ inRoom ns room) × (readOut (take n (writeOut ns out)) room ≡ outBy (inRoom ns room) ns room)
-unfolding writeAnswer readAnswer
-written-back ns out n e room =
-    let a = rule-done (recordOf ns) out n e in
-    let b = rule-room (recordOf ns) out a in
-    let t : take n (writeOut ns out) ≡ textOf (recordOf ns) = ap (take n) (b .1) ∙ room-taken (textOf (recordOf ns)) out n (sym (b .0) ∙ e) in
-    let r : readOf FRAMES (take n (writeOut ns out)) ≡ recordOf ns = ap (readOf FRAMES) t ∙ written-reads FRAMES (recordOf ns) a in
-    let f = fields-back ns (rule-some (recordOf ns) a) in
-    let s = when-some (recordOf ns) (inRoom (fieldsOf (recordOf ns)) room) (rule-some (recordOf ns) a) in
-    (rw r (s ∙ rw f), rw (r, s, f))
+pub written-back : (ns out : List ℕ) (n : ℕ) → answerIn (writeResult ns) out ≡ Done n → readResult (take n (leftIn (writeResult ns) out)) ≡ gives ns
+unfolding writeResult readResult asked
+written-back ns out n e =
+    let a = asked-done _ _ out n e in
+    let c = clause 0 _ (a .0) in
+    let h = rule-some (recordOf ns) c in
+    rw (a .1, gives-done _ out n (rw (a .1) at e) .taken, written-reads FRAMES (recordOf ns) c, is-record (recordOf ns) h, fields-back ns h)
 
 -- an entry that the reader takes: writing the fields that it read gives its bytes
-pub read-back : (xs room : List ℕ) (n : ℕ) → Bytes xs → readAnswer xs room ≡ Done n → (out : List ℕ)
-    → (writeAnswer (take n (readOut xs room)) out ≡ inRoom xs out) × (writeOut (take n (readOut xs room)) out ≡ outBy (inRoom xs out) xs out)
-unfolding writeAnswer readAnswer
-read-back xs room n b e out =
-    let h = some-read (readOf FRAMES xs) _ n e in
-    let s = when-some (readOf FRAMES xs) (inRoom (fieldsOf (readOf FRAMES xs)) room) h in
-    let t : take n (readOut xs room) ≡ fieldsOf (readOf FRAMES xs) = rw s (room-taken (fieldsOf (readOf FRAMES xs)) room n (sym s ∙ e)) in
-    let a = read-writes FRAMES xs b (readOf FRAMES xs) refl h in
-    let g = rule-room (readOf FRAMES xs) out (a .rule) in
-    rw (t, record-back (readOf FRAMES xs)) (rw (a .text) at g)
+pub read-back : (xs room : List ℕ) (n : ℕ) → Bytes xs → answerIn (readResult xs) room ≡ Done n → writeResult (take n (leftIn (readResult xs) room)) ≡ gives xs
+unfolding writeResult readResult asked
+read-back xs room n b e =
+    let a = asked-done _ _ room n e in
+    let h = not-broken (readOf FRAMES xs) (clause 0 _ (a .0)) in
+    let w = read-writes FRAMES xs b (readOf FRAMES xs) refl h in
+    rw (a .1, gives-done _ room n (rw (a .1) at e) .taken, record-back (readOf FRAMES xs), w .rule, w .text)

@@ -1,6 +1,7 @@
 -- The record reader and writer over lists of numbers: the fields of a record in order, kind first.
 use Prim.Native.Nat.{ℕ}
-use mathlib.Core.List.{List}
+use mathlib.Core.Bool.{Bool, true, false}
+use mathlib.Core.List.{List, [], _∷_}
 use lib.ListN.{length, getD}
 use Rattle.wire.specs.Tests.{ifEq}
 use Rattle.entry_heads.specs.Kinds.{S263Kind}
@@ -10,11 +11,12 @@ use Rattle.entry_records.specs.declared.field.Rates.{Rates}
 use Rattle.entry_records.specs.declared.field.H263.{H263}
 use Rattle.entry_records.specs.declared.field.Record.{Record}
 use Rattle.entry_records.specs.declared.field.Record.the-variants.{Speech, Picture, Broken}
-use Rattle.entry_records.specs.declared.record.Written.{Written}
-use Rattle.entry_records.specs.Records.{fieldsOf, readNumber, readValue, writtenNumber, writtenValue, readOf, writtenOf, outOf}
-use Rattle.rule.specs.declared.Answer.{Answer}
-use Rattle.rule.specs.declared.Answer.the-variants.{Done}
-use Rattle.rule.specs.Answers.{unlessRefused, inRoom, outBy}
+use Rattle.entry_records.specs.declared.record.Written.the-variants.{BadFields}
+use Rattle.entry_records.specs.Fields.{fieldsRule}
+use Rattle.entry_records.specs.Texts.{textOf}
+use Rattle.entry_records.specs.Records.{fieldsOf, readNumber, writtenNumber, readOf}
+use Rattle.rule.specs.Results.{Result, asked}
+use Rattle.rule.specs.Results.Result.{gives}
 
 -- ---- the record of numbers
 
@@ -57,27 +59,17 @@ h263Of ns =
 unfoldable pub recordOf : List ℕ → Record
 recordOf ns = ifEq (length ns) 8 (Speech (amrOf ns)) (ifEq (length ns) 11 (ifEq (at ns 0) S263Kind (Picture (h263Of ns)) Broken) Broken)
 
--- ---- the reader
+-- ---- the two calls: each number is that of the answer behind it
 
--- a record's refusal, and else a
-abbrev pub whenRead : Record → Answer → Answer
-whenRead r a = unlessRefused (readNumber r) (readValue r) a
+abbrev pub isRecord : Record → Bool
+isRecord (Speech f) = true
+isRecord (Picture f) = true
+isRecord Broken = false
 
--- the record's refusal, then that of the room, or how many fields there are
-unfoldable pub readAnswer : List ℕ → List ℕ → Answer
-readAnswer xs out = whenRead (readOf FRAMES xs) (inRoom (fieldsOf (readOf FRAMES xs)) out)
+-- the fields of an entry: 21, 25
+unfoldable pub readResult : List ℕ → Result
+readResult xs = asked ((readNumber Broken, isRecord (readOf FRAMES xs)) ∷ []) (gives (fieldsOf (readOf FRAMES xs)))
 
-abbrev pub readOut : List ℕ → List ℕ → List ℕ
-readOut xs out = outBy (readAnswer xs out) (fieldsOf (readOf FRAMES xs)) out
-
--- ---- the writer
-
-abbrev pub writtenAnswer : Written → Answer
-writtenAnswer w = unlessRefused (writtenNumber w) (writtenValue w) (Done (writtenValue w))
-
--- the writer's refusal, or the length of the entry
-unfoldable pub writeAnswer : List ℕ → List ℕ → Answer
-writeAnswer ns out = writtenAnswer (writtenOf FRAMES (recordOf ns) out)
-
-abbrev pub writeOut : List ℕ → List ℕ → List ℕ
-writeOut ns out = outOf FRAMES (recordOf ns) out
+-- the entry of fields: 21, 25
+unfoldable pub writeResult : List ℕ → Result
+writeResult ns = asked ((writtenNumber BadFields, fieldsRule FRAMES (recordOf ns)) ∷ []) (gives (textOf (recordOf ns)))

@@ -4,14 +4,14 @@ use entry_records::record;
 use entry_records::record::Written;
 use entry_rules::entry;
 use rule::Answer;
-ghost use mathlib.Core.Path.{_≡_};
-ghost use Rattle.entry_fields.specs.Numbers.{readAnswer, readOut, writeAnswer, writeOut};
+ghost use Rattle.rule.specs.Results.{Exact};
+ghost use Rattle.entry_fields.specs.Numbers.{readResult, writeResult};
 
 pub mod numbers;
 
 // The fields of an entry: 8 of a `samr` or `sawb`, 11 of an `s263`.
 pub fn read(entry: &[u8], out: &mut [u64]) -> Answer
-    ensures { λ r. ⌜ (r ≡ readAnswer (now (entry .entry)) (now (out .entry))) × (now (out .exit) ≡ readOut (now (entry .entry)) (now (out .entry))) ⌝ }
+    ensures { λ r. ⌜ Exact (readResult (now (entry .entry))) (now (out .entry)) r (now (out .exit)) ⌝ }
 {
     match record::read(entry, entry::FRAMES) {
         Record::Speech(f) => numbers::put_amr(f, out),
@@ -22,7 +22,7 @@ pub fn read(entry: &[u8], out: &mut [u64]) -> Answer
 
 // The entry of fields.
 pub fn write(fields: &[u64], out: &mut [u8]) -> Answer
-    ensures { λ r. ⌜ (r ≡ writeAnswer (now (fields .entry)) (now (out .entry))) × (now (out .exit) ≡ writeOut (now (fields .entry)) (now (out .entry))) ⌝ }
+    ensures { λ r. ⌜ Exact (writeResult (now (fields .entry))) (now (out .entry)) r (now (out .exit)) ⌝ }
 {
     match record::write(numbers::record_of(fields), entry::FRAMES, out) {
         Written::Done(n) => Answer::Done(n),

@@ -10,12 +10,13 @@ ghost use mathlib.Core.Path.{_≡_};
 ghost use lib.ListN.{length};
 ghost use Rattle.entry_records.specs.declared.field.Record.the-variants.{Speech, Picture};
 ghost use Rattle.entry_records.specs.Records.{fieldsOf};
-ghost use Rattle.rule.specs.Answers.{inRoom, outBy};
+ghost use Rattle.rule.specs.Results.{Exact};
+ghost use Rattle.rule.specs.Results.Result.{gives};
 ghost use Rattle.entry_fields.specs.Numbers.{amrOf, ratesOf, h263Of, recordOf};
 
 // The eight fields of a `samr` or `sawb`.
 pub fn put_amr(f: Amr, out: &mut [u64]) -> Answer
-    ensures { λ r. ⌜ (r ≡ inRoom (fieldsOf (Speech f)) (now (out .entry))) × (now (out .exit) ≡ outBy r (fieldsOf (Speech f)) (now (out .entry))) ⌝ }
+    ensures { λ r. ⌜ Exact (gives (fieldsOf (Speech f))) (now (out .entry)) r (now (out .exit)) ⌝ }
 {
     if out.len() < 8 {
         return Answer::Refused(25, 0);
@@ -33,7 +34,7 @@ pub fn put_amr(f: Amr, out: &mut [u64]) -> Answer
 
 // The eleven fields of an `s263`.
 pub fn put_h263(f: H263, out: &mut [u64]) -> Answer
-    ensures { λ r. ⌜ (r ≡ inRoom (fieldsOf (Picture f)) (now (out .entry))) × (now (out .exit) ≡ outBy r (fieldsOf (Picture f)) (now (out .entry))) ⌝ }
+    ensures { λ r. ⌜ Exact (gives (fieldsOf (Picture f))) (now (out .entry)) r (now (out .exit)) ⌝ }
 {
     if out.len() < 11 {
         return Answer::Refused(25, 0);

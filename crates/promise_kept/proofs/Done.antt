@@ -1,70 +1,63 @@
--- A call that is done has kept the file: acceptance, and each refusal that was passed, are what its edit asks. Assumes nothing.
+-- A call that is done has passed its tests, so it keeps the file; and what then stands in the room is the file that is meant. Assumes nothing.
 use Prim.Native.Nat.{ℕ, _≤_}
-use mathlib.Core.Path.{_≡_, refl, _∙_}
-use mathlib.Core.Bool.{Bool, true, false}
+use mathlib.Core.Path.{_≡_}
+use mathlib.Core.Bool.{true}
 use mathlib.Core.List.{List}
 use lib.IntN.{ℤ}
-use lib.ListN.{length}
-use Rattle.wire.specs.Tests.{pick}
+use lib.ListN.{length, take}
 use Rattle.wire.specs.Numbers.{Bytes}
-use Rattle.wire.proofs.Tests.{lt-yea, lt-or}
+use Rattle.wire.proofs.Clauses.{le-is, clause}
 use Rattle.boxes.specs.Containers.{LONGEST}
 use Rattle.entry_rules.specs.Entries.{FRAMES}
 use Rattle.entry_rules.specs.Decoders.{recordRule}
-use Rattle.rule.specs.declared.Answer.{Answer}
-use Rattle.rule.specs.declared.Answer.the-variants.{Done, Refused}
-use Rattle.rule.proofs.Answers.{refused-not}
-use Rattle.judge.specs.declared.Judgement.the-variants as judgement
-use Rattle.judge.specs.Judgement.{judged}
-use Rattle.judge.specs.Acceptance.{Meets, editable}
-use Rattle.judge.proofs.Calls.{when-done}
-use Rattle.judge.proofs.Exact.{accepted-meets}
-use Rattle.edit_move.specs.Moving.{moveOf, moveAnswer}
-use Rattle.edit_replace.specs.Replace.{kindAt, takes, replaceOf, roomAnswer, settledAnswer, takenAnswer, replaceAnswer}
-use Rattle.edit_shift.specs.Shift.{shiftOf, shiftAnswer}
+use Rattle.rule.specs.declared.Answer.the-variants.{Done}
+use Rattle.rule.specs.Results.{answerIn, leftIn}
+use Rattle.judge.specs.Acceptance.{Meets}
+use Rattle.judge.proofs.Calls.{result-done}
+use Rattle.edit_shift.specs.Shift.{shiftOf, shiftResult}
+use Rattle.edit_replace.specs.Replace.{kindAt, replaceOf, replaceResult}
+use Rattle.edit_move.specs.Moving.{moveOf, moveResult}
 use Rattle.promise_kept.specs.Kept.{Kept}
 use Rattle.promise_kept.proofs.Edits.{keeps-move, keeps-shift, keeps-replace}
 
--- ---- what an answer that is done says
+-- ---- a shift
 
-pub pick-done : (t : Bool) (a : Answer) (k p : ℕ) {n : ℕ} → pick t a (Refused k p) ≡ Done n → (t ≡ true) × (a ≡ Done n)
-pick-done true a k p e = (refl, e)
-pick-done false a k p e = absurd (refused-not k p _ e)
+module _ (z : ℤ) (xs out : List ℕ) {n : ℕ} (e : answerIn (shiftResult z xs) out ≡ Done n) where
+  pub shift-passed : Meets xs
+  unfolding shiftResult
+  shift-passed = result-done xs _ _ out n e .meets
 
-room-done : (new out : List ℕ) {n : ℕ} → roomAnswer new out ≡ Done n → length new ≤ LONGEST
-unfolding roomAnswer
-room-done new out e = lt-or LONGEST (length new) (λ h. absurd (refused-not 24 0 _ (lt-yea _ _ _ _ _ h refl ∙ e))) (λ h. h)
+  pub shift-left : take n (leftIn (shiftResult z xs) out) ≡ shiftOf z xs
+  unfolding shiftResult
+  shift-left = let d = result-done xs _ _ out n e in rw (d .is) (d .gave .taken)
 
--- ---- what a call that is done has passed
+  pub done-shift : Bytes xs → Kept xs (shiftOf z xs)
+  done-shift w = keeps-shift z xs w shift-passed
 
-pub move-passed : (xs out : List ℕ) {n : ℕ} → moveAnswer xs out ≡ Done n → Meets xs
-unfolding moveAnswer
-move-passed xs out e = accepted-meets xs (when-done (judged xs) _ e .0)
+-- ---- a replacement
 
-pub shift-passed : (z : ℤ) (xs out : List ℕ) {n : ℕ} → shiftAnswer z xs out ≡ Done n → Meets xs
-unfolding shiftAnswer
-shift-passed z xs out e = accepted-meets xs (when-done (judged xs) _ e .0)
+module _ (xs : List ℕ) (i : ℕ) (new out : List ℕ) {n : ℕ} (e : answerIn (replaceResult xs i new) out ≡ Done n) where
+  pub replace-passed : Meets xs × (recordRule (kindAt xs i) FRAMES new ≡ true) × (length (replaceOf xs i new) ≤ LONGEST)
+  unfolding replaceResult
+  replace-passed = let d = result-done xs _ _ out n e in (d .meets, clause 1 _ (d .tests), le-is _ _ (clause 3 _ (d .tests)))
 
-pub replace-passed : (xs : List ℕ) (i : ℕ) (new out : List ℕ) {n : ℕ} → replaceAnswer xs i new out ≡ Done n → Meets xs × (recordRule (kindAt xs i) FRAMES new ≡ true) × (length (replaceOf xs i new) ≤ LONGEST)
-unfolding replaceAnswer takenAnswer settledAnswer
-replace-passed xs i new out e =
-    let a = when-done (judged xs) _ e in
-    let s = pick (editable xs) (roomAnswer (replaceOf xs i new) out) (Refused 23 0) in
-    let b = pick-done (takes (kindAt xs i) new) (pick (recordRule (kindAt xs i) FRAMES new) s (Refused 21 0)) 20 0 (a .1) in
-    let c = pick-done (recordRule (kindAt xs i) FRAMES new) s 21 0 (b .1) in
-    let d = pick-done (editable xs) (roomAnswer (replaceOf xs i new) out) 23 0 (c .1) in
-    (accepted-meets xs (a .0), c .0, room-done (replaceOf xs i new) out (d .1))
+  pub replace-left : take n (leftIn (replaceResult xs i new) out) ≡ replaceOf xs i new
+  unfolding replaceResult
+  replace-left = let d = result-done xs _ _ out n e in rw (d .is) (d .gave .taken)
 
--- ---- the calls
+  pub done-replace : Bytes xs → Bytes new → Kept xs (replaceOf xs i new)
+  done-replace w v = let p = replace-passed in keeps-replace xs i new w v (p .0) (p .1) (p .2)
 
--- a move that is done
-pub done-move : (xs out : List ℕ) {n : ℕ} → Bytes xs → moveAnswer xs out ≡ Done n → Kept xs (moveOf xs)
-done-move xs out w e = keeps-move xs w (move-passed xs out e)
+-- ---- a move
 
--- a shift that is done
-pub done-shift : (z : ℤ) (xs out : List ℕ) {n : ℕ} → Bytes xs → shiftAnswer z xs out ≡ Done n → Kept xs (shiftOf z xs)
-done-shift z xs out w e = keeps-shift z xs w (shift-passed z xs out e)
+module _ (xs out : List ℕ) {n : ℕ} (e : answerIn (moveResult xs) out ≡ Done n) where
+  pub move-passed : Meets xs
+  unfolding moveResult
+  move-passed = result-done xs _ _ out n e .meets
 
--- a replacement that is done
-pub done-replace : (xs : List ℕ) (i : ℕ) (new out : List ℕ) {n : ℕ} → Bytes xs → Bytes new → replaceAnswer xs i new out ≡ Done n → Kept xs (replaceOf xs i new)
-done-replace xs i new out w v e = let p = replace-passed xs i new out e in keeps-replace xs i new w v (p .0) (p .1) (p .2)
+  pub move-left : take n (leftIn (moveResult xs) out) ≡ moveOf xs
+  unfolding moveResult
+  move-left = let d = result-done xs _ _ out n e in rw (d .is) (d .gave .taken)
+
+  pub done-move : Bytes xs → Kept xs (moveOf xs)
+  done-move w = keeps-move xs w move-passed

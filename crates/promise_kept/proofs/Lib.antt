@@ -25,4 +25,3 @@ pub mod Named
 pub mod Replacing
 pub mod Edits
 pub mod Done
-pub mod Size

@@ -1,6 +1,6 @@
 -- The round trips: what is written from what was read is what it was read from, and back. Assumes nothing.
 use Prim.Native.Nat.{ℕ, _-_, _≤_, _<_}
-use mathlib.Core.Path.{_≡_, sym, _∙_}
+use mathlib.Core.Path.{_≡_}
 use mathlib.Core.Bool.{true}
 use mathlib.Core.List.{List}
 use mathlib.Core.Logic.{_⊎_}
@@ -18,18 +18,19 @@ use Rattle.entry_records.specs.Texts.{textOf}
 use Rattle.entry_records.specs.Records.{readOf}
 use Rattle.entry_records.proofs.Reading.{written-reads}
 use Rattle.entry_records.proofs.Rewriting.{read-writes}
-use Rattle.rule.specs.declared.Answer.the-variants.{Done, Refused}
+use Rattle.rule.specs.declared.Answer.the-variants.{Done}
+use Rattle.rule.specs.Results.{answerIn, leftIn}
+use Rattle.rule.specs.Results.Result.{gives, refuses}
 use Rattle.judge.specs.Acceptance.{Meets}
 use Rattle.sheet.specs.Sheet.{SLOTS, sheet}
-use Rattle.sheet.specs.Reader.{sheetOf, sheetAnswer, sheetOut}
+use Rattle.sheet.specs.Reader.{sheetOf, sheetResult}
 use Rattle.sheet_table.specs.Form.{unsheet, formed}
-use Rattle.sheet_table.specs.Table.{tableAnswer, tableOut}
+use Rattle.sheet_table.specs.Table.{tableResult}
 use Rattle.sheet_table.proofs.RoundTrip as roundTrip
-use Rattle.entry_fields.specs.Numbers.{readAnswer, readOut, writeAnswer, writeOut}
+use Rattle.entry_fields.specs.Numbers.{readResult, writeResult}
 use Rattle.entry_fields.proofs.Returning.{written-back, read-back}
-use Rattle.promise_trips.specs.Gives.{Gives}
 use Rattle.promise_trips.proofs.Returned.{own-formed, own-unsheet, standing-box}
-use Rattle.promise_trips.proofs.Answered as answered
+use Rattle.promise_trips.proofs.Answered.{no-table, own-table, sheet-meets, sheet-taken}
 
 -- ---- a file that meets the rules
 
@@ -47,20 +48,20 @@ module _ (xs : List ℕ) (v : Bytes xs) (m : Meets xs) where
     pub stsd-stands : standing xs (stsds xs) (t - 1) ≡ boxBy STSD (sampleTable STSD (track xs (t - 1)))
     stsd-stands = standing-box xs m v t h k
 
-    -- the table writer gives it from the file's own sheet: the length of the box and the box, or 25 and nothing
-    pub table-answer : (out : List ℕ) → Gives (standing xs (stsds xs) (t - 1)) out (tableAnswer SLOTS (sheetOf xs) t out) (tableOut SLOTS (sheetOf xs) t out)
-    table-answer out = (answered.answer-returns xs m v t out h k, answered.out-returns xs m v t out h k)
+    -- the table writer gives it from the file's own sheet
+    pub table-stands : tableResult SLOTS (sheetOf xs) t ≡ gives (standing xs (stsds xs) (t - 1))
+    table-stands = own-table xs m v t h k
 
   -- of a track that it has not the writer says so
-  pub table-none : (t : ℕ) → (t ≡ 0) ⊎ (tracks xs < t) → (out : List ℕ) → tableAnswer SLOTS (sheetOf xs) t out ≡ Refused 20 0
-  table-none t h out = answered.answer-none xs m v t out h
+  pub table-none : (t : ℕ) → (t ≡ 0) ⊎ (tracks xs < t) → tableResult SLOTS (sheetOf xs) t ≡ refuses 20 0
+  table-none t h = no-table xs m v t h
 
 -- ---- the sheet reader, and then the table writer, on any bytes
 
 -- what the reader gave, given to the writer, gives back what stands in the file at the place of any track's `stsd`
-pub sheet-table : (xs : List ℕ) → Bytes xs → (out : List ℕ) (n : ℕ) → sheetAnswer xs out ≡ Done n → (t : ℕ) → 1 ≤ t → t ≤ tracks xs → (room : List ℕ)
-    → Gives (standing xs (stsds xs) (t - 1)) room (tableAnswer SLOTS (take n (sheetOut xs out)) t room) (tableOut SLOTS (take n (sheetOut xs out)) t room)
-sheet-table xs v out n e t h k room = rw (answered.sheet-taken xs out n e) (table-answer xs v (answered.sheet-meets xs out n e) t h k room)
+pub sheet-table : (xs : List ℕ) → Bytes xs → (out : List ℕ) (n : ℕ) → answerIn (sheetResult xs) out ≡ Done n → (t : ℕ) → 1 ≤ t → t ≤ tracks xs
+    → tableResult SLOTS (take n (leftIn (sheetResult xs) out)) t ≡ gives (standing xs (stsds xs) (t - 1))
+sheet-table xs v out n e t h k = rw (sheet-taken xs out n e) (table-stands xs v (sheet-meets xs out n e) t h k)
 
 -- ---- sheets
 
@@ -83,15 +84,9 @@ pub bytes-back : (most : ℕ) (xs : List ℕ) → Bytes xs → (r : Record) → 
 bytes-back most xs v r e b = let a = read-writes most xs v r e b in (a .rule, a .text)
 
 -- numbers that the writer took: the reader gives them back
-pub write-read : (ns out : List ℕ) (n : ℕ) → writeAnswer ns out ≡ Done n → (room : List ℕ)
-    → Gives ns room (readAnswer (take n (writeOut ns out)) room) (readOut (take n (writeOut ns out)) room)
+pub write-read : (ns out : List ℕ) (n : ℕ) → answerIn (writeResult ns) out ≡ Done n → readResult (take n (leftIn (writeResult ns) out)) ≡ gives ns
 write-read = written-back
 
 -- bytes that the reader took: the writer gives them back
-pub read-write : (xs : List ℕ) → Bytes xs → (out : List ℕ) (n : ℕ) → readAnswer xs out ≡ Done n → (room : List ℕ)
-    → Gives xs room (writeAnswer (take n (readOut xs out)) room) (writeOut (take n (readOut xs out)) room)
-read-write xs v out n e room = read-back xs out n v e room
-
--- two results that an exact promise allows are equal
-pub one-answer : {A B : Type 0} {a : A} {b : B} {r s : A} {o p : B} → (r ≡ a) × (o ≡ b) → (s ≡ a) × (p ≡ b) → (r ≡ s) × (o ≡ p)
-one-answer x y = (x .0 ∙ sym (y .0), x .1 ∙ sym (y .1))
+pub read-write : (xs : List ℕ) → Bytes xs → (out : List ℕ) (n : ℕ) → answerIn (readResult xs) out ≡ Done n → writeResult (take n (leftIn (readResult xs) out)) ≡ gives xs
+read-write xs v out n e = read-back xs out n v e

@@ -1,1 +1,1 @@
-// What is written back from what was read: laws and definitions, no code of its own.
+// What is written back from what was read: laws, no code of its own.

@@ -1,45 +1,48 @@
 -- Nothing is vacuous: the file of the paper's printed listing is accepted, and so is one with each kind of entry, by computation.
 use mathlib.Core.Path.{_≡_, refl}
 use mathlib.Core.List.{[], _∷_}
-use Rattle.wire.specs.Clauses.{isEq, isLt, isLe, every, either, oneIf}
-use Rattle.wire.specs.Numbers.{bytesOn, bytes, word}
+use Rattle.wire.specs.Clauses.{either, every, isEq, isLe, isLt, oneIf}
+use Rattle.wire.specs.Numbers.{bytes, bytesOn, word}
 use Rattle.wire.specs.Same.{same}
-use Rattle.wire.specs.Sums.{sumTo, allTo}
-use Rattle.wire.specs.Tests.{ifEq, ifLt, ifLe}
+use Rattle.wire.specs.Sums.{allTo, sumTo}
+use Rattle.wire.specs.Tests.{ifEq, ifLe, ifLt}
 use Rattle.boxes.specs.Box.{header, write}
-use Rattle.boxes.specs.Boxes.{whole, boxes, total, after}
-use Rattle.boxes.specs.Containers.{parent, kindIn}
-use Rattle.boxes.specs.Seek.{tilingOf, meant, count, nth, placeBy, placeIn, startIn}
-use Rattle.sample_tables.specs.Chunks.{samplesIn, firstSample, chunkAt, extentOf, descriptionOf}
+use Rattle.boxes.specs.Boxes.{after, boxes, total, whole}
+use Rattle.boxes.specs.Containers.{kindIn, parent}
+use Rattle.boxes.specs.Seek.{count, meant, nth, placeBy, placeIn, startIn, tilingOf}
+use Rattle.movie.specs.Entries.{entries, entriesFrom, entriesOf}
+use Rattle.movie.specs.Movie.{handler, references, scale}
+use Rattle.movie.specs.Stsds.{stsdsFrom}
+use Rattle.movie.specs.Ways.{follow, placeAlong}
+use Rattle.mdat.specs.Payloads.{inAt, inBox, mdats, past, resolve}
+use Rattle.mdat.specs.Rules.{chunkIn, chunksIn, lies}
+use Rattle.sample_tables.specs.Chunks.{chunkAt, descriptionOf, extentOf, firstSample, samplesIn}
 use Rattle.sample_tables.specs.Rules.{emptyTogether, tablesAgree}
-use Rattle.sample_tables.specs.Runs.{rises, runFine, runsFine, runAmong, runOf}
-use Rattle.sample_tables.specs.Sizes.{sizesListed, sizeAt, bytesFrom}
+use Rattle.sample_tables.specs.Runs.{rises, runAmong, runFine, runOf, runsFine}
+use Rattle.sample_tables.specs.Sizes.{bytesFrom, sizeAt, sizesListed}
 use Rattle.sample_tables.specs.Tables.{hasForm}
 use Rattle.sample_tables.specs.Times.{timedTo}
-use Rattle.mdat.specs.Payloads.{mdats, inBox, past, resolve, inAt}
-use Rattle.mdat.specs.Rules.{chunkIn, chunksIn}
-use Rattle.entry_heads.specs.Heads.{boxHeader, commonHead, audioHead, visualStart, visualHead, headSize, commonRule, audioRule, nameRule, visualRule, headRule}
-use Rattle.entry_heads.specs.Kinds.{kindOf, handlerOf}
-use Rattle.entry_rules.specs.Decoders.{boxRule, modeMask, modesRule, periodRule, framesRule, damrRule, ratedRule, d263Rule, recordRule}
-use Rattle.entry_rules.specs.Entries.{handlerRule, scaleRule, trackRule, esdsRule, avcRule, insideRule, ruleAs, entryRule}
-use Rattle.rule.specs.Judge.{judgeList, judgeBox, judgeIn}
+use Rattle.entry_heads.specs.Heads.{audioHead, audioRule, boxHeader, commonHead, commonRule, headRule, headSize, nameRule, visualHead, visualRule, visualStart}
+use Rattle.entry_heads.specs.Kinds.{handlerOf, kindOf}
+use Rattle.entry_rules.specs.Decoders.{boxRule, d263Rule, damrRule, framesRule, modeMask, modesRule, periodRule, ratedRule, recordRule}
+use Rattle.entry_rules.specs.Entries.{avcRule, entryRule, esdsRule, handlerRule, insideRule, ruleAs, scaleRule, trackRule}
+use Rattle.rule.specs.Judge.{judgeBox, judgeIn, judgeList}
 use Rattle.rule.specs.Verdict.{sooner, unless}
-use Rattle.rule_shape.specs.Shape.{needed, exactly, first, besides, shape}
-use Rattle.movie.specs.Ways.{follow, placeAlong}
-use Rattle.movie.specs.Movie.{references, handler, scale}
-use Rattle.movie.specs.Stsds.{stsdsFrom}
-use Rattle.rule_lists.specs.Five.{listForm, formIn, passing}
-use Rattle.rule_lists.specs.Nine.{isUrl}
-use Rattle.rule_headers.specs.Forms.{brandsForm, headForm, handlerForm, ifBox, form}
+use Rattle.rule_shape.specs.Three.{besides, exactly, first, needed, shape}
+use Rattle.rule_headers.specs.Forms.{brandsForm, form, handlerForm, headForm, ifBox}
 use Rattle.rule_headers.specs.Four.{tracksIn}
-use Rattle.rule_headers.specs.Identities.{identity, fresh, tkhdPlace, freshTo}
-use Rattle.rule_tracks.specs.Eight.{eightHolds, eightAt}
+use Rattle.rule_headers.specs.Identities.{fresh, freshTo, identity, tkhdPlace}
+use Rattle.rule_lists.specs.Five.{formIn, listForm, passing}
+use Rattle.rule_lists.specs.Nine.{isUrl}
+use Rattle.rule_tracks.specs.Asked.{sixHolds}
+use Rattle.rule_tracks.specs.Eight.{eightAt, eightHolds}
 use Rattle.rule_tracks.specs.Seven.{sevenHolds, sevenIn}
-use Rattle.rule_tracks.specs.Six.{tableFine, tableIn, sixHolds}
-use Rattle.rule_entries.specs.Ten.{aroundOf, meets, entriesJudged, stsdsJudged, tenAt}
-use Rattle.judge.specs.Judgement.{unlessBroken, judgedFrom, judged}
+use Rattle.rule_tracks.specs.Six.{tableFine, tableIn}
+use Rattle.rule_entries.specs.Ten.{aroundOf, entriesJudged, meets, stsdsJudged, tenAt}
+use Rattle.judge.specs.Judgement.{judged, judgedFrom, unlessBroken}
+use Rattle.judge.specs.One.{oneIn}
 use Rattle.promises.specs.Example.{kinds, numbers}
 
 pub every-kind : numbers kinds ≡ 0 ∷ 0 ∷ 0 ∷ 0 ∷ 0 ∷ 0 ∷ 0 ∷ 0 ∷ []
-unfolding isEq isLt isLe every either oneIf bytesOn bytes word same sumTo allTo ifEq ifLt ifLe header write whole boxes total after parent kindIn tilingOf meant count nth placeBy placeIn startIn samplesIn firstSample chunkAt extentOf descriptionOf emptyTogether tablesAgree rises runFine runsFine runAmong runOf sizesListed sizeAt bytesFrom hasForm timedTo mdats inBox past resolve inAt chunkIn chunksIn boxHeader commonHead audioHead visualStart visualHead headSize commonRule audioRule nameRule visualRule headRule kindOf handlerOf boxRule modeMask modesRule periodRule framesRule damrRule ratedRule d263Rule recordRule handlerRule scaleRule trackRule esdsRule avcRule insideRule ruleAs entryRule judgeList judgeBox judgeIn sooner unless needed exactly first besides shape listForm formIn follow brokenAt entriesOf entries overMost isUrl brandsForm headForm handlerForm ifBox form tracksIn identity fresh tkhdPlace freshTo eightHolds eightAt sevenHolds sevenIn tableFine tableIn sixHolds aroundIn stsdStart meets entriesFrom tenAt unlessBroken judgedFrom judged
+unfolding either every isEq isLe isLt oneIf bytes bytesOn word same allTo sumTo ifEq ifLe ifLt header write after boxes total whole kindIn parent count meant nth placeBy placeIn startIn tilingOf entries entriesFrom entriesOf handler references scale stsdsFrom follow placeAlong inAt inBox mdats past resolve chunkIn chunksIn lies chunkAt descriptionOf extentOf firstSample samplesIn emptyTogether tablesAgree rises runAmong runFine runOf runsFine bytesFrom sizeAt sizesListed hasForm timedTo audioHead audioRule boxHeader commonHead commonRule headRule headSize nameRule visualHead visualRule visualStart handlerOf kindOf boxRule d263Rule damrRule framesRule modeMask modesRule periodRule ratedRule recordRule avcRule entryRule esdsRule handlerRule insideRule ruleAs scaleRule trackRule judgeBox judgeIn judgeList sooner unless besides exactly first needed shape brandsForm form handlerForm headForm ifBox tracksIn fresh freshTo identity tkhdPlace formIn listForm passing isUrl sixHolds eightAt eightHolds sevenHolds sevenIn tableFine tableIn aroundOf entriesJudged meets stsdsJudged tenAt judged judgedFrom unlessBroken oneIn
 every-kind = refl

@@ -1,13 +1,11 @@
 -- Demand 3, proved. Assumes nothing.
 use Prim.Native.Nat.{ℕ}
 use mathlib.Core.Path.{_≡_, refl, sym, ap, subst, _∙_}
-use mathlib.Core.List.{List, _++_}
-use lib.ListN.{length, take, drop}
-use lib.Seq.{take-append-seam}
+use mathlib.Core.List.{List}
+use lib.ListN.{take}
 use Rattle.wire.specs.Numbers.{Bytes}
 use Rattle.rule.specs.declared.Answer.{Answer}
 use Rattle.rule.specs.declared.Answer.the-variants.{Done, Refused}
-use Rattle.rule.specs.Answers.{outBy}
 use Rattle.judge.specs.declared.Judgement.the-variants.{Accepted}
 use Rattle.judge.specs.Judgement.{judged}
 use Rattle.judge.specs.Acceptance.{Meets}
@@ -15,38 +13,32 @@ use Rattle.judge.proofs.Exact.{accepted-meets, meets-accepted}
 use Rattle.promise_kept.specs.Samples.{samples}
 use Rattle.promise_kept.specs.Kept.{Kept}
 use Rattle.promise_kept.proofs.Keeping.{kept-refl, kept-then}
-use Rattle.promise_kept.proofs.Done.{done-move, done-shift, done-replace}
-use Rattle.promise_kept.proofs.Size.{move-size, shift-size, replace-size}
-use Rattle.promises.specs.Runs.{Edit, shift, replace, move, meaning, answer, goOn, goesOn, Lent, run, Given, AllGiven, none, more}
+use Rattle.promise_kept.proofs.Done.{shift-left, done-shift, replace-left, done-replace, move-left, done-move}
+use Rattle.promises.specs.Runs.{Edit, shift, replace, move, meaning, answer, left, goOn, goesOn, Lent, run, Given, AllGiven, none, more}
 
 -- an edit that is done keeps the file
 done-keeps : (e : Edit) → Given e → (xs out : List ℕ) {n : ℕ} → Bytes xs → answer e xs out ≡ Done n → Kept xs (meaning e xs)
-done-keeps (shift z) g xs out w d = done-shift z xs out w d
-done-keeps (replace i new) g xs out w d = done-replace xs i new out w g d
-done-keeps move g xs out w d = done-move xs out w d
+done-keeps (shift z) g xs out w d = done-shift z xs out d w
+done-keeps (replace i new) g xs out w d = done-replace xs i new out d w g
+done-keeps move g xs out w d = done-move xs out d w
 
--- its answer is the length of the file that is meant
-done-size : (e : Edit) (xs out : List ℕ) {n : ℕ} → answer e xs out ≡ Done n → n ≡ length (meaning e xs)
-done-size (shift z) xs out d = shift-size z xs out d
-done-size (replace i new) xs out d = replace-size xs i new out d
-done-size move xs out d = move-size xs out d
-
--- what the caller goes on with, by the answer
-go-on : (a : Answer) (xs ys out : List ℕ) → ((n : ℕ) → a ≡ Done n → n ≡ length ys) → (P : List ℕ → Type 0) → ((n : ℕ) → a ≡ Done n → P ys) → P xs → P (goOn a xs (outBy a ys out))
-unfolding outBy
-go-on (Done n) xs ys out l P f k =
-    let e : take n (ys ++ drop (length ys) out) ≡ ys = ap (λ (m : ℕ). take m (ys ++ drop (length ys) out)) (l n refl) ∙ take-append-seam ys (drop (length ys) out) in
-    subst P (sym e) (f n refl)
-go-on (Refused n p) xs ys out l P f k = k
-
--- one edit, done or refused, keeps an accepted file
-next-keeps : (e : Edit) → Given e → (xs out : List ℕ) → Bytes xs → Meets xs → Kept xs (goesOn e xs out)
-next-keeps e g xs out w m = go-on (answer e xs out) xs (meaning e xs) out (λ n. done-size e xs out) (Kept xs) (λ n. done-keeps e g xs out w) (kept-refl xs w m)
+-- the file that is meant then stands in the buffer, as many bytes of it as the edit says
+done-left : (e : Edit) (xs out : List ℕ) {n : ℕ} → answer e xs out ≡ Done n → take n (left e xs out) ≡ meaning e xs
+done-left (shift z) xs out d = shift-left z xs out d
+done-left (replace i new) xs out d = replace-left xs i new out d
+done-left move xs out d = move-left xs out d
 
 -- after an edit that is done, the file is exactly the one that the paper means, worked out afresh
 pub next-means : (e : Edit) (xs out : List ℕ) {n : ℕ} → answer e xs out ≡ Done n → goesOn e xs out ≡ meaning e xs
-unfolding outBy
-next-means e xs out {n} d = rw d (ap (λ (m : ℕ). take m (meaning e xs ++ drop (length (meaning e xs)) out)) (done-size e xs out d) ∙ take-append-seam (meaning e xs) (drop (length (meaning e xs)) out))
+next-means e xs out d = ap (λ (a : Answer). goOn a xs (left e xs out)) d ∙ done-left e xs out d
+
+-- one edit, done or refused, keeps an accepted file
+next-keeps : (e : Edit) → Given e → (xs out : List ℕ) → Bytes xs → Meets xs → Kept xs (goesOn e xs out)
+next-keeps e g xs out w m = go (answer e xs out) refl
+  where
+    go : (a : Answer) → answer e xs out ≡ a → Kept xs (goesOn e xs out)
+    go (Done n) d = subst (Kept xs) (sym (next-means e xs out d)) (done-keeps e g xs out w d)
+    go (Refused n p) d = subst (Kept xs) (sym (ap (λ (a : Answer). goOn a xs (left e xs out)) d)) (kept-refl xs w m)
 
 -- any run of edits keeps an accepted file: accepted, open to edits, the same tracks with the same samples, byte for byte
 pub run-keeps : {es : List Lent} → AllGiven es → (xs : List ℕ) → Bytes xs → Meets xs → Kept xs (run es xs)

@@ -9,9 +9,10 @@ use Rattle.wire.specs.Numbers.{bytes}
 use Rattle.codes.specs.Codes.{SAMR, SAWB, SOUN}
 use Rattle.entry_rules.specs.declared.entry.Around.the-variants.{Track, Alone}
 use Rattle.entry_rules.specs.Entries.{entryRule}
-use Rattle.rule.specs.Answers as answer
+use Rattle.rule.specs.Answers.{answerNumber}
+use Rattle.rule.specs.Results.{answerIn}
 use Rattle.judge.specs.Judgement.{judged, judgedNumber, judgedPlace}
-use Rattle.edit_shift.specs.Shift.{shiftAnswer}
+use Rattle.edit_shift.specs.Shift.{shiftResult}
 use Rattle.promises.specs.Example.{fileAt, speech}
 
 -- M1 with another code, TimeScale, mode_set, period and frames, and whether it is accepted
@@ -65,7 +66,7 @@ markedCases =
 abbrev pub asMarked : Row → Bool
 asMarked (ofEntry c) = eqb (oneIf (entryRule (Track (c .scale) SOUN 1) 15 (entry c))) (c .fine) && eqb (oneIf (entryRule Alone 15 (entry c))) (c .fine)
 asMarked (ofFile xs n p) = eqb (judgedNumber (judged xs)) n && eqb (judgedPlace (judged xs)) p
-asMarked (ofShift xs z n) = eqb (answer.answerNumber (shiftAnswer z xs [])) n
+asMarked (ofShift xs z n) = eqb (answerNumber (answerIn (shiftResult z xs) [])) n
 
 abbrev pub allMarked : List Row → Bool
 allMarked [] = true

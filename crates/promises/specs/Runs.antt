@@ -6,10 +6,10 @@ use lib.ListN.{take}
 use Rattle.wire.specs.Numbers.{Bytes}
 use Rattle.rule.specs.declared.Answer.{Answer}
 use Rattle.rule.specs.declared.Answer.the-variants.{Done, Refused}
-use Rattle.rule.specs.Answers.{outBy}
-use Rattle.edit_move.specs.Moving.{moveOf, moveAnswer}
-use Rattle.edit_replace.specs.Replace.{replaceOf, replaceAnswer}
-use Rattle.edit_shift.specs.Shift.{shiftOf, shiftAnswer}
+use Rattle.rule.specs.Results.{Result, answerIn, leftIn}
+use Rattle.edit_move.specs.Moving.{moveOf, moveResult}
+use Rattle.edit_replace.specs.Replace.{replaceOf, replaceResult}
+use Rattle.edit_shift.specs.Shift.{shiftOf, shiftResult}
 
 -- an edit, with what it is given
 pub data Edit : Type 0 where
@@ -23,14 +23,18 @@ meaning (shift z) xs = shiftOf z xs
 meaning (replace i new) xs = replaceOf xs i new
 meaning move xs = moveOf xs
 
--- what it answers, being lent the buffer out, and what it leaves there: the promises of the three calls
+-- what its call comes to: the promises of the three calls, word for word
+abbrev pub result : Edit → List ℕ → Result
+result (shift z) xs = shiftResult z xs
+result (replace i new) xs = replaceResult xs i new
+result move xs = moveResult xs
+
+-- what it answers, being lent the buffer out, and what it leaves there
 abbrev pub answer : Edit → List ℕ → List ℕ → Answer
-answer (shift z) xs out = shiftAnswer z xs out
-answer (replace i new) xs out = replaceAnswer xs i new out
-answer move xs out = moveAnswer xs out
+answer e xs out = answerIn (result e xs) out
 
 abbrev pub left : Edit → List ℕ → List ℕ → List ℕ
-left e xs out = outBy (answer e xs out) (meaning e xs) out
+left e xs out = leftIn (result e xs) out
 
 -- the file that the caller goes on with: as many bytes of the buffer as the edit says, and the old file where it is refused
 abbrev pub goOn : Answer → List ℕ → List ℕ → List ℕ

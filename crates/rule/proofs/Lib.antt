@@ -3,7 +3,6 @@ pub mod Acceptance
 pub mod Opened
 pub mod Keeping
 pub mod Traverse
-pub mod Answers
 pub mod Results
 pub mod Alike
 pub mod Bounds

@@ -10,11 +10,12 @@ use lib.Seq.{take-at}
 use Rattle.wire.specs.Clauses.{every, oneIf}
 use Rattle.wire.specs.Writing.{Wrote, Put}
 use Rattle.wire.proofs.Tests.{lt-yea, lt-nay, lt-ways}
-use Rattle.wire.proofs.Clauses.{was-yea, was-nay}
+use Rattle.wire.proofs.Clauses.{is-le, not-le, was-yea, was-nay}
 use Rattle.wire.proofs.Writing.{pen-front}
+use Rattle.boxes.specs.Containers.{LONGEST}
 use Rattle.rule.specs.declared.Answer.{Answer}
 use Rattle.rule.specs.declared.Answer.the-variants.{Done, Refused}
-use Rattle.rule.specs.Results.{Result, asked, answerIn, leftIn, Exact}
+use Rattle.rule.specs.Results.{Result, asked, inLimit, answerIn, leftIn, Exact}
 use Rattle.rule.specs.Results.Result.{gives, refuses}
 
 -- ---- what a call answers
@@ -43,17 +44,31 @@ module _ (xs out : List ℕ) {start mid : List ℕ} {n : ℕ} (p : Put xs start 
 -- ---- the tests before it, each told by code as 1 or 0
 
 module _ (n : ℕ) (t : Bool) (ts : List (ℕ × Bool)) (g : Result) (out : List ℕ) where
-  pub asked-nay : {i : ℕ} → i ≡ oneIf t → i ≡ 0 → Exact (asked ((n, t) ∷ ts) g) out (Refused n 0) out
+  pub test-not : t ≡ false → Exact (asked ((n, t) ∷ ts) g) out (Refused n 0) out
   unfolding asked
-  asked-nay e z = rw (was-nay t _ z e) (exact-refuses n 0 out)
+  test-not e = rw e (exact-refuses n 0 out)
 
-  pub asked-yea : {i : ℕ} → i ≡ oneIf t → (i ≡ 0 → ⊥) → {r : Answer} {left : List ℕ} → Exact (asked ts g) out r left → Exact (asked ((n, t) ∷ ts) g) out r left
+  pub test-so : t ≡ true → {r : Answer} {left : List ℕ} → Exact (asked ts g) out r left → Exact (asked ((n, t) ∷ ts) g) out r left
   unfolding asked
-  asked-yea e z x = rw (was-yea t _ z e) x
+  test-so e x = rw e x
 
-pub asked-all : (g : Result) (out : List ℕ) {r : Answer} {left : List ℕ} → Exact g out r left → Exact (asked [] g) out r left
+  pub test-nay : {i : ℕ} → i ≡ oneIf t → i ≡ 0 → Exact (asked ((n, t) ∷ ts) g) out (Refused n 0) out
+  test-nay e z = test-not (was-nay t _ z e)
+
+  pub test-yea : {i : ℕ} → i ≡ oneIf t → (i ≡ 0 → ⊥) → {r : Answer} {left : List ℕ} → Exact (asked ts g) out r left → Exact (asked ((n, t) ∷ ts) g) out r left
+  test-yea e z x = test-so (was-yea t _ z e) x
+
+pub test-all : (g : Result) (out : List ℕ) {r : Answer} {left : List ℕ} → Exact g out r left → Exact (asked [] g) out r left
 unfolding asked
-asked-all g out x = x
+test-all g out x = x
+
+-- the last of them may be 24
+module _ (xs out : List ℕ) where
+  pub over-limit : LONGEST < length xs → Exact (asked ((24, inLimit xs) ∷ []) (gives xs)) out (Refused 24 0) out
+  over-limit h = test-not 24 _ [] _ out (not-le _ _ h)
+
+  pub in-limit : length xs ≤ LONGEST → {r : Answer} {left : List ℕ} → Exact (gives xs) out r left → Exact (asked ((24, inLimit xs) ∷ []) (gives xs)) out r left
+  in-limit h x = test-so 24 _ [] _ out (is-le _ _ h) (test-all _ out x)
 
 -- ---- two results that the promise allows are equal
 

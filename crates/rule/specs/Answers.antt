@@ -1,8 +1,5 @@
--- The answer of a call, and what it leaves in the room that it was lent.
-use Prim.Native.Nat.{ℕ, zero, suc}
-use mathlib.Core.List.{List, _++_}
-use lib.ListN.{length, drop}
-use Rattle.wire.specs.Tests.{ifLt}
+-- The answer of a call, in the paper's numbers.
+use Prim.Native.Nat.{ℕ}
 use Rattle.rule.specs.declared.Answer.{Answer}
 use Rattle.rule.specs.declared.Answer.the-variants.{Done, Refused}
 
@@ -14,17 +11,3 @@ answerNumber (Refused n p) = n
 abbrev pub answerValue : Answer → ℕ
 answerValue (Done n) = n
 answerValue (Refused n p) = p
-
--- the refusal of a number and a place, and a where the number is 0
-abbrev pub unlessRefused : ℕ → ℕ → Answer → Answer
-unlessRefused zero p a = a
-unlessRefused (suc n) p a = Refused (suc n) p
-
--- 25: "the lent output is shorter than the result", else its length
-unfoldable pub inRoom : List ℕ → List ℕ → Answer
-inRoom xs out = ifLt (length out) (length xs) (Refused 25 0) (Done (length xs))
-
--- "A refusal writes nothing. Success writes the result and nothing beyond it."
-unfoldable pub outBy : Answer → List ℕ → List ℕ → List ℕ
-outBy (Done n) xs out = xs ++ drop (length xs) out
-outBy (Refused n p) xs out = out

@@ -5,6 +5,8 @@ use mathlib.Core.Bool.{Bool}
 use mathlib.Core.List.{List, [], _∷_, _++_}
 use lib.ListN.{length, drop}
 use Rattle.wire.specs.Tests.{pick, ifLt}
+use Rattle.wire.specs.Clauses.{isLe}
+use Rattle.boxes.specs.Containers.{LONGEST}
 use Rattle.rule.specs.declared.Answer.{Answer}
 use Rattle.rule.specs.declared.Answer.the-variants.{Done, Refused}
 
@@ -17,6 +19,10 @@ pub data Result : Type 0 where
 unfoldable pub asked : List (ℕ × Bool) → Result → Result
 asked [] g = g
 asked (t ∷ ts) g = pick (t .1) (asked ts g) (refuses (t .0) 0)
+
+-- 24: not so where "the result would pass 1,048,576 bytes"
+abbrev pub inLimit : List ℕ → Bool
+inLimit xs = isLe (length xs) LONGEST
 
 -- the answer; last of all 25: "the lent output is shorter than the result"
 unfoldable pub answerIn : Result → List ℕ → Answer

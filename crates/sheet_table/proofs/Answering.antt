@@ -5,20 +5,20 @@ use mathlib.Core.Path.{_≡_, refl, sym, _∙_}
 use mathlib.Core.Bool.{true}
 use mathlib.Core.List.{List, [], _∷_}
 use lib.ListN.{length, length-append}
-use Rattle.wire.specs.Clauses.{isLe, oneIf}
+use Rattle.wire.specs.Clauses.{oneIf}
 use Rattle.codes.specs.Codes.{STSD}
 use Rattle.wire.specs.Numbers.{bytes}
 use Rattle.wire.specs.Writing.{Put}
-use Rattle.wire.proofs.Clauses.{not-le, is-le, yea, nay, was-yea}
+use Rattle.wire.proofs.Clauses.{was-yea}
 use Rattle.wire.proofs.Numbers.{length-bytes}
 use Rattle.wire.proofs.Writing.{pen-then, pen-front}
 use Rattle.boxes.specs.Containers.{LONGEST}
 use Rattle.movie.specs.Entries.{Entry}
 use Rattle.rule.specs.declared.Answer.{Answer}
 use Rattle.rule.specs.declared.Answer.the-variants.{Done, Refused}
-use Rattle.rule.specs.Results.{asked, Exact}
+use Rattle.rule.specs.Results.{asked, inLimit, Exact}
 use Rattle.rule.specs.Results.Result.{gives}
-use Rattle.rule.proofs.Results.{exact-short, exact-wrote, asked-nay, asked-yea, asked-all}
+use Rattle.rule.proofs.Results.{exact-short, exact-wrote, test-not, test-so, test-nay, test-yea, over-limit, in-limit}
 use Rattle.sheet.specs.Sheet.{bodies}
 use Rattle.sheet_table.specs.Form.{read, unsheet, steps, formed}
 use Rattle.sheet_table.specs.Table.{ownEntries, table, trackTable, tableResult}
@@ -41,25 +41,22 @@ module _ (es : List Entry) (out : List ℕ) {start after : List ℕ} {size : ℕ
   long : length (table es) ≡ 16 + size
   long = table-length es ∙ omega (arith, p .next)
 
-  pub own-long : LONGEST < 16 + size → Exact (asked ((24, isLe (length (table es)) LONGEST) ∷ []) (gives (table es))) out (Refused 24 0) out
-  own-long l = asked-nay 24 _ [] _ out (nay _ (sym (not-le _ _ (omega (arith, long))))) refl
+  pub own-long : LONGEST < 16 + size → Exact (asked ((24, inLimit (table es)) ∷ []) (gives (table es))) out (Refused 24 0) out
+  own-long l = over-limit (table es) out (omega (arith, long))
 
   module _ (l : 16 + size ≤ LONGEST) where
-    fits : {r : Answer} {left : List ℕ} → Exact (gives (table es)) out r left → Exact (asked ((24, isLe (length (table es)) LONGEST) ∷ []) (gives (table es))) out r left
-    fits x = asked-yea 24 _ [] _ out (yea _ (sym (is-le _ _ (omega (arith, long))))) (λ z. omega arith) (asked-all _ out x)
+    pub own-short : length out < 16 + size → Exact (asked ((24, inLimit (table es)) ∷ []) (gives (table es))) out (Refused 25 0) out
+    own-short m = in-limit (table es) out (omega (arith, long)) (exact-short (table es) out (omega (arith, long)))
 
-    pub own-short : length out < 16 + size → Exact (asked ((24, isLe (length (table es)) LONGEST) ∷ []) (gives (table es))) out (Refused 25 0) out
-    own-short m = fits (exact-short (table es) out (omega (arith, long)))
-
-    pub own-done : {r : ℕ} {left : List ℕ} → 16 + size ≤ length out → Put (table es) out 0 r left → Exact (asked ((24, isLe (length (table es)) LONGEST) ∷ []) (gives (table es))) out (Done r) left
-    own-done m w = fits (exact-wrote (table es) out (omega (arith, long)) (pen-front w (omega (arith, long, w .next))))
+    pub own-done : {r : ℕ} {left : List ℕ} → 16 + size ≤ length out → Put (table es) out 0 r left → Exact (asked ((24, inLimit (table es)) ∷ []) (gives (table es))) out (Done r) left
+    own-done m w = in-limit (table es) out (omega (arith, long)) (exact-wrote (table es) out (omega (arith, long)) (pen-front w (omega (arith, long, w .next))))
 
 -- ---- of a sheet
 
 module _ (k : ℕ) (s out : List ℕ) (t : ℕ) {f : ℕ} (e : f ≡ oneIf (formed k s)) where
   pub sheet-torn : f ≡ 0 → Exact (tableResult k s t) out (Refused 30 0) out
   unfolding tableResult
-  sheet-torn z = asked-nay 30 _ _ _ out e z
+  sheet-torn z = test-nay 30 _ _ _ out e z
 
   module _ (g : f ≡ 0 → ⊥) {n : ℕ} {xs ys : List ℕ} (o : Opened k s n xs ys) {count : ℕ} (c : count ≡ length (ownEntries t (read n xs ys))) where
     few : count ≡ length (ownEntries t (unsheet k s))
@@ -70,11 +67,11 @@ module _ (k : ℕ) (s out : List ℕ) (t : ℕ) {f : ℕ} (e : f ≡ oneIf (form
 
     pub sheet-track : count ≡ 0 → Exact (tableResult k s t) out (Refused 20 0) out
     unfolding tableResult
-    sheet-track z = asked-yea 30 _ _ _ out e g (asked-nay 20 _ _ _ out (nay _ (no-track t (unsheet k s) stepped (sym few ∙ z))) refl)
+    sheet-track z = test-yea 30 _ _ _ out e g (test-not 20 _ _ _ out (sym (no-track t (unsheet k s) stepped (sym few ∙ z))))
 
     pub sheet-own : (count ≡ 0 → ⊥) → {r : Answer} {left : List ℕ}
-        → Exact (asked ((24, isLe (length (table (ownEntries t (read n xs ys)))) LONGEST) ∷ []) (gives (table (ownEntries t (read n xs ys))))) out r left → Exact (tableResult k s t) out r left
+        → Exact (asked ((24, inLimit (table (ownEntries t (read n xs ys)))) ∷ []) (gives (table (ownEntries t (read n xs ys))))) out r left → Exact (tableResult k s t) out r left
     unfolding tableResult trackTable
     sheet-own h x =
-        asked-yea 30 _ _ _ out e g
-        (asked-yea 20 _ _ _ out (yea _ (has-track t (unsheet k s) stepped (omega (arith, few)))) (λ z. omega arith) (rw (opened o) at x))
+        test-yea 30 _ _ _ out e g
+        (test-so 20 _ _ _ out (sym (has-track t (unsheet k s) stepped (omega (arith, few)))) (rw (opened o) at x))

@@ -7,9 +7,8 @@ use Rattle.wire.specs.Tests.{ifEq}
 use Rattle.wire.specs.Clauses.{isLe, every}
 use Rattle.wire.specs.Numbers.{bytes}
 use Rattle.codes.specs.Codes.{STSD}
-use Rattle.boxes.specs.Containers.{LONGEST}
 use Rattle.movie.specs.Entries.{Entry}
-use Rattle.rule.specs.Results.{Result, asked}
+use Rattle.rule.specs.Results.{Result, asked, inLimit}
 use Rattle.rule.specs.Results.Result.{gives}
 use Rattle.sheet.specs.Sheet.{bodies}
 use Rattle.sheet_table.specs.Form.{unsheet, formed}
@@ -41,6 +40,6 @@ tableResult k xs t =
     asked
     ((30, formed k xs)
     ∷ (20, hasTrack t (unsheet k xs))
-    ∷ (24, isLe (length (trackTable k xs t)) LONGEST)
+    ∷ (24, inLimit (trackTable k xs t))
     ∷ [])
     (gives (trackTable k xs t))

@@ -10,10 +10,8 @@ ghost use mathlib.Core.List.{[], _∷_};
 ghost use Prim.Native.Nat.{_+_, _^_, _≤_, _<_};
 ghost use lib.ListN.{length};
 ghost use Rattle.wire.specs.Tests.{ifEq};
-ghost use Rattle.wire.specs.Clauses.{isLe};
 ghost use Rattle.wire.specs.Writing.{Put};
-ghost use Rattle.boxes.specs.Containers.{LONGEST};
-ghost use Rattle.rule.specs.Results.{asked, Exact};
+ghost use Rattle.rule.specs.Results.{asked, inLimit, Exact};
 ghost use Rattle.rule.specs.Results.Result.{gives};
 ghost use Rattle.sheet.specs.Sheet.{SLOTS, bodies as bodiesText};
 ghost use Rattle.sheet_table.specs.Form.{read};
@@ -105,7 +103,7 @@ fn write_own(
     out: &mut [u8],
 ) -> Answer
     requires { ⌜ (16 + length (now bodies) < 2 ^ 63) × (count ≡ length (ownEntries track (read n (now slots) (now bodies)))) ⌝ }
-    ensures { λ r. ⌜ Exact (asked ((24, isLe (length (tableText (ownEntries track (read n (now (slots .entry)) (now (bodies .entry)))))) LONGEST) ∷ []) (gives (tableText (ownEntries track (read n (now (slots .entry)) (now (bodies .entry))))))) (now (out .entry)) r (now (out .exit)) ⌝ }
+    ensures { λ r. ⌜ Exact (asked ((24, inLimit (tableText (ownEntries track (read n (now (slots .entry)) (now (bodies .entry)))))) ∷ []) (gives (tableText (ownEntries track (read n (now (slots .entry)) (now (bodies .entry))))))) (now (out .entry)) r (now (out .exit)) ⌝ }
 {
     let mut none = [0u8; 1];
     let size = put_own(&mut none, 0, slots, bodies, n, track);

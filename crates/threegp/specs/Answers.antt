@@ -1,9 +1,12 @@
 -- The answer of a call as one number: the refusal times 2^32, and the value or the place.
-use Prim.Native.Nat.{ℕ, _+_, _*_, _%_}
+use Prim.Native.Nat.{ℕ, _+_, _*_, _%_, _≤_}
+use mathlib.Core.Path.{_≡_}
 use mathlib.Core.List.{List, [], _∷_}
 use Rattle.rule.specs.declared.Answer.{Answer}
-use Rattle.rule.specs.declared.Answer.the-variants as answer
-use Rattle.rule.specs.Answers.{answerNumber, answerValue, inRoom, outBy}
+use Rattle.rule.specs.Answers.{answerNumber, answerValue}
+use Rattle.rule.specs.Results.{Result, answerIn, leftIn}
+use Rattle.rule.specs.Results.Result.{gives, refuses}
+use Rattle.clocks.specs.Clocks.{orderNumber}
 use Rattle.judge.specs.declared.Judgement.{Judgement}
 use Rattle.judge.specs.Judgement as judgement
 use Rattle.newer.specs.declared.Outcome.{Outcome}
@@ -19,15 +22,19 @@ packed a = pair (answerNumber a) (answerValue a)
 abbrev pub judgeAnswer : Judgement → ℕ
 judgeAnswer j = pair (judgement.judgedNumber j) (judgement.judgedPlace j)
 
+-- what a function of the face promises: what the call behind it does, its answer as one number
+pub record ForC (g : Result) (out : List ℕ) (r : ℕ) (left : List ℕ) : Type 0 where
+  pub answers : r ≡ packed (answerIn g out)
+  pub leaves : left ≡ leftIn g out
+
 -- ---- the newer of two, as four numbers
 
-abbrev pub newerNumbers : Outcome → List ℕ
-newerNumbers (Found f) = f .order ∷ f .file ∷ f .place ∷ f .size ∷ []
-newerNumbers (Refused n p) = []
+-- "a refusal of 1 to 10 names the file: its number is 256 × file + number"
+abbrev pub newerResult : Outcome → Result
+newerResult (Found f) = gives (orderNumber (f .order) ∷ f .file ∷ f .place ∷ f .size ∷ [])
+newerResult (Refused file n p) = refuses (256 * file + n) p
 
-abbrev pub newerAnswer : Outcome → List ℕ → Answer
-newerAnswer (Found f) out = inRoom (newerNumbers (Found f)) out
-newerAnswer (Refused n p) out = answer.Refused n p
-
-abbrev pub newerOut : Outcome → List ℕ → List ℕ
-newerOut o out = outBy (newerAnswer o out) (newerNumbers o) out
+-- a refusal's numbers are small
+abbrev pub Told : Outcome → Type 0
+Told (Found f) = Unit
+Told (Refused file n p) = (file ≤ 2) × (n ≤ 22)

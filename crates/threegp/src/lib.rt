@@ -4,21 +4,21 @@ use newer::Outcome;
 use newer::Part;
 use rule::Answer;
 ghost use mathlib.Core.Path.{_≡_};
+ghost use Rattle.rule.specs.Results.{Exact};
 ghost use Rattle.judge.specs.Judgement.{judged};
-ghost use Rattle.read_tracks.specs.Reads.{tracksAnswer, trackAnswer, trackOut, offsetsAnswer, offsetsOut};
-ghost use Rattle.brands.specs.Calls.{brandAnswer};
+ghost use Rattle.read_tracks.specs.Reads.{tracksAnswer, trackResult, offsetsResult};
 ghost use Rattle.sheet.specs.Sheet.{SLOTS};
-ghost use Rattle.sheet.specs.Reader.{sheetAnswer, sheetOut};
-ghost use Rattle.sheet_table.specs.Table.{tableAnswer, tableOut};
-ghost use Rattle.edit_shift.specs.Shift.{shiftAnswer, shiftOut};
-ghost use Rattle.edit_replace.specs.Replace.{replaceAnswer, replaceOut};
-ghost use Rattle.edit_move.specs.Moving.{moveAnswer, moveOut};
-ghost use Rattle.newer.specs.Newer.{newestOf};
-ghost use Rattle.entry_fields.specs.Numbers.{readAnswer, readOut, writeAnswer, writeOut};
-ghost use Rattle.rule.specs.Answers.{inRoom, outBy};
-ghost use Rattle.listing.specs.Listing.{listing as listingOf};
-ghost use Rattle.threegp.specs.Answers.{pair as pairOf, packed, judgeAnswer, newerAnswer, newerOut};
+ghost use Rattle.sheet.specs.Reader.{sheetResult};
+ghost use Rattle.sheet_table.specs.Table.{tableResult};
+ghost use Rattle.brands.specs.Calls.{brandAnswer};
+ghost use Rattle.listing.specs.Listing.{listingResult};
 ghost use Rattle.newer.specs.declared.Outcome.the-variants.{Found};
+ghost use Rattle.newer.specs.Newer.{newestOf};
+ghost use Rattle.entry_fields.specs.Numbers.{readResult, writeResult};
+ghost use Rattle.edit_shift.specs.Shift.{shiftResult};
+ghost use Rattle.edit_replace.specs.Replace.{replaceResult};
+ghost use Rattle.edit_move.specs.Moving.{moveResult};
+ghost use Rattle.threegp.specs.Answers.{pair as pairOf, packed, judgeAnswer, ForC, newerResult, Told};
 
 fn pair(n: usize, v: usize) -> u64
     ensures { λ r. ⌜ r ≡ pairOf n v ⌝ }
@@ -66,7 +66,7 @@ pub extern "C" fn threegp_brand(file: &[u8], code: u32) -> u64
 // The sheet of a file.
 #[no_mangle]
 pub extern "C" fn threegp_sheet(file: &[u8], out: &mut [u8]) -> u64
-    ensures { λ r. ⌜ (r ≡ packed (sheetAnswer (now (file .entry)) (now (out .entry)))) × (now (out .exit) ≡ sheetOut (now (file .entry)) (now (out .entry))) ⌝ }
+    ensures { λ r. ⌜ ForC (sheetResult (now (file .entry))) (now (out .entry)) r (now (out .exit)) ⌝ }
 {
     pack(sheet::sheet(file, out))
 }
@@ -74,7 +74,7 @@ pub extern "C" fn threegp_sheet(file: &[u8], out: &mut [u8]) -> u64
 // The table of a track of a sheet.
 #[no_mangle]
 pub extern "C" fn threegp_table(sheet: &[u8], track: u64, out: &mut [u8]) -> u64
-    ensures { λ r. ⌜ (r ≡ packed (tableAnswer SLOTS (now (sheet .entry)) track (now (out .entry)))) × (now (out .exit) ≡ tableOut SLOTS (now (sheet .entry)) track (now (out .entry))) ⌝ }
+    ensures { λ r. ⌜ ForC (tableResult SLOTS (now (sheet .entry)) track) (now (out .entry)) r (now (out .exit)) ⌝ }
 {
     pack(sheet_table::table(sheet, track as usize, out))
 }
@@ -82,7 +82,7 @@ pub extern "C" fn threegp_table(sheet: &[u8], track: u64, out: &mut [u8]) -> u64
 // The chunk offsets of a track.
 #[no_mangle]
 pub extern "C" fn threegp_offsets(file: &[u8], track: u64, list: &mut [u32]) -> u64
-    ensures { λ r. ⌜ (r ≡ packed (offsetsAnswer (now (file .entry)) track (now (list .entry)))) × (now (list .exit) ≡ offsetsOut (now (file .entry)) track (now (list .entry))) ⌝ }
+    ensures { λ r. ⌜ ForC (offsetsResult (now (file .entry)) track) (now (list .entry)) r (now (list .exit)) ⌝ }
 {
     pack(read_tracks::offsets(file, track as usize, list))
 }
@@ -90,7 +90,7 @@ pub extern "C" fn threegp_offsets(file: &[u8], track: u64, list: &mut [u32]) -> 
 // What a track says: handler, media ticks, time scale, movie ticks.
 #[no_mangle]
 pub extern "C" fn threegp_track(file: &[u8], track: u64, out: &mut [u64]) -> u64
-    ensures { λ r. ⌜ (r ≡ packed (trackAnswer (now (file .entry)) track (now (out .entry)))) × (now (out .exit) ≡ trackOut (now (file .entry)) track (now (out .entry))) ⌝ }
+    ensures { λ r. ⌜ ForC (trackResult (now (file .entry)) track) (now (out .entry)) r (now (out .exit)) ⌝ }
 {
     pack(read_tracks::track(file, track as usize, out))
 }
@@ -98,7 +98,7 @@ pub extern "C" fn threegp_track(file: &[u8], track: u64, out: &mut [u64]) -> u64
 // The times of a file shifted.
 #[no_mangle]
 pub extern "C" fn threegp_shift(file: &[u8], minutes: i64, out: &mut [u8]) -> u64
-    ensures { λ r. ⌜ (r ≡ packed (shiftAnswer minutes (now (file .entry)) (now (out .entry)))) × (now (out .exit) ≡ shiftOut minutes (now (file .entry)) (now (out .entry))) ⌝ }
+    ensures { λ r. ⌜ ForC (shiftResult minutes (now (file .entry))) (now (out .entry)) r (now (out .exit)) ⌝ }
 {
     pack(edit_shift::shift(file, minutes, out))
 }
@@ -106,7 +106,7 @@ pub extern "C" fn threegp_shift(file: &[u8], minutes: i64, out: &mut [u8]) -> u6
 // A decoder record replaced.
 #[no_mangle]
 pub extern "C" fn threegp_replace(file: &[u8], entry: u64, given: &[u8], out: &mut [u8]) -> u64
-    ensures { λ r. ⌜ (r ≡ packed (replaceAnswer (now (file .entry)) entry (now (given .entry)) (now (out .entry)))) × (now (out .exit) ≡ replaceOut (now (file .entry)) entry (now (given .entry)) (now (out .entry))) ⌝ }
+    ensures { λ r. ⌜ ForC (replaceResult (now (file .entry)) entry (now (given .entry))) (now (out .entry)) r (now (out .exit)) ⌝ }
 {
     pack(edit_replace::replace(file, entry as usize, given, out))
 }
@@ -114,7 +114,7 @@ pub extern "C" fn threegp_replace(file: &[u8], entry: u64, given: &[u8], out: &m
 // `moov` moved right after `ftyp`.
 #[no_mangle]
 pub extern "C" fn threegp_move(file: &[u8], out: &mut [u8]) -> u64
-    ensures { λ r. ⌜ (r ≡ packed (moveAnswer (now (file .entry)) (now (out .entry)))) × (now (out .exit) ≡ moveOut (now (file .entry)) (now (out .entry))) ⌝ }
+    ensures { λ r. ⌜ ForC (moveResult (now (file .entry))) (now (out .entry)) r (now (out .exit)) ⌝ }
 {
     pack(edit_move::move_moov(file, out))
 }
@@ -122,7 +122,7 @@ pub extern "C" fn threegp_move(file: &[u8], out: &mut [u8]) -> u64
 // The fields of a record as numbers.
 #[no_mangle]
 pub extern "C" fn threegp_record_read(entry: &[u8], out: &mut [u64]) -> u64
-    ensures { λ r. ⌜ (r ≡ packed (readAnswer (now (entry .entry)) (now (out .entry)))) × (now (out .exit) ≡ readOut (now (entry .entry)) (now (out .entry))) ⌝ }
+    ensures { λ r. ⌜ ForC (readResult (now (entry .entry))) (now (out .entry)) r (now (out .exit)) ⌝ }
 {
     pack(entry_fields::read(entry, out))
 }
@@ -130,7 +130,7 @@ pub extern "C" fn threegp_record_read(entry: &[u8], out: &mut [u64]) -> u64
 // The record of numbers.
 #[no_mangle]
 pub extern "C" fn threegp_record_write(numbers: &[u64], out: &mut [u8]) -> u64
-    ensures { λ r. ⌜ (r ≡ packed (writeAnswer (now (numbers .entry)) (now (out .entry)))) × (now (out .exit) ≡ writeOut (now (numbers .entry)) (now (out .entry))) ⌝ }
+    ensures { λ r. ⌜ ForC (writeResult (now (numbers .entry))) (now (out .entry)) r (now (out .exit)) ⌝ }
 {
     pack(entry_fields::write(numbers, out))
 }
@@ -138,19 +138,20 @@ pub extern "C" fn threegp_record_write(numbers: &[u64], out: &mut [u8]) -> u64
 // The printed listing of a file.
 #[no_mangle]
 pub extern "C" fn threegp_listing(file: &[u8], out: &mut [u8]) -> u64
-    ensures { λ r. ⌜ (r ≡ packed (inRoom (listingOf (now (file .entry))) (now (out .entry)))) × (now (out .exit) ≡ outBy (inRoom (listingOf (now (file .entry))) (now (out .entry))) (listingOf (now (file .entry))) (now (out .entry))) ⌝ }
+    ensures { λ r. ⌜ ForC (listingResult (now (file .entry))) (now (out .entry)) r (now (out .exit)) ⌝ }
 {
     pack(listing::listing(file, out))
 }
 
 // The four numbers of an entry of the later file.
 fn put_part(out: &mut [u64], f: Part) -> Answer
-    ensures { λ r. ⌜ (r ≡ newerAnswer (Found f) (now (out .entry))) × (now (out .exit) ≡ newerOut (Found f) (now (out .entry))) ⌝ }
+    ensures { λ r. ⌜ Exact (newerResult (Found f)) (now (out .entry)) r (now (out .exit)) ⌝ }
 {
     if out.len() < 4 {
         return Answer::Refused(25, 0);
     }
-    out[0] = f.order as u64;
+    let order = f.order;
+    out[0] = clocks::order_number(order) as u64;
     out[1] = f.file as u64;
     out[2] = f.place as u64;
     out[3] = f.size as u64;
@@ -158,11 +159,16 @@ fn put_part(out: &mut [u64], f: Part) -> Answer
 }
 
 fn put_outcome(out: &mut [u64], outcome: Outcome) -> Answer
-    ensures { λ r. ⌜ (r ≡ newerAnswer outcome (now (out .entry))) × (now (out .exit) ≡ newerOut outcome (now (out .entry))) ⌝ }
+    requires { ⌜ Told outcome ⌝ }
+    ensures { λ r. ⌜ Exact (newerResult outcome) (now (out .entry)) r (now (out .exit)) ⌝ }
 {
     match outcome {
         Outcome::Found(f) => put_part(out, f),
-        Outcome::Refused(n, p) => Answer::Refused(n, p),
+        Outcome::Refused {
+            file,
+            number,
+            place,
+        } => Answer::Refused(256 * file + number, place),
     }
 }
 
@@ -176,7 +182,7 @@ pub extern "C" fn threegp_newer(
     entry: u64,
     out: &mut [u64],
 ) -> u64
-    ensures { λ r. ⌜ (r ≡ packed (newerAnswer (newestOf (now (first .entry)) y (now (second .entry)) z entry) (now (out .entry)))) × (now (out .exit) ≡ newerOut (newestOf (now (first .entry)) y (now (second .entry)) z entry) (now (out .entry))) ⌝ }
+    ensures { λ r. ⌜ ForC (newerResult (newestOf (now (first .entry)) y (now (second .entry)) z entry)) (now (out .entry)) r (now (out .exit)) ⌝ }
 {
     pack(put_outcome(out, newer::newest(first, y, second, z, entry as usize)))
 }

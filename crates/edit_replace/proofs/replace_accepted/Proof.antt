@@ -1,9 +1,9 @@
+-- 20, 21, and then as the record fits.
 use borrow.Author.Needs.{needs}
-use Rattle.edit_replace.proofs.Answering.{taken-20, taken-21, taken-fit}
-use Rattle.wire.proofs.Clauses.{asked-yea}
-use Rattle.rule.proofs.Answers.{out-kept}
-use mathlib.Core.Path.{refl}
 use native.Mathlib.Omega.{arith}
+use Rattle.wire.proofs.Clauses.{was-yea}
+use Rattle.rule.proofs.Results.{test-nay, test-yea}
+use Rattle.edit_replace.proofs.Taking.{takes-kind, rule-kind}
 use Rattle.edit_replace.proofs.replace_accepted.Statement.{statement}
 use Rattle.edit_replace.proofs.replace_accepted.Tie as tie
 
@@ -11,10 +11,12 @@ pub replace-accepted-spec : {M : Type 1} → statement M
 replace-accepted-spec = tie.close (tie.spec
     (λ c κs. c .before .before .before .pre .most)
     (λ c κs. search needs)
-    (λ c. (taken-20 _ _ _ _ (c .before .before .kind-at .ensures) (c .before .takes .ensures) (omega arith), out-kept _ _ _ refl))
+    (λ c. test-nay _ _ _ _ _ (takes-kind (c .before .before .kind-at .ensures) (c .before .takes .ensures)) (c .if1 .taken))
     (λ c κs. search needs)
-    (λ c. let t = c .before .before .before in (taken-21 _ _ _ _ (t .before .kind-at .ensures) (t .takes .ensures) (omega arith) (c .before .record-rule .ensures) (omega arith), out-kept _ _ _ refl))
-    (λ c κs. let k = c .before .before .before .before .before in (k .before .before .before .before .pre, k .kind-at .ensures, asked-yea _ (λ e. omega arith)))
+    (λ c. test-yea _ _ _ _ _ (takes-kind (c .before .before .before .before .kind-at .ensures) (c .before .before .before .takes .ensures)) (c .before .before .if1 .left) (test-nay _ _ _ _ _ (rule-kind (c .before .before .before .before .kind-at .ensures) (c .before .record-rule .ensures)) (c .if2 .taken)))
+    (λ c κs. (c .before .before .before .before .before .before .before .before .before .pre, c .before .before .before .before .before .kind-at .ensures, was-yea _ _ (c .before .if2 .left) (c .before .before .record-rule .ensures)))
     (λ c. search needs)
-    (λ c. let r = c .before .before .before .before .before in let t = r .before .before in let a = c .before .before .replace-fit .ensures in
-    (taken-fit _ _ _ _ (t .before .kind-at .ensures) (t .takes .ensures) (omega arith) (r .record-rule .ensures) (omega arith) (a .0), a .1)))
+    (λ c.
+    let k = c .before .before .before .before .before .before .before .before .kind-at .ensures in
+    test-yea _ _ _ _ _ (takes-kind k (c .before .before .before .before .before .before .before .takes .ensures)) (c .before .before .before .before .before .before .if1 .left)
+    (test-yea _ _ _ _ _ (rule-kind k (c .before .before .before .before .before .record-rule .ensures)) (c .before .before .before .before .if2 .left) (c .before .before .replace-fit .ensures))))

@@ -1,7 +1,7 @@
 -- 22, 23, 25, or the times are shifted by the zone.
 use borrow.Author.Needs.{needs}
 use native.Mathlib.Omega.{arith}
-use Rattle.rule.proofs.Results.{exact-short, exact-wrote, asked-nay, asked-yea, asked-all}
+use Rattle.rule.proofs.Results.{exact-short, exact-wrote, test-nay, test-yea, test-all}
 use Rattle.edit_shift.specs.Amount.{zoneText, zoneResult}
 use Rattle.edit_shift.proofs.Answering.{text-length, zone-wrote}
 use Rattle.edit_shift.proofs.shift_by.Statement.{statement}
@@ -11,10 +11,10 @@ pub shift-by-spec : {M : Type 1} → statement M
 unfolding zoneText zoneResult
 shift-by-spec = tie.close (tie.spec
     (λ c κs. search needs)
-    (λ c. asked-nay _ _ _ _ _ (c .before .all-times .ensures) (c .if1 .taken))
+    (λ c. test-nay _ _ _ _ _ (c .before .all-times .ensures) (c .if1 .taken))
     (λ c κs. search needs)
-    (λ c. asked-yea _ _ _ _ _ (c .before .before .before .all-times .ensures) (c .before .before .if1 .left) (asked-nay _ _ _ _ _ (c .before .editable .ensures) (c .if2 .taken)))
-    (λ c. asked-yea _ _ _ _ _ (c .before .before .before .before .all-times .ensures) (c .before .before .before .if1 .left) (asked-yea _ _ _ _ _ (c .before .before .editable .ensures) (c .before .if2 .left) (asked-all _ _ (exact-short _ _ (rw text-length (omega arith))))))
+    (λ c. test-yea _ _ _ _ _ (c .before .before .before .all-times .ensures) (c .before .before .if1 .left) (test-nay _ _ _ _ _ (c .before .editable .ensures) (c .if2 .taken)))
+    (λ c. test-yea _ _ _ _ _ (c .before .before .before .before .all-times .ensures) (c .before .before .before .if1 .left) (test-yea _ _ _ _ _ (c .before .before .editable .ensures) (c .before .if2 .left) (test-all _ _ (exact-short _ _ (rw text-length (omega arith))))))
     (λ c κs. (record { low = omega arith; high = omega arith }, omega arith))
     (λ c. search needs)
-    (λ c. asked-yea _ _ _ _ _ (c .before .before .before .before .before .before .before .before .all-times .ensures) (c .before .before .before .before .before .before .before .if1 .left) (asked-yea _ _ _ _ _ (c .before .before .before .before .before .before .editable .ensures) (c .before .before .before .before .before .if2 .left) (asked-all _ _ (exact-wrote _ _ (rw text-length (omega arith)) (zone-wrote _ _ _ (search needs) (c .before .before .put-shifted .ensures)))))))
+    (λ c. test-yea _ _ _ _ _ (c .before .before .before .before .before .before .before .before .all-times .ensures) (c .before .before .before .before .before .before .before .if1 .left) (test-yea _ _ _ _ _ (c .before .before .before .before .before .before .editable .ensures) (c .before .before .before .before .before .if2 .left) (test-all _ _ (exact-wrote _ _ (rw text-length (omega arith)) (zone-wrote _ _ _ (search needs) (c .before .before .put-shifted .ensures)))))))

@@ -2,7 +2,7 @@
 use borrow.Author.Needs.{needs}
 use Rattle.judge.proofs.Calls.{met, result-accepted, result-refused}
 use Rattle.sheet.specs.Reader.{sheetResult}
-use Rattle.rule.proofs.Results.{asked-all}
+use Rattle.rule.proofs.Results.{test-all}
 use Rattle.sheet.proofs.Accepted.{accepted-fits}
 use Rattle.sheet.proofs.sheet.Statement.{statement}
 use Rattle.sheet.proofs.sheet.Tie as tie
@@ -15,5 +15,5 @@ sheet-spec = tie.close (tie.spec
     (λ c κs. accepted-fits _ (met _ (c .before .before .before .judge .ensures) (c .before .enum-told .given .1)))
     (λ c. search needs)
     (λ c. search needs)
-    (λ c. result-accepted _ (c .before .before .before .before .before .before .judge .ensures) _ _ _ (c .before .before .before .before .enum-told .given .1) (asked-all _ _ (c .before .before .sheet-of .ensures)))
+    (λ c. result-accepted _ (c .before .before .before .before .before .before .judge .ensures) _ _ _ (c .before .before .before .before .enum-told .given .1) (test-all _ _ (c .before .before .sheet-of .ensures)))
     (λ c. result-refused _ (c .before .before .before .judge .ensures) _ _ _ (c .before .n .given .1)))

@@ -1,7 +1,7 @@
 use borrow.Author.Needs.{needs}
 use mir.Syntax.{w64}
 use mir.ValLaws.{toZ-ofZ}
-use Rattle.threegp.proofs.Packing.{packs}
+use Rattle.threegp.proofs.Packing.{for-c}
 use Rattle.threegp.proofs.threegp_shift.Statement.{statement}
 use Rattle.threegp.proofs.threegp_shift.Tie as tie
 
@@ -10,4 +10,7 @@ threegp-shift-spec = tie.close (tie.spec
     (λ c κs. search needs)
     (λ c κs. search needs)
     (λ c. search needs)
-    (λ c. let s = c .before .before .before .before .before .before .before in let b = toZ-ofZ w64 (s .args .minutes) (s .fits .minutes) in let e = rw b at (c .before .before .before .shift .ensures) in (packs (c .pack .ensures) (e .0), e .1)))
+    (λ c.
+    let s = c .before .before .before .before .before .before .before in
+    let b = toZ-ofZ w64 (s .args .minutes) (s .fits .minutes) in
+    for-c (c .pack .ensures) (rw b at (c .before .before .before .shift .ensures))))

@@ -1,5 +1,5 @@
 use borrow.Author.Needs.{needs}
-use Rattle.threegp.proofs.Packing.{packs}
+use Rattle.threegp.proofs.Packing.{for-c}
 use Rattle.threegp.proofs.threegp_track.Statement.{statement}
 use Rattle.threegp.proofs.threegp_track.Tie as tie
 
@@ -8,4 +8,4 @@ threegp-track-spec = tie.close (tie.spec
     (λ c κs. search needs)
     (λ c κs. search needs)
     (λ c. search needs)
-    (λ c. (packs (c .pack .ensures) (c .before .before .before .track .ensures .0), c .before .before .before .track .ensures .1)))
+    (λ c. for-c (c .pack .ensures) (c .before .before .before .track .ensures)))

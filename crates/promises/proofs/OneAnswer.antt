@@ -1,0 +1,51 @@
+-- Any two results that the promise of a call allows are equal: each of them named, so that a promise that says less is refused here. Assumes nothing.
+use Prim.Native.Nat.{ℕ}
+use mathlib.Core.Path.{_≡_}
+use mathlib.Core.List.{List}
+use lib.IntN.{ℤ}
+use Rattle.rule.specs.declared.Answer.{Answer}
+use Rattle.rule.specs.Results.{Result, Exact}
+use Rattle.rule.proofs.Results.{one-answer}
+use Rattle.read_tracks.specs.Reads.{trackResult, offsetsResult}
+use Rattle.sheet.specs.Reader.{sheetResult}
+use Rattle.sheet_table.specs.Table.{tableResult}
+use Rattle.listing.specs.Listing.{listingResult}
+use Rattle.entry_fields.specs.Numbers.{readResult, writeResult}
+use Rattle.edit_shift.specs.Shift.{shiftResult}
+use Rattle.edit_replace.specs.Replace.{replaceResult}
+use Rattle.edit_move.specs.Moving.{moveResult}
+
+-- what a call that comes to g may answer and leave is one answer and one room
+abbrev One : Result → Type 0
+One g = (out : List ℕ) {r s : Answer} {a b : List ℕ} → Exact g out r a → Exact g out s b → (r ≡ s) × (a ≡ b)
+
+module _ (file : List ℕ) where
+  pub one-track : (t : ℕ) → One (trackResult file t)
+  one-track t = one-answer _
+
+  pub one-offsets : (t : ℕ) → One (offsetsResult file t)
+  one-offsets t = one-answer _
+
+  pub one-sheet : One (sheetResult file)
+  one-sheet = one-answer _
+
+  pub one-listing : One (listingResult file)
+  one-listing = one-answer _
+
+  pub one-shift : (z : ℤ) → One (shiftResult z file)
+  one-shift z = one-answer _
+
+  pub one-replace : (i : ℕ) (new : List ℕ) → One (replaceResult file i new)
+  one-replace i new = one-answer _
+
+  pub one-move : One (moveResult file)
+  one-move = one-answer _
+
+pub one-table : (k : ℕ) (sheet : List ℕ) (t : ℕ) → One (tableResult k sheet t)
+one-table k sheet t = one-answer _
+
+pub one-read : (entry : List ℕ) → One (readResult entry)
+one-read entry = one-answer _
+
+pub one-write : (fields : List ℕ) → One (writeResult fields)
+one-write fields = one-answer _
