@@ -25,7 +25,7 @@ use Rattle.entry_records.specs.Texts.{amrText, plainText, ratedText, h26
 use Rattle.entry_records.specs.Records.{readOf}
 use Rattle.entry_records.proofs.Fitting.{rates-met}
 use Rattle.entry_records.proofs.Speaking.{amr-words, amr-at, amr-back}
-use Rattle.entry_records.proofs.Showing.{plain-code, plain-at, plain-back, rated-code, rated-at, rated-back}
+use Rattle.entry_records.proofs.Showing.{Shows, plain-shows, rated-shows, rated-at}
 
 record-speech : (kind : ℕ) (xs : List ℕ) → Spoken kind → Speech (amrIn kind xs) ≡ recordIn kind xs
 unfolding recordIn
@@ -56,9 +56,9 @@ read-speech most f e =
     sym (read-as most (f .kind) (amrText f) k (speech-is (f .kind) most (amrText f) s Alone (amr-at most f s e) refl))
     ∙ sym (record-speech (f .kind) (amrText f) s) ∙ ap Speech (amr-back most f s e)
 
--- a picture's text that meets the rule and holds the fields
-read-text : (most : ℕ) (f : H263) (xs : List ℕ) → word 4 xs 4 ≡ S263 → ruleAs S263Kind Alone most xs ≡ true → h263In xs ≡ f → readOf most xs ≡ Picture f
-read-text most f xs c e g = sym (read-as most S263Kind xs (ap kindOf c ∙ kind-s263) e) ∙ sym (record-picture xs) ∙ ap Picture g
+-- a picture's text that shows the fields
+read-text : (most n : ℕ) (f : H263) (xs : List ℕ) → Shows n f xs → ruleAs S263Kind Alone most xs ≡ true → readOf most xs ≡ Picture f
+read-text most n f xs p e = sym (read-as most S263Kind xs (ap kindOf (p .code) ∙ kind-s263) e) ∙ sym (record-picture xs) ∙ ap Picture (p .back)
 
 read-picture : (most : ℕ) (f : H263) → h263Rule f ≡ true → readOf most (h263Text f) ≡ Picture f
 unfolding h263Text h263Rule
@@ -66,10 +66,11 @@ read-picture most f e =
     ⊎-elim
     (λ r.
     let t : ratedText f ≡ ifEq (f .rates .given) 1 (ratedText f) (plainText 101 15 f) = eq-yea _ _ _ _ _ (r .flag) refl in
-    rw (← t) (read-text most f (ratedText f) (rated-code f e r) (rated-is most (ratedText f) Alone refl (rated-at f e r)) (rated-back f e r)))
+    rw (← t) (read-text most 31 f (ratedText f) (rated-shows f e r) (rated-is most (ratedText f) Alone refl (rated-at f e r))))
     (λ r.
     let t : plainText 101 15 f ≡ ifEq (f .rates .given) 1 (ratedText f) (plainText 101 15 f) = eq-nay _ _ _ _ _ (λ z. omega (arith, r .flag)) refl in
-    rw (← t) (read-text most f (plainText 101 15 f) (plain-code f e r) (picture-is most (plainText 101 15 f) Alone refl (plain-at f e r)) (plain-back f e r)))
+    let p = plain-shows f e r in
+    rw (← t) (read-text most 15 f (plainText 101 15 f) p (picture-is most (plainText 101 15 f) Alone refl (p .start))))
     (rates-met (f .rates) (clause 7 _ e))
 
 -- a record that the writer takes reads back as itself

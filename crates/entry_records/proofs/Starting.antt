@@ -16,7 +16,7 @@ use Rattle.entry_heads.proofs.Heading.{visual-made}
 use Rattle.entry_rules.proofs.Picture.{PictureAt}
 use Rattle.entry_records.specs.declared.field.H263.{H263}
 use Rattle.entry_records.specs.Texts.{plainText}
-use Rattle.entry_records.specs.Fields.{h263Rule}
+use Rattle.entry_records.specs.Fields.{ratesIn, h263In, h263Rule}
 use Rattle.entry_records.proofs.Lengths.{plain-length}
 
 -- what stands where up to the profile
@@ -34,23 +34,6 @@ pub record PictureWords (n : ℕ) (f : H263) (xs : List ℕ) : Type 0 where
   pub profile : word 1 xs 100 ≡ f .profile
 
 module _ (f : H263) (a : h263Rule f ≡ true) where
-  plain-words : (n : ℕ) → n < 100 → PictureWords n f (plainText (86 + n) n f)
-  unfolding h263Rule plainText visualHead visualStart commonHead boxHeader bytes bytesOn word ifLe
-  plain-words n h =
-      record {
-        size = word-bytes 4 (86 + n) [] (omega arith);
-        code = refl;
-        reference = word-bytes 2 (f .reference) [] (lt-is _ _ (clause 0 _ a));
-        width = word-bytes 2 (f .width) [] (lt-is _ _ (clause 1 _ a));
-        height = word-bytes 2 (f .height) [] (lt-is _ _ (clause 2 _ a));
-        inner = word-bytes 4 n [] (omega arith);
-        d263 = refl;
-        vendor = word-bytes 4 (f .vendor) [] (lt-is _ _ (clause 3 _ a));
-        version = word-bytes 1 (f .version) [] (lt-is _ _ (clause 4 _ a));
-        level = word-bytes 1 (f .level) [] (lt-is _ _ (clause 5 _ a));
-        profile = word-bytes 1 (f .profile) [] (lt-is _ _ (clause 6 _ a));
-      }
-
   plain-front : (n : ℕ) → take 86 (plainText (86 + n) n f) ≡ visualHead (86 + n) S263 (f .reference) (f .width) (f .height) (bytes 32 0)
   unfolding plainText visualHead visualStart commonHead boxHeader bytes bytesOn
   plain-front n = refl
@@ -61,20 +44,20 @@ module _ (f : H263) (a : h263Rule f ≡ true) where
     up = word-front 101 xs (plainText (86 + n) n f) t (plain-length (86 + n) n f)
 
     pub picture-words : PictureWords n f xs
+    unfolding h263Rule plainText visualHead visualStart commonHead boxHeader bytes bytesOn word ifLe
     picture-words =
-        let p = plain-words n h in
         record {
-          size = up 4 0 (omega arith) ∙ p .size;
-          code = up 4 4 (omega arith) ∙ p .code;
-          reference = up 2 14 (omega arith) ∙ p .reference;
-          width = up 2 32 (omega arith) ∙ p .width;
-          height = up 2 34 (omega arith) ∙ p .height;
-          inner = up 4 86 (omega arith) ∙ p .inner;
-          d263 = up 4 90 (omega arith) ∙ p .d263;
-          vendor = up 4 94 (omega arith) ∙ p .vendor;
-          version = up 1 98 (omega arith) ∙ p .version;
-          level = up 1 99 (omega arith) ∙ p .level;
-          profile = up 1 100 (omega arith) ∙ p .profile;
+          size = up 4 0 (omega arith) ∙ word-bytes 4 (86 + n) [] (omega arith);
+          code = up 4 4 (omega arith);
+          reference = up 2 14 (omega arith) ∙ word-bytes 2 (f .reference) [] (lt-is _ _ (clause 0 _ a));
+          width = up 2 32 (omega arith) ∙ word-bytes 2 (f .width) [] (lt-is _ _ (clause 1 _ a));
+          height = up 2 34 (omega arith) ∙ word-bytes 2 (f .height) [] (lt-is _ _ (clause 2 _ a));
+          inner = up 4 86 (omega arith) ∙ word-bytes 4 n [] (omega arith);
+          d263 = up 4 90 (omega arith);
+          vendor = up 4 94 (omega arith) ∙ word-bytes 4 (f .vendor) [] (lt-is _ _ (clause 3 _ a));
+          version = up 1 98 (omega arith) ∙ word-bytes 1 (f .version) [] (lt-is _ _ (clause 4 _ a));
+          level = up 1 99 (omega arith) ∙ word-bytes 1 (f .level) [] (lt-is _ _ (clause 5 _ a));
+          profile = up 1 100 (omega arith) ∙ word-bytes 1 (f .profile) [] (lt-is _ _ (clause 6 _ a));
         }
 
     front : take 86 xs ≡ visualHead (86 + n) S263 (f .reference) (f .width) (f .height) (bytes 32 0)
@@ -90,3 +73,7 @@ module _ (f : H263) (a : h263Rule f ≡ true) where
           inner = w .inner;
           code = w .d263;
         }
+
+    -- its fields, where its rates are those of the record
+    pub picture-back : ratesIn xs ≡ f .rates → h263In xs ≡ f
+    picture-back r = let w = picture-words in rw (w .reference, w .width, w .height, w .vendor, w .version, w .level, w .profile, r)
