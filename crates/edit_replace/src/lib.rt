@@ -1,6 +1,6 @@
 // The replacement of a decoder record.
-pub mod record;
-pub mod write;
+mod record;
+mod write;
 
 use boxes::containers;
 use boxes::seek;

@@ -2,7 +2,7 @@
 use Prim.Native.Nat.{ℕ, zero, suc, _+_}
 use native.Mathlib.Omega.{arith}
 use mathlib.Core.Path.{_≡_, refl, sym, ap, _∙_}
-use mathlib.Core.Bool.{true, false≢true}
+use mathlib.Core.Bool.{Bool, true, false≢true}
 use mathlib.Core.List.{List, [], _∷_}
 use mathlib.Core.Logic.{⊎-elim}
 use lib.ListN.{length, getD, take, drop}
@@ -20,7 +20,7 @@ use Rattle.entry_records.specs.Records.{fieldsOf, readOf}
 use Rattle.entry_records.proofs.Reading.{written-reads}
 use Rattle.entry_records.proofs.Rewriting.{read-writes}
 use Rattle.rule.specs.declared.Answer.the-variants.{Done}
-use Rattle.rule.specs.Results.{asked, answerIn, leftIn}
+use Rattle.rule.specs.Results.{Result, asked, answerIn, leftIn}
 use Rattle.rule.specs.Results.Result.{gives}
 use Rattle.rule.proofs.Results.{gives-done, asked-done}
 use Rattle.entry_fields.specs.Numbers.{recordOf, isRecord, readResult, writeResult}
@@ -71,20 +71,27 @@ not-broken r e g = false≢true (sym (ap isRecord g) ∙ e)
 rule-some : (r : Record) → fieldsRule FRAMES r ≡ true → r ≡ Broken → ⊥
 rule-some r e g = false≢true (sym (ap (fieldsRule FRAMES) g) ∙ e)
 
+-- a test that holds says nothing
+holding : (n : ℕ) (t : Bool) (g : Result) → t ≡ true → asked ((n, t) ∷ []) g ≡ g
+unfolding asked
+holding n t g e = rw e
+
 -- numbers that the writer takes: reading the entry that it wrote gives them
 pub written-back : (ns out : List ℕ) (n : ℕ) → answerIn (writeResult ns) out ≡ Done n → readResult (take n (leftIn (writeResult ns) out)) ≡ gives ns
-unfolding writeResult readResult asked
+unfolding writeResult readResult
 written-back ns out n e =
-    let a = asked-done _ _ out n e in
-    let c = clause 0 _ (a .0) in
+    let a = asked-done ((21, fieldsRule FRAMES (recordOf ns)) ∷ []) (textOf (recordOf ns)) out n e in
+    let c : fieldsRule FRAMES (recordOf ns) ≡ true = clause 0 _ (a .0) in
     let h = rule-some (recordOf ns) c in
-    rw (a .1, gives-done _ out n (rw (a .1) at e) .taken, written-reads FRAMES (recordOf ns) c, is-record (recordOf ns) h, fields-back ns h)
+    let t : take n (leftIn (gives (textOf (recordOf ns))) out) ≡ textOf (recordOf ns) = gives-done _ out n (rw (a .1) at e) .taken in
+    rw (a .1, t, written-reads FRAMES (recordOf ns) c, fields-back ns h) (holding 21 (isRecord (recordOf ns)) (gives ns) (is-record (recordOf ns) h))
 
 -- an entry that the reader takes: writing the fields that it read gives its bytes
 pub read-back : (xs room : List ℕ) (n : ℕ) → Bytes xs → answerIn (readResult xs) room ≡ Done n → writeResult (take n (leftIn (readResult xs) room)) ≡ gives xs
-unfolding writeResult readResult asked
+unfolding writeResult readResult
 read-back xs room n b e =
-    let a = asked-done _ _ room n e in
-    let h = not-broken (readOf FRAMES xs) (clause 0 _ (a .0)) in
-    let w = read-writes FRAMES xs b (readOf FRAMES xs) refl h in
-    rw (a .1, gives-done _ room n (rw (a .1) at e) .taken, record-back (readOf FRAMES xs), w .rule, w .text)
+    let a = asked-done ((21, isRecord (readOf FRAMES xs)) ∷ []) (fieldsOf (readOf FRAMES xs)) room n e in
+    let c : isRecord (readOf FRAMES xs) ≡ true = clause 0 _ (a .0) in
+    let w = read-writes FRAMES xs b (readOf FRAMES xs) refl (not-broken (readOf FRAMES xs) c) in
+    let t : take n (leftIn (gives (fieldsOf (readOf FRAMES xs))) room) ≡ fieldsOf (readOf FRAMES xs) = gives-done _ room n (rw (a .1) at e) .taken in
+    rw (a .1, t, record-back (readOf FRAMES xs), w .text) (holding 21 (fieldsRule FRAMES (readOf FRAMES xs)) (gives xs) (w .rule))

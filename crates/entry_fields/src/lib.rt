@@ -7,7 +7,7 @@ use rule::Answer;
 ghost use Rattle.rule.specs.Results.{Exact};
 ghost use Rattle.entry_fields.specs.Numbers.{readResult, writeResult};
 
-pub mod numbers;
+mod numbers;
 
 // The fields of an entry: 8 of a `samr` or `sawb`, 11 of an `s263`.
 pub fn read(entry: &[u8], out: &mut [u64]) -> Answer

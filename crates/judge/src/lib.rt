@@ -1,5 +1,5 @@
 // The judgement of a file: rules 1 to 10.
-pub mod rules;
+mod rules;
 
 use boxes::containers;
 use rule::Verdict;

@@ -1,3 +1,3 @@
 // Where the bytes of samples stand: rule 8.
 pub mod chunks;
-pub mod payload;
+mod payload;

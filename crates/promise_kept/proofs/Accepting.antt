@@ -14,7 +14,7 @@ use Rattle.rule.specs.Rule.{Rule}
 use Rattle.rule_shape.specs.Three.{needed, besides, shape, threeRule}
 use Rattle.rule_shape.specs.Two.{twoRule}
 use Rattle.rule_shape.specs.TwentyThree.{editableRule}
-use Rattle.rule_shape.proofs.Keeping.{same-exactly, kin-2, kin-3, kin-plain}
+use Rattle.rule_shape.proofs.Keeping.{same-exactly, kin-2, kin-3, kin-editable}
 use Rattle.rule_lists.specs.Five.{fiveRule}
 use Rattle.rule_lists.specs.Nine.{nineRule}
 use Rattle.rule_lists.proofs.Keeping.{kin-5, kin-9}
@@ -55,7 +55,7 @@ module _ {A : List Box → List Box} (a : Arranges A) (xs ys : List ℕ) (w : By
   pub edit-plain : editable xs ≡ true → editable result ≡ true
   edit-plain q =
       to-file editableRule (λ p. rw (in-order a xs ys w m c, same-exactly (A (boxes mid)) (boxes mid) (λ d. a .counts d (boxes mid)) 0) p)
-      (kin-plain (Edit a xs ys w m c) DEPTH FILE xs mid (edit-kin a xs ys w m c) q)
+      (kin-editable (Edit a xs ys w m c) DEPTH FILE xs mid (edit-kin a xs ys w m c) q)
 
   -- every rule holds of it
   pub edit-meets : 8 ≤ length result → length result ≤ LONGEST → Meets result

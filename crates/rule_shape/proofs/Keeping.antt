@@ -44,5 +44,5 @@ module _ (G : Leaf) (d k : ℕ) (xs ys : List ℕ) (a : Kin G d k xs ys) where
   pub kin-3 : allIn threeRule d k xs ≡ true → allIn threeRule d k ys ≡ true
   kin-3 = keep threeRule threeRule G (λ k c b b′ z g t. t) (λ d k xs ys a t. sym (same-shape (boxes xs) (boxes ys) (kin-codes G d k xs ys a) (kin-count G d k xs ys a) k) ∙ t) (λ xs t. t) d k xs ys a
 
-  pub kin-plain : allIn editableRule d k xs ≡ true → allIn editableRule d k ys ≡ true
-  kin-plain = keep editableRule editableRule G (λ k c b b′ z g t. t) (λ d k xs ys a t. sym (same-exactly (boxes xs) (boxes ys) (kin-count G d k xs ys a) 0 (barred k)) ∙ t) (λ xs t. t) d k xs ys a
+  pub kin-editable : allIn editableRule d k xs ≡ true → allIn editableRule d k ys ≡ true
+  kin-editable = keep editableRule editableRule G (λ k c b b′ z g t. t) (λ d k xs ys a t. sym (same-exactly (boxes xs) (boxes ys) (kin-count G d k xs ys a) 0 (barred k)) ∙ t) (λ xs t. t) d k xs ys a

@@ -17,8 +17,8 @@ ghost use Rattle.sheet.specs.Sheet.{SLOTS, bodies as bodiesText};
 ghost use Rattle.sheet_table.specs.Form.{read};
 ghost use Rattle.sheet_table.specs.Table.{ownEntries, table as tableText, tableResult};
 
-pub mod form;
-pub mod slots;
+mod form;
+mod slots;
 
 // How many of n slots are of a track.
 fn count_own(slots: &[u8], bodies: &[u8], n: usize, track: usize) -> usize
