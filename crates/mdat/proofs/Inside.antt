@@ -39,13 +39,15 @@ held-shift p code start end o n = rw (le-shift start o, same) refl
 
 -- ---- over a list of boxes from place p on
 
+-- a box that hasn't them is passed over
+passed : (ts : List Bool) (t : Bool) → false ≡ every ts → pick (every ts) true t ≡ t
+passed ts t e = rw (← e)
+
 -- no box has what stands before it
 lies-before : {l : List Box} → All Headed l → (p o n : ℕ) → o ≤ p → lies l p o n ≡ false
 unfolding lies
 lies-before none p o n h = refl
-lies-before (some {x} {l} g a) p o n h =
-    rw (← fails 1 (isEq (x .code) MDAT ∷ isLe (p + x .head) o ∷ isLe (o + n) (p + size x) ∷ []) (not-le _ _ (omega arith)))
-    (lies-before a (p + size x) o n (omega arith))
+lies-before (some {x} {l} g a) p o n h = passed _ _ (fails 1 _ (not-le _ _ (omega arith))) ∙ lies-before a (p + size x) o n (omega arith)
 
 module _ (x : Box) (l : List Box) (p o n : ℕ) where
   -- up to its end the first box decides
@@ -60,7 +62,7 @@ module _ (x : Box) (l : List Box) (p o n : ℕ) where
   -- past it the others
   lies-past : p + size x < o → lies (x ∷ l) p o n ≡ lies l (p + size x) o n
   unfolding lies
-  lies-past h = rw (← fails 2 (isEq (x .code) MDAT ∷ isLe (p + x .head) o ∷ isLe (o + n) (p + size x) ∷ []) (not-le _ _ (omega arith)))
+  lies-past h = passed _ _ (fails 2 _ (not-le _ _ (omega arith)))
 
 -- ---- over the walk
 
