@@ -79,7 +79,7 @@ module _ (kind : ℕ) (new : List ℕ) {code : ℕ} (e : code ≡ recordCode kin
 
 -- ---- the tests of 20 and 21, by the kind that was found
 
-module _ {xs : List ℕ} {i kind : ℕ} (e : kind ≡ kindAt xs i) {new : List ℕ} {r : ℕ} where
+module _ (xs : List ℕ) (i : ℕ) (new : List ℕ) {kind r : ℕ} (e : kind ≡ kindAt xs i) where
   pub takes-kind : r ≡ oneIf (takes kind new) → r ≡ oneIf (takes (kindAt xs i) new)
   takes-kind h = rw e at h
 
