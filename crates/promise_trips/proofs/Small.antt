@@ -38,7 +38,7 @@ unfolding entriesOf
 small-of s d h =
     let b = s .body in
     let w = bytes-drop FRONT b (d .filled) in
-    small-from (s .track) _ (parts (drop FRONT b) w .good) (omega (arith, d .lies .inside, length-boxBy STSD b, total-is (drop FRONT b) w, length-drop FRONT b, d .listed .room))
+    small-from (s .track) _ (parts (drop FRONT b) w .good) (omega (arith, d .lies .inside, length-boxBy STSD b, total-is (drop FRONT b), length-drop FRONT b, d .listed .room))
 
 -- ---- all of them
 

@@ -17,35 +17,38 @@ use Rattle.edit_move.specs.Moving.{moveResult}
 
 -- what a call that comes to g may answer and leave is one answer and one room
 abbrev One : Result → Type 0
-One g = (out : List ℕ) {r s : Answer} {a b : List ℕ} → Exact g out r a → Exact g out s b → (r ≡ s) × (a ≡ b)
+One g = (out : List ℕ) (r s : Answer) (a b : List ℕ) → Exact g out r a → Exact g out s b → (r ≡ s) × (a ≡ b)
+
+one : (g : Result) → One g
+one g out r s a b x y = one-answer g out x y
 
 module _ (file : List ℕ) where
   pub one-track : (t : ℕ) → One (trackResult file t)
-  one-track t = one-answer _
+  one-track t = one _
 
   pub one-offsets : (t : ℕ) → One (offsetsResult file t)
-  one-offsets t = one-answer _
+  one-offsets t = one _
 
   pub one-sheet : One (sheetResult file)
-  one-sheet = one-answer _
+  one-sheet = one _
 
   pub one-listing : One (listingResult file)
-  one-listing = one-answer _
+  one-listing = one _
 
   pub one-shift : (z : ℤ) → One (shiftResult z file)
-  one-shift z = one-answer _
+  one-shift z = one _
 
   pub one-replace : (i : ℕ) (new : List ℕ) → One (replaceResult file i new)
-  one-replace i new = one-answer _
+  one-replace i new = one _
 
   pub one-move : One (moveResult file)
-  one-move = one-answer _
+  one-move = one _
 
 pub one-table : (k : ℕ) (sheet : List ℕ) (t : ℕ) → One (tableResult k sheet t)
-one-table k sheet t = one-answer _
+one-table k sheet t = one _
 
 pub one-read : (entry : List ℕ) → One (readResult entry)
-one-read entry = one-answer _
+one-read entry = one _
 
 pub one-write : (fields : List ℕ) → One (writeResult fields)
-one-write fields = one-answer _
+one-write fields = one _

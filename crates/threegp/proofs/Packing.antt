@@ -1,19 +1,10 @@
 -- A function of the face promises what the call behind it does. Assumes nothing.
-use Prim.Native.Nat.{ℕ, _≤_, _<_}
-use native.Mathlib.Omega.{arith}
-use mathlib.Core.Path.{_≡_, refl, sym, ap, _∙_}
-use mathlib.Core.Bool.{Bool, true, false}
+use Prim.Native.Nat.{ℕ, _+_, _*_, _≤_}
+use mathlib.Core.Path.{_≡_, refl, ap, _∙_}
 use mathlib.Core.List.{List, [], _∷_}
-use lib.IntN.{ℤ}
 use lib.ListN.{length, set}
 use lib.Seq.{sets-eq}
-use Rattle.wire.specs.Tests.{pick, ifEq}
-use Rattle.wire.specs.Clauses.{every}
-use Rattle.boxes.specs.Seek.{byNumber}
-use Rattle.clocks.specs.declared.Order.{Order}
-use Rattle.clocks.specs.declared.Order.the-variants.{Earlier, Same, Later}
-use Rattle.clocks.specs.Clocks.{zoneFine, orderNumber}
-use Rattle.movie.specs.Entries.{Entry, entries}
+use Rattle.clocks.specs.Clocks.{orderNumber}
 use Rattle.rule.specs.declared.Answer.{Answer}
 use Rattle.rule.specs.declared.Answer.the-variants as answer
 use Rattle.rule.specs.Results.{Result, Exact}
@@ -36,7 +27,7 @@ part-fits f out e h = rw e (exact-wrote _ out h (record { size = refl; is = sets
 
 module _ (o : Outcome) (out : List ℕ) where
   pub outcome-found : (f : Part) → o ≡ Found f → {a : Answer} {left : List ℕ} → Exact (newerResult (Found f)) out a left → Exact (newerResult o) out a left
-  outcome-found f e x = rw (← e) at x
+  outcome-found f e x = rw e x
 
   pub outcome-refused : {file n p : ℕ} → o ≡ Refused file n p → Exact (newerResult o) out (answer.Refused (256 * file + n) p) out
   outcome-refused e = rw e (exact-refuses _ _ out)
