@@ -30,7 +30,7 @@ fn replace_at(file: &[u8], t: usize, n: usize, keep: usize, new: &[u8], out: &mu
     requires { ⌜ (Meets (now file)) × (length (now new) ≤ 31) ⌝ }
     ensures { λ r. ⌜ Exact (asked ((24, inLimit (settled (now (file .entry)) (recordAt (In t n) keep (now (new .entry)) (now (file .entry))))) ∷ []) (gives (settled (now (file .entry)) (recordAt (In t n) keep (now (new .entry)) (now (file .entry)))))) (now (out .entry)) r (now (out .exit)) ⌝ }
 {
-    let size = write::length(file, t, n, keep, new);
+    let size = write::result_length(file, t, n, keep, new);
     if containers::LONGEST < size {
         return Answer::Refused(24, 0);
     }

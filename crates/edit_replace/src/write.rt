@@ -58,7 +58,7 @@ fn put_record(out: &mut [u8], file: &[u8], t: usize, n: usize, keep: usize, new:
 }
 
 // The length of a file with another record.
-pub fn length(file: &[u8], t: usize, n: usize, keep: usize, new: &[u8]) -> usize
+pub fn result_length(file: &[u8], t: usize, n: usize, keep: usize, new: &[u8]) -> usize
     requires { ⌜ (lengthOf (now file) ≤ LONGEST) × (lengthOf (now new) ≤ 31) ⌝ }
     ensures { λ r. ⌜ r ≡ lengthOf (recordAt (In t n) keep (now (new .entry)) (now (file .entry))) ⌝ }
 {

@@ -24,14 +24,11 @@ fieldsOf (Picture f) =
     ∷ f .rates .given ∷ f .rates .average ∷ f .rates .maximum ∷ []
 fieldsOf Broken = []
 
--- 0 and how many fields there are, or the refusal and place 0
+-- 0, or the refusal
 abbrev pub readNumber : Record → ℕ
 readNumber (Speech f) = 0
 readNumber (Picture f) = 0
 readNumber Broken = 21
-
-abbrev pub readValue : Record → ℕ
-readValue r = length (fieldsOf r)
 
 -- 0 and the length written, or the refusal and place 0
 abbrev pub writtenNumber : Written → ℕ

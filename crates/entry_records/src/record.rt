@@ -32,7 +32,7 @@ pub fn write(fields: Record, most: usize, out: &mut [u8]) -> Written
     if field::rule(most, fields) == 0 {
         return Written::BadFields;
     }
-    if out.len() < text::length(fields) {
+    if out.len() < text::text_length(fields) {
         return Written::TooShort;
     }
     Written::Done(text::put_record(out, fields))

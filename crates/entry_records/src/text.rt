@@ -84,7 +84,7 @@ fn h263_length(f: H263) -> usize
 }
 
 // The length of the entry of a record.
-pub fn length(fields: Record) -> usize
+pub fn text_length(fields: Record) -> usize
     ensures { λ r. ⌜ r ≡ length (textOf fields) ⌝ }
 {
     match fields {

@@ -1,6 +1,5 @@
 pub mod Verdict
 pub mod Judge
 pub mod Rule
-pub mod Inner
 pub mod Answers
 pub mod Results

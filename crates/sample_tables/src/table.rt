@@ -6,13 +6,13 @@ ghost use Rattle.wire.specs.Clauses.{oneIf};
 ghost use Rattle.sample_tables.specs.Tables.{Table, hasForm, tableForm, items, field as fieldOf};
 
 // Whether a payload has version byte 0 and the given length: 1 or 0.
-pub fn has_form(part: &[u8], length: usize) -> usize
-    ensures { λ r. ⌜ r ≡ oneIf (hasForm length (now (part .entry))) ⌝ }
+pub fn has_form(part: &[u8], long: usize) -> usize
+    ensures { λ r. ⌜ r ≡ oneIf (hasForm long (now (part .entry))) ⌝ }
 {
     if number::byte(part, 0) != 0 {
         return 0;
     }
-    if part.len() != length {
+    if part.len() != long {
         return 0;
     }
     1

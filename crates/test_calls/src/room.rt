@@ -25,21 +25,29 @@ fn offsets(file: &[u8], call: &[u8]) {
     print::sum_numbers(all);
 }
 
+// What it hands back beside the part, as one number in the form of the functions for C.
+fn told(numbers: [u64; 3]) -> u64 {
+    if numbers[0] == 0 {
+        return numbers[2] % 4294967296;
+    }
+    (256 * (numbers[1] % 256) + numbers[0] % 256) * 4294967296 + numbers[2] % 4294967296
+}
+
 // The newer of two by the call that hands back a part of a file.
 fn part(files: &[u8], call: &[u8]) {
     let n = number::word32(call::more(call), 0);
     let y = call::minutes(call::first(call));
     let z = call::minutes(call::second(call));
-    let mut answer = 0xAAAAAAAAAAAAAAAAu64;
+    let mut numbers = [0xAAAAAAAAAAAAAAAAu64; 3];
     let part = newer::newer(
         lend::front(files, n),
         y,
         lend::rest(files, n),
         z,
         call::third(call),
-        &mut answer,
+        &mut numbers,
     );
-    print::answer(answer);
+    print::answer(told(numbers));
     print::sum(part);
 }
 

@@ -5,11 +5,11 @@ use Rattle.entry_records.specs.Texts.{textOf}
 use Rattle.entry_records.specs.declared.field.Record.{Record}
 use lib.ListN.{length}
 use mathlib.Core.Path.{sym, ap, _∙_}
-use Rattle.entry_records.proofs.text.length.Statement.{statement}
-use Rattle.entry_records.proofs.text.length.Tie as tie
+use Rattle.entry_records.proofs.text.text_length.Statement.{statement}
+use Rattle.entry_records.proofs.text.text_length.Tie as tie
 
-pub length-spec : {M : Type 1} → statement M
-length-spec = tie.close (tie.spec
+pub text-length-spec : {M : Type 1} → statement M
+text-length-spec = tie.close (tie.spec
     (λ c. search needs)
     (λ c. search needs)
     (λ c κs. search needs)
