@@ -3,8 +3,9 @@
    A part is a pointer and then its length in elements; an empty part may have any pointer. No function asks anything of the
    caller but that each part can be read, and an output written, as far as its length says, and that an output overlaps no
    other part. Every answer is number * 2^32 + value. Number 0: done, and the value is what the function says. Else the number is
-   the refusal and the value its place (0 for 20 and above), and nothing was written. Numbers 1 to 10 are those of the rules:
-   every function that takes a file gives them first. What lies past a result stays as it was. */
+   the refusal and the value its place (0 for 20 to 30), and nothing was written. Numbers 1 to 10 are those of the rules: every
+   function that takes a file gives them first, but for threegp_listing, which lists a refused file too, and threegp_newer, which
+   gives 256 times the file and the number, with the place in that file. What lies past a result stays as it was. */
 #ifndef THREEGP_H
 #define THREEGP_H
 

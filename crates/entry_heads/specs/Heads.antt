@@ -76,10 +76,8 @@ visualRule kind xs =
     (isLe VISUAL (length xs)
     ∷ isEq (word 6 xs 8) 0
     ∷ isEq (word 16 xs 16) 0
-    ∷ isEq (word 4 xs 36) 0x00480000
-    ∷ isEq (word 4 xs 40) 0x00480000
-    ∷ isEq (word 4 xs 44) 0
-    ∷ isEq (word 2 xs 48) 1
+    ∷ isEq (word 4 xs 36) 0x00480000 ∷ isEq (word 4 xs 40) 0x00480000
+    ∷ isEq (word 4 xs 44) 0 ∷ isEq (word 2 xs 48) 1
     ∷ nameRule kind xs
     ∷ isEq (word 2 xs 82) 24
     ∷ isEq (word 2 xs 84) 0xFFFF
