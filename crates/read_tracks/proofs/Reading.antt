@@ -99,13 +99,13 @@ module _ (stco : List ℕ) where
   unfolding offsetsTo
   offsets-none list = refl
 
-  pub offsets-more : (list : List ℕ) (i : ℕ) {now : List ℕ} {v : ℕ} → now ≡ offsetsTo stco i ++ drop i list → v ≡ field 4 0 stco i → i < length list → set now i v ≡ offsetsTo stco (i + 1) ++ drop (i + 1) list
+  pub offsets-more : (list : List ℕ) (i : ℕ) {mid : List ℕ} {v : ℕ} → mid ≡ offsetsTo stco i ++ drop i list → v ≡ field 4 0 stco i → i < length list → set mid i v ≡ offsetsTo stco (i + 1) ++ drop (i + 1) list
   unfolding offsetsTo
   offsets-more list i e f h =
       rw (e, f, add-one i, drop-cons list i 0, set-at (offsetsTo stco i) (getD list i 0) (drop (suc i) list) (field 4 0 stco i) i (length-offsets i))
       (sym (append-snoc (offsetsTo stco i) (field 4 0 stco i) (drop (suc i) list)))
 
-  pub offsets-all : (list : List ℕ) {i n : ℕ} {now : List ℕ} → now ≡ offsetsTo stco i ++ drop i list → i ≡ n → n ≡ items stco → Wrote (offsetsTo stco (items stco)) list n now
+  pub offsets-all : (list : List ℕ) {i n : ℕ} {mid : List ℕ} → mid ≡ offsetsTo stco i ++ drop i list → i ≡ n → n ≡ items stco → Wrote (offsetsTo stco (items stco)) list n mid
   offsets-all list e f g = record { size = g ∙ sym (length-offsets (items stco)); is = e ∙ rw (f, g) }
 
 -- of a track
