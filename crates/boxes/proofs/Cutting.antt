@@ -40,10 +40,10 @@ module _ {xs : List ℕ} {c n : ℕ} {b : BoxAt} (v : Bytes xs) (s : Cut xs c n 
   length-before = sym (ap length (s .before)) ∙ length-take-le (b .at) xs (omega (arith, s .inside))
 
   -- as long as it says
-  pub cut-size : b .size ≡ size (boxAt xs b)
+  pub cut-size : b .span ≡ size (boxAt xs b)
   cut-size = omega (arith, payload-length xs b (s .least) (s .inside), s .least)
 
-  pub length-box : length (header (boxAt xs b) ++ payload xs b) ≡ b .size
+  pub length-box : length (header (boxAt xs b) ++ payload xs b) ≡ b .span
   length-box = rw (length-append, length-header, payload-length xs b (s .least) (s .inside)) (omega (arith, s .least, s .eight))
 
   -- the whole box lies where it starts

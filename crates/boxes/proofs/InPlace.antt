@@ -19,9 +19,9 @@ use Rattle.boxes.proofs.Rewriting.{open-over}
 use Rattle.boxes.proofs.Seeking.{length-payload, ran-bytes}
 
 -- what `&mut part[from..to]` gives back
-pub in-body : (xs : List ℕ) (b : BoxAt) (ys : List ℕ) → b .head ≤ b .size → putMid (b .at + b .head) (b .at + b .size - (b .at + b .head)) xs ys ≡ inBody xs b ys
+pub in-body : (xs : List ℕ) (b : BoxAt) (ys : List ℕ) → b .head ≤ b .span → putMid (b .at + b .head) (b .at + b .span - (b .at + b .head)) xs ys ≡ inBody xs b ys
 unfolding inBody
-in-body xs b ys h = rw (post-is (b .at + b .head) (b .at + b .size) xs (omega arith))
+in-body xs b ys h = rw (post-is (b .at + b .head) (b .at + b .span) xs (omega arith))
 
 -- the size of a header follows its body's length
 header-same : (x : Box) (ys : List ℕ) → length ys ≡ length (x .body) → header (remade x ys) ≡ header x
@@ -62,8 +62,8 @@ module _ (f : Bodies) {xs₀ xs : List ℕ} {at : ℕ} (i : Looped f xs₀ xs at
     split : ys ≡ take at xs ++ (header x ++ new) ++ drop (w .at) xs
     unfolding inBody
     split =
-        let q : b .at + b .size ≡ w .at = omega (arith, s .start, s .next) in
-        e ∙ ap (λ (t : List ℕ). t ++ (new ++ drop (b .at + b .size) xs)) before ∙ ap (λ (n : ℕ). take at xs ++ header x ++ (new ++ drop n xs)) q ∙ simp append-assoc
+        let q : b .at + b .span ≡ w .at = omega (arith, s .start, s .next) in
+        e ∙ ap (λ (t : List ℕ). t ++ (new ++ drop (b .at + b .span) xs)) before ∙ ap (λ (n : ℕ). take at xs ++ header x ++ (new ++ drop n xs)) q ∙ simp append-assoc
 
     front-length : length (take at xs ++ (header x ++ new)) ≡ w .at
     front-length = rw (length-append, length-append, length-header, keeps, length-payload s, length-take) (omega (arith, s .next, s .inside, s .least, s .eight))

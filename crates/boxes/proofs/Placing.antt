@@ -4,12 +4,10 @@ use native.Mathlib.Omega.{arith}
 use mathlib.Core.Path.{_≡_, refl, sym, ap, _∙_}
 use mathlib.Core.Bool.{Bool, true, false}
 use mathlib.Core.List.{List, _∷_, _++_}
-use lib.Dec.{eqb}
 use lib.ListN.{length}
 use lib.Seq.{length-take-le}
-use borrow.Author.Tests.{eqb-true}
-use Rattle.wire.specs.Tests.{pick, ifEq}
-use Rattle.wire.specs.Clauses.{isEq}
+use Rattle.wire.proofs.Clauses.{eq-is}
+use Rattle.wire.specs.Tests.{pick}
 use Rattle.wire.specs.Numbers.{Bytes}
 use Rattle.boxes.specs.declared.walk.BoxAt.{BoxAt}
 use Rattle.boxes.specs.declared.seek.Tiling.{Tiling}
@@ -92,16 +90,16 @@ module _ (c n : ℕ) (xs : List ℕ) (v : Bytes xs) where
 -- how a part ends, as a test
 module _ (xs : List ℕ) {t : Tiling} (e : t ≡ tilingOf xs) where
   pub was-whole : t ≡ Whole → true ≡ tiles xs
-  unfolding tilingOf ifEq isEq
-  was-whole w = go (eqb (length (after xs)) 0) (sym w ∙ e)
+  unfolding tilingOf
+  was-whole w = go (tiles xs) (sym w ∙ e)
     where
       go : (b : Bool) → Whole ≡ pick b Whole (Torn (length xs - length (after xs))) → true ≡ b
       go true q = refl
       go false q = let z : _≡_ {A = ℕ} 0 1 = cc in absurd (omega arith)
 
   pub was-torn : (p : ℕ) → t ≡ Torn p → false ≡ tiles xs
-  unfolding tilingOf ifEq isEq
-  was-torn p w = go (eqb (length (after xs)) 0) (sym w ∙ e)
+  unfolding tilingOf
+  was-torn p w = go (tiles xs) (sym w ∙ e)
     where
       go : (b : Bool) → Torn p ≡ pick b Whole (Torn (length xs - length (after xs))) → false ≡ b
       go true q = let z : _≡_ {A = ℕ} 0 1 = cc in absurd (omega arith)
@@ -110,16 +108,16 @@ module _ (xs : List ℕ) {t : Tiling} (e : t ≡ tilingOf xs) where
 -- where the tiling ends
 module _ (xs : List ℕ) {t : Tiling} (e : t ≡ tilingOf xs) where
   pub past-whole : t ≡ Whole → length xs ≡ total (boxes xs)
-  unfolding tilingOf ifEq
-  past-whole q = go (eqb (length (after xs)) 0) refl (sym e ∙ q)
+  unfolding tilingOf
+  past-whole q = go (tiles xs) refl (sym e ∙ q)
     where
-      go : (s : Bool) → eqb (length (after xs)) 0 ≡ s → pick s Whole (Torn (length xs - length (after xs))) ≡ Whole → length xs ≡ total (boxes xs)
-      go true z w = omega (arith, total-is xs, eqb-true (length (after xs)) 0 z)
+      go : (s : Bool) → tiles xs ≡ s → pick s Whole (Torn (length xs - length (after xs))) ≡ Whole → length xs ≡ total (boxes xs)
+      go true z w = omega (arith, total-is xs, eq-is (length (after xs)) 0 z)
       go false z w = let o : _≡_ {A = ℕ} 0 1 = cc in absurd (omega arith)
 
   pub past-torn : (p : ℕ) → t ≡ Torn p → p ≡ total (boxes xs)
-  unfolding tilingOf ifEq
-  past-torn p q = go (eqb (length (after xs)) 0) (sym e ∙ q)
+  unfolding tilingOf
+  past-torn p q = go (tiles xs) (sym e ∙ q)
     where
       go : (s : Bool) → pick s Whole (Torn (length xs - length (after xs))) ≡ Torn p → p ≡ total (boxes xs)
       go true w = let o : _≡_ {A = ℕ} 0 1 = cc in absurd (omega arith)

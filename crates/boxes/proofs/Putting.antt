@@ -46,24 +46,24 @@ tail-put n new xs e p q = pen-then (pen-is (ap (λ (k : ℕ). take k xs) e ∙ t
 
 -- ---- one box and what is around it
 
-module _ (xs : List ℕ) (b : BoxAt) (e : b .head ≡ HEAD) (l : b .head ≤ b .size) (h : b .at + b .size ≤ length xs) {at j : ℕ} {out o₁ : List ℕ} (p : Put (take (b .at) xs) out at j o₁) where
+module _ (xs : List ℕ) (b : BoxAt) (e : b .head ≡ HEAD) (l : b .head ≤ b .span) (h : b .at + b .span ≤ length xs) {at j : ℕ} {out o₁ : List ℕ} (p : Put (take (b .at) xs) out at j o₁) where
   start : j ≡ at + b .at
   start = p .next ∙ ap (λ (n : ℕ). at + n) (length-take-le (b .at) xs (omega arith))
 
   module _ (ys : List ℕ) (q : ys ≡ payload xs b) where
-    long : length ys ≡ b .size - b .head
+    long : length ys ≡ b .span - b .head
     long = ap length q ∙ payload-length xs b l h
 
     pub around-room : j + 8 + length ys ≤ at + length xs
     around-room = omega (arith, long, start)
 
-    pub around-end : (zs : List ℕ) (m c : ℕ) {k : ℕ} {o₂ : List ℕ} → length zs ≤ length ys + m → Put (boxBy c zs) o₁ j k o₂ → k + length (midOf (b .at + b .size) (length xs - (b .at + b .size)) xs) ≤ at + length xs + m
-    around-end zs m c w s = rw (tail-is xs (b .at + b .size) h, length-drop) (omega (arith, long, start, s .next, length-boxBy c zs))
+    pub around-end : (zs : List ℕ) (m c : ℕ) {k : ℕ} {o₂ : List ℕ} → length zs ≤ length ys + m → Put (boxBy c zs) o₁ j k o₂ → k + length (midOf (b .at + b .span) (length xs - (b .at + b .span)) xs) ≤ at + length xs + m
+    around-end zs m c w s = rw (tail-is xs (b .at + b .span) h, length-drop) (omega (arith, long, start, s .next, length-boxBy c zs))
 
 pub around-put : (xs : List ℕ) (b : BoxAt) (ys : List ℕ) {at j k r : ℕ} {out o₁ o₂ after : List ℕ}
-    → Put (take (b .at) xs) out at j o₁ → Put (boxBy (b .code) ys) o₁ j k o₂ → Put (midOf (b .at + b .size) (length xs - (b .at + b .size)) xs) o₂ k r after → b .at + b .size ≤ length xs → Put (around xs b ys) out at r after
+    → Put (take (b .at) xs) out at j o₁ → Put (boxBy (b .code) ys) o₁ j k o₂ → Put (midOf (b .at + b .span) (length xs - (b .at + b .span)) xs) o₂ k r after → b .at + b .span ≤ length xs → Put (around xs b ys) out at r after
 unfolding around
-around-put xs b ys p q s h = pen-then p (pen-then q (pen-is (tail-is xs (b .at + b .size) h) s))
+around-put xs b ys p q s h = pen-then p (pen-then q (pen-is (tail-is xs (b .at + b .span) h) s))
 
 -- ---- one turn
 

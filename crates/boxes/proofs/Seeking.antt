@@ -6,7 +6,7 @@ use mathlib.Core.List.{List, [], _∷_, _++_, append-assoc, append-nil}
 use lib.ListN.{length, take, drop, length-append, length-take, length-drop, take-append-drop}
 use lib.Seq.{take-at, length-take-le}
 use Rattle.wire.specs.Numbers.{Bytes}
-use Rattle.wire.proofs.Tests.{eq-yea, eq-nay}
+use Rattle.wire.proofs.Clauses.{is-eq, not-eq}
 use Rattle.wire.proofs.Lists.{take-past}
 use Rattle.wire.proofs.Numbers.{bytes-drop}
 use Rattle.boxes.specs.declared.walk.Walk.{Walk}
@@ -29,23 +29,23 @@ module _ {xs : List ℕ} {at : ℕ} (e : after xs ≡ after (drop at xs)) (o : O
 
   pub ends-whole : length xs ≤ at → Whole ≡ tilingOf xs
   unfolding tilingOf
-  ends-whole h = eq-yea _ _ _ _ _ (past ∙ omega arith) refl
+  ends-whole h = rw (is-eq (length (after xs)) 0 (past ∙ omega arith))
 
   pub ends-torn : {p : ℕ} → p ≡ at → at < length xs → Torn p ≡ tilingOf xs
   unfolding tilingOf
-  ends-torn q h = eq-nay _ _ _ _ _ (λ z. omega (arith, past)) (ap Torn (rw past (omega arith)))
+  ends-torn q h = rw (not-eq (length (after xs)) 0 (λ z. omega (arith, past))) (ap Torn (rw past (omega arith)))
 
 -- ---- the box that a step found
 
-pub payload-length : (xs : List ℕ) (b : BoxAt) → b .head ≤ b .size → b .at + b .size ≤ length xs → length (payload xs b) ≡ b .size - b .head
+pub payload-length : (xs : List ℕ) (b : BoxAt) → b .head ≤ b .span → b .at + b .span ≤ length xs → length (payload xs b) ≡ b .span - b .head
 payload-length xs b h k = rw (length-take, length-drop) (omega arith)
 
 module _ {xs : List ℕ} {at : ℕ} {b : BoxAt} {w : Walk} (s : Ran xs at b w) where
-  pub length-payload : length (payload xs b) ≡ b .size - b .head
+  pub length-payload : length (payload xs b) ≡ b .span - b .head
   length-payload = payload-length xs b (s .least) (omega (arith, s .start, s .inside))
 
   -- as long as it says
-  pub ran-size : size (boxAt xs b) ≡ b .size
+  pub ran-size : size (boxAt xs b) ≡ b .span
   ran-size = omega (arith, length-payload, s .least)
 
   -- the next starts where it ends
@@ -59,12 +59,12 @@ module _ {xs : List ℕ} {at : ℕ} {b : BoxAt} {w : Walk} (s : Ran xs at b w) w
         let p = rw (s .list, s .rest) at (write-boxes (drop at xs) (bytes-drop at xs v)) in
         sym p ∙ write-cons (boxAt xs b) (boxes (drop (w .at) xs)) (after (drop (w .at) xs)) ∙ rw (write-boxes (drop (w .at) xs) (bytes-drop (w .at) xs v))
 
-    here : take (at + b .size) xs ≡ take at xs ++ (header (boxAt xs b) ++ payload xs b)
+    here : take (at + b .span) xs ≡ take at xs ++ (header (boxAt xs b) ++ payload xs b)
     here =
         let l : length (take at xs) ≡ at = length-take-le at xs (omega (arith, s .inside)) in
-        let m : length (header (boxAt xs b) ++ payload xs b) ≡ b .size = rw (length-append, length-header, length-payload) (omega (arith, s .least, s .eight)) in
-        ap (take (at + b .size)) (sym (take-append-drop at xs)) ∙ take-past (take at xs) (drop at xs) at (b .size) l
-        ∙ ap (λ (t : List ℕ). take at xs ++ t) (ap (take (b .size)) (ran-bytes ∙ sym (append-assoc (header (boxAt xs b)) (payload xs b) (drop (w .at) xs))) ∙ take-at (header (boxAt xs b) ++ payload xs b) (drop (w .at) xs) (b .size) m)
+        let m : length (header (boxAt xs b) ++ payload xs b) ≡ b .span = rw (length-append, length-header, length-payload) (omega (arith, s .least, s .eight)) in
+        ap (take (at + b .span)) (sym (take-append-drop at xs)) ∙ take-past (take at xs) (drop at xs) at (b .span) l
+        ∙ ap (λ (t : List ℕ). take at xs ++ t) (ap (take (b .span)) (ran-bytes ∙ sym (append-assoc (header (boxAt xs b)) (payload xs b) (drop (w .at) xs))) ∙ take-at (header (boxAt xs b) ++ payload xs b) (drop (w .at) xs) (b .span) m)
 
 -- ---- the boxes that a search passed
 

@@ -36,7 +36,7 @@ module _ (c n : ℕ) (f : List ℕ → List ℕ) (xs : List ℕ) where
   nth-at {b} s =
       let y : Box = remade (boxAt xs b) (f (payload xs b)) in
       sym (rw (s .list, nth-by c f n (s .p) (boxAt xs b) (s .q) (s .nth) (s .hit), write-append (s .p) (y ∷ s .q), append-assoc, write-cons y (s .q) (after xs), ← s .past, ← s .before)
-      (ap (λ (t : List ℕ). take (b .at) xs ++ t) (sym (append-assoc (header y) (f (payload xs b)) (drop (b .at + b .size) xs)) ∙ ap (λ (t : List ℕ). t ++ drop (b .at + b .size) xs) (boxBy-is xs b (f (payload xs b)) (s .eight)))))
+      (ap (λ (t : List ℕ). take (b .at) xs ++ t) (sym (append-assoc (header y) (f (payload xs b)) (drop (b .at + b .span) xs)) ∙ ap (λ (t : List ℕ). t ++ drop (b .at + b .span) xs) (boxBy-is xs b (f (payload xs b)) (s .eight)))))
 
   pub nth-missing : Bytes xs → count c (boxes xs) ≤ n → xs ≡ overNth c n f xs
   unfolding overNth

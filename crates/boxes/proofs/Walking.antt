@@ -41,7 +41,7 @@ module _ (xs : List ℕ) (at : ℕ) where
   step-large h k g = le-nay _ _ _ _ _ (omega arith) (lt-nay _ _ _ _ _ (omega arith) (lt-nay _ _ _ _ _ k (lt-yea _ _ _ _ _ (omega arith) refl)))
 
   pub step-found : (n c : ℕ) → n ≡ word 4 xs at → c ≡ word 4 xs (at + 4) → 8 ≤ n → at + n ≤ length xs
-      → Found (record { at = at; head = HEAD; size = n; code = c }) (record { at = at + n }) ≡ stepAt xs at
+      → Found (record { at = at; head = HEAD; span = n; code = c }) (record { at = at + n }) ≡ stepAt xs at
   unfolding stepAt
   step-found n c e f h g =
       le-nay _ _ _ _ _ (omega arith) (lt-nay _ _ _ _ _ (omega arith) (lt-nay _ _ _ _ _ (omega arith) (lt-nay _ _ _ _ _ (omega arith) (rw (e, f)))))
@@ -55,7 +55,7 @@ module _ (xs : List ℕ) (at : ℕ) where
   over e = record { list = boxes-stop (drop at xs) e; rest = after-stop (drop at xs) e }
 
   found : 8 ≤ word 4 xs at → at + word 4 xs at ≤ length xs
-      → Ran xs at (record { at = at; head = HEAD; size = word 4 xs at; code = word 4 xs (at + 4) }) (record { at = at + word 4 xs at })
+      → Ran xs at (record { at = at; head = HEAD; span = word 4 xs at; code = word 4 xs (at + 4) }) (record { at = at + word 4 xs at })
   found h l =
       let e : whole (drop at xs) ≡ true = whole-of (drop at xs) (rw size-at h) (rw (size-at, length-drop) (omega arith)) in
       let n : at + word 4 xs at - (at + HEAD) ≡ word 4 xs at - HEAD = omega arith in
@@ -75,7 +75,7 @@ module _ (xs : List ℕ) (at : ℕ) where
     where
       go : (t₁ t₂ t₃ t₄ : Bool) → leb (length xs) at ≡ t₁ → ltb (length xs - at) HEAD ≡ t₂ → ltb (word 4 xs at) HEAD ≡ t₃ → ltb (length xs - at) (word 4 xs at) ≡ t₄
           → Stepped xs at (pick t₁ End (pick t₂ (Broken at) (pick t₃ (Broken at) (pick t₄ (Broken at)
-          (Found (record { at = at; head = HEAD; size = word 4 xs at; code = word 4 xs (at + 4) }) (record { at = at + word 4 xs at }))))))
+          (Found (record { at = at; head = HEAD; span = word 4 xs at; code = word 4 xs (at + 4) }) (record { at = at + word 4 xs at }))))))
       go true t₂ t₃ t₄ e₁ e₂ e₃ e₄ = let h : length xs ≤ at = leb-true _ _ e₁ in (over (short-not _ (rw length-drop (omega arith))), h)
       go false true t₃ t₄ e₁ e₂ e₃ e₄ = let h : at < length xs = leb-false _ _ e₁ in let k : length xs - at < HEAD = ltb-true _ _ e₂ in (over (short-not _ (rw length-drop (omega arith))), refl, h)
       go false false true t₄ e₁ e₂ e₃ e₄ = let h : at < length xs = leb-false _ _ e₁ in let k : word 4 xs at < HEAD = ltb-true _ _ e₃ in (over (small-not _ (rw size-at k)), refl, h)

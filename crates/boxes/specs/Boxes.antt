@@ -44,6 +44,9 @@ total (x ∷ l) = size x + total l
 unfoldable pub after : List ℕ → List ℕ
 after xs = drop (total (boxes xs)) xs
 
+abbrev pub nothing : List ℕ → Bool
+nothing xs = isEq (length xs) 0
+
 -- boxes tile the part: nothing stands past the last whole one
 abbrev pub tiles : List ℕ → Bool
-tiles xs = isEq (length (after xs)) 0
+tiles xs = nothing (after xs)

@@ -34,7 +34,7 @@ editIn g (suc d) k xs = overBoxes (editBox g (λ j ys. editIn g d j ys) k) xs
 
 -- ys in the place of the payload of a box b of the part
 unfoldable pub inBody : List ℕ → BoxAt → List ℕ → List ℕ
-inBody xs b ys = take (b .at + b .head) xs ++ (ys ++ drop (b .at + b .size) xs)
+inBody xs b ys = take (b .at + b .head) xs ++ (ys ++ drop (b .at + b .span) xs)
 
 -- the boxes of a part that was xs₀ are rewritten by f before place at
 pub record Looped (f : Bodies) (xs₀ xs : List ℕ) (at : ℕ) : Type 0 where

@@ -3,19 +3,19 @@ use Prim.Native.Nat.{ℕ, zero, suc, _+_, _-_, _≤_}
 use mathlib.Core.Path.{_≡_}
 use mathlib.Core.List.{List, [], _∷_, _++_}
 use lib.ListN.{length, take, drop}
-use Rattle.wire.specs.Tests.{ifEq}
+use Rattle.wire.specs.Tests.{pick, ifEq}
 use Rattle.boxes.specs.declared.walk.BoxAt.{BoxAt}
 use Rattle.boxes.specs.declared.seek.Tiling.{Tiling}
 use Rattle.boxes.specs.declared.seek.Tiling.the-variants.{Whole, Torn}
 use Rattle.boxes.specs.declared.seek.Seen.{Seen}
 use Rattle.boxes.specs.declared.seek.Seen.the-variants.{At, Missing}
 use Rattle.boxes.specs.Box.{Box, size, write}
-use Rattle.boxes.specs.Boxes.{HEAD, boxes, after}
+use Rattle.boxes.specs.Boxes.{HEAD, boxes, after, tiles}
 use Rattle.boxes.specs.Walk.{boxAt}
 
 -- boxes tile the part, or the tiling is torn where the bytes past the last box start
 unfoldable pub tilingOf : List ℕ → Tiling
-tilingOf xs = ifEq (length (after xs)) 0 Whole (Torn (length xs - length (after xs)))
+tilingOf xs = pick (tiles xs) Whole (Torn (length xs - length (after xs)))
 
 -- any box is meant by the number 0, which is no code of the format
 abbrev pub ANY : ℕ
@@ -62,10 +62,10 @@ pub record Cut (xs : List ℕ) (c n : ℕ) (b : BoxAt) : Type 0 where
   pub nth : count c p ≡ n
   pub hit : meant c (b .code) ≡ 1
   pub before : take (b .at) xs ≡ write p
-  pub past : drop (b .at + b .size) xs ≡ write q ++ after xs
+  pub past : drop (b .at + b .span) xs ≡ write q ++ after xs
   pub eight : b .head ≡ HEAD
-  pub least : b .head ≤ b .size
-  pub inside : b .at + b .size ≤ length xs
+  pub least : b .head ≤ b .span
+  pub inside : b .at + b .span ≤ length xs
 
 abbrev pub SeenAs : List ℕ → ℕ → ℕ → Seen → Type 0
 SeenAs xs c n (At b) = Cut xs c n b

@@ -19,11 +19,11 @@ stepAt xs at =
     (ifLt (length xs - at) HEAD (Broken at)
     (ifLt (word 4 xs at) HEAD (Broken at)
     (ifLt (length xs - at) (word 4 xs at) (Broken at)
-    (Found (record { at = at; head = HEAD; size = word 4 xs at; code = word 4 xs (at + 4) }) (record { at = at + word 4 xs at })))))
+    (Found (record { at = at; head = HEAD; span = word 4 xs at; code = word 4 xs (at + 4) }) (record { at = at + word 4 xs at })))))
 
 -- the payload of a box that was found, and the box
 abbrev pub payload : List ℕ → BoxAt → List ℕ
-payload xs b = take (b .at + b .size - (b .at + b .head)) (drop (b .at + b .head) xs)
+payload xs b = take (b .at + b .span - (b .at + b .head)) (drop (b .at + b .head) xs)
 
 abbrev pub boxAt : List ℕ → BoxAt → Box
 boxAt xs b = record { head = b .head; code = b .code; body = payload xs b }
@@ -32,9 +32,9 @@ boxAt xs b = record { head = b .head; code = b .code; body = payload xs b }
 pub record Ran (xs : List ℕ) (at : ℕ) (b : BoxAt) (w : Walk) : Type 0 where
   pub start : b .at ≡ at
   pub eight : b .head ≡ HEAD
-  pub least : b .head ≤ b .size
-  pub inside : at + b .size ≤ length xs
-  pub next : w .at ≡ at + b .size
+  pub least : b .head ≤ b .span
+  pub inside : at + b .span ≤ length xs
+  pub next : w .at ≡ at + b .span
   pub list : boxes (drop at xs) ≡ boxAt xs b ∷ boxes (drop (w .at) xs)
   pub rest : after (drop at xs) ≡ after (drop (w .at) xs)
 

@@ -46,7 +46,7 @@ boxBy c ys = header (record { head = HEAD; code = c; body = ys }) ++ ys
 
 -- a part with ys for the body of its box b
 unfoldable pub around : List ℕ → BoxAt → List ℕ → List ℕ
-around xs b ys = take (b .at) xs ++ (boxBy (b .code) ys ++ drop (b .at + b .size) xs)
+around xs b ys = take (b .at) xs ++ (boxBy (b .code) ys ++ drop (b .at + b .span) xs)
 
 -- a header for a box of n bytes, put at place at before what ends at place r, where that fits
 pub record Under (n c : ℕ) (out : List ℕ) (at r : ℕ) (after : List ℕ) : Type 0 where

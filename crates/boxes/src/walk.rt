@@ -20,7 +20,7 @@ pub struct Walk {
 pub struct BoxAt {
     pub at: usize,
     pub head: usize,
-    pub size: usize,
+    pub span: usize,
     pub code: usize,
 }
 
@@ -44,11 +44,11 @@ impl Walk {
         if left < HEAD {
             return Step::Broken(at);
         }
-        let size = number::word32_in(part, at);
-        if size < HEAD {
+        let span = number::word32_in(part, at);
+        if span < HEAD {
             return Step::Broken(at);
         }
-        if left < size {
+        if left < span {
             return Step::Broken(at);
         }
         let code = number::word32_in(part, at + 4);
@@ -56,20 +56,20 @@ impl Walk {
             BoxAt {
                 at,
                 head: HEAD,
-                size,
+                span,
                 code,
             },
-            Walk { at: at + size },
+            Walk { at: at + span },
         )
     }
 }
 
 // The payload of a box that was found.
 pub fn body(part: &[u8], b: BoxAt) -> &[u8]
-    requires { ⌜ (b .head ≤ b .size) × (b .at + b .size ≤ length (now part)) ⌝ }
+    requires { ⌜ (b .head ≤ b .span) × (b .at + b .span ≤ length (now part)) ⌝ }
     ensures { λ r. ⌜ now r ≡ payload (now (part .entry)) b ⌝ }
 {
     let from = b.at + b.head;
-    let to = b.at + b.size;
+    let to = b.at + b.span;
     &part[from..to]
 }

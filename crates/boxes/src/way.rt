@@ -83,11 +83,11 @@ fn put_around(
     keep: usize,
     new: &[u8],
 ) -> usize
-    requires { ⌜ (i ≤ length (now way)) × (b .head ≡ 8) × (b .head ≤ b .size) × (b .at + b .size ≤ length (now src)) × (at + length (now src) + length (now new) < 2 ^ 62) ⌝ }
+    requires { ⌜ (i ≤ length (now way)) × (b .head ≡ 8) × (b .head ≤ b .span) × (b .at + b .span ≤ length (now src)) × (at + length (now src) + length (now new) < 2 ^ 62) ⌝ }
     ensures { λ r. ⌜ Put (around (now (src .entry)) b (editWay (turns (drop i (now (way .entry)))) (tailBy keep (now (new .entry))) (payload (now (src .entry)) b))) (now (out .entry)) at r (now (out .exit)) ⌝ }
 {
     let before = b.at;
-    let past = b.at + b.size;
+    let past = b.at + b.span;
     let j = pen::put_part(out, at, &src[..before]);
     let k = put_box(out, j, walk::body(src, b), b.code, way, i, keep, new);
     pen::put_part(out, k, &src[past..])

@@ -81,11 +81,11 @@ fn reword_leaf(body: &mut [u8], k: usize, code: usize, t: Target, by: By)
 
 // A box of a container of kind k.
 fn reword_box(part: &mut [u8], b: BoxAt, k: usize, depth: usize, t: Target, by: By)
-    requires { ⌜ (b .head ≤ b .size) × (b .at + b .size ≤ length (now part)) × (0 < depth) × Small by ⌝ }
+    requires { ⌜ (b .head ≤ b .span) × (b .at + b .span ≤ length (now part)) × (0 < depth) × Small by ⌝ }
     ensures { λ _. ⌜ now (part .exit) ≡ inBody (now (part .entry)) b (editBox (rewordLeaf t (movedBy by)) (editIn (rewordLeaf t (movedBy by)) (depth - 1)) k (b .code) (payload (now (part .entry)) b)) ⌝ }
 {
     let from = b.at + b.head;
-    let to = b.at + b.size;
+    let to = b.at + b.span;
     let kind = containers::kind_in(k, b.code);
     if kind == 0 {
         reword_leaf(&mut part[from..to], k, b.code, t, by);

@@ -60,7 +60,7 @@ module _ (xs : List ℕ) (v : Bytes xs) (m : Meets xs) {b : BoxAt} (p : Parted x
   arranged-is =
       ap (arranged (size (p .ftyp)) b) file-is
       ∙ pieces-are (write (p .ftyp ∷ [])) (write (p .mid)) (write (boxAt xs b ∷ [])) (write (p .end)) (size (p .ftyp)) b
-      (takes (p .ftyp) (all-head good)) (p .at ∙ ap (λ (n : ℕ). size (p .ftyp) + n) (sym (length-write (all-left (p .mid) (p .end) (all-tail (all-tail good)))))) (p .size ∙ sym (takes (boxAt xs b) (all-head (all-tail good))))
+      (takes (p .ftyp) (all-head good)) (p .at ∙ ap (λ (n : ℕ). size (p .ftyp) + n) (sym (length-write (all-left (p .mid) (p .end) (all-tail (all-tail good)))))) (p .span ∙ sym (takes (boxAt xs b) (all-head (all-tail good))))
       ∙ sym order-is
 
   -- ---- the chunk offsets
@@ -70,7 +70,7 @@ module _ (xs : List ℕ) (v : Bytes xs) (m : Meets xs) {b : BoxAt} (p : Parted x
 
   fronts : Fronts (p .ftyp ∷ []) (p .mid) (boxAt xs b) (up b)
   unfolding total
-  fronts = record { limit = omega (arith, p .at, p .size); low = p .size; high = refl; less = refl }
+  fronts = record { limit = omega (arith, p .at, p .span); low = p .span; high = refl; less = refl }
 
   relocates : (o n : ℕ) → inAt (boxes xs) o n ≡ true → moved (up b) o ≡ relocate (boxes xs) (boxes (write (moovSecond (boxes xs)))) o
   unfolding mdats

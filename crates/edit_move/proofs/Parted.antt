@@ -43,8 +43,8 @@ pub record Parted (xs : List ℕ) (b : BoxAt) : Type 0 where
   pub name : ftyp .code ≡ FTYP
   pub moov : b .code ≡ MOOV
   pub at : b .at ≡ size ftyp + total mid
-  pub size : b .size ≡ size (boxAt xs b)
-  pub inside : b .at + b .size ≤ length xs
+  pub span : b .span ≡ size (boxAt xs b)
+  pub inside : b .at + b .span ≤ length xs
 
 module _ (xs : List ℕ) (v : Bytes xs) (m : Meets xs) {b : BoxAt} (c : Cut xs MOOV 0 b) where
   cut-moov : b .code ≡ MOOV
@@ -71,7 +71,7 @@ module _ (xs : List ℕ) (v : Bytes xs) (m : Meets xs) {b : BoxAt} (c : Cut xs M
         name = ftyp-first xs m x (p ++ boxAt xs b ∷ c .q) l;
         moov = cut-moov;
         at = sym (total-before v c) ∙ ap total e;
-        size = cut-size v c;
+        span = cut-size v c;
         inside = c .inside;
       }
 

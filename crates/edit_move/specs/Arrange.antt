@@ -11,11 +11,11 @@ use Rattle.edit_offsets.specs.Settle.{offsets}
 
 -- a part with its box b at place f
 unfoldable pub arranged : ℕ → BoxAt → List ℕ → List ℕ
-arranged f b xs = take f xs ++ (take (b .size) (drop (b .at) xs) ++ (take (b .at - f) (drop f xs) ++ drop (b .at + b .size) xs))
+arranged f b xs = take f xs ++ (take (b .span) (drop (b .at) xs) ++ (take (b .at - f) (drop f xs) ++ drop (b .at + b .span) xs))
 
 -- what stands before the box makes room for it
 abbrev pub up : BoxAt → By
-up b = record { limit = b .at + b .size; low = b .size; high = 0; less = 0 }
+up b = record { limit = b .at + b .span; low = b .span; high = 0; less = 0 }
 
 unfoldable pub shifted : ℕ → BoxAt → List ℕ → List ℕ
 shifted f b xs = editIn (rewordLeaf offsets (moved (up b))) DEPTH FILE (arranged f b xs)

@@ -20,11 +20,11 @@ ghost use Rattle.edit_move.specs.Arrange.{arranged, shifted};
 
 // Writes a file with its box b at place f.
 fn arrange(out: &mut [u8], file: &[u8], f: usize, b: BoxAt) -> usize
-    requires { ⌜ (f ≤ b .at) × (b .at + b .size ≤ length (now file)) × (length (now file) ≤ LONGEST) ⌝ }
+    requires { ⌜ (f ≤ b .at) × (b .at + b .span ≤ length (now file)) × (length (now file) ≤ LONGEST) ⌝ }
     ensures { λ r. ⌜ Put (arranged f b (now (file .entry))) (now (out .entry)) 0 r (now (out .exit)) ⌝ }
 {
     let at = b.at;
-    let to = at + b.size;
+    let to = at + b.span;
     let i = pen::put_part(out, 0, &file[..f]);
     let j = pen::put_part(out, i, &file[at..to]);
     let k = pen::put_part(out, j, &file[f..at]);
@@ -33,7 +33,7 @@ fn arrange(out: &mut [u8], file: &[u8], f: usize, b: BoxAt) -> usize
 
 // Writes it so, and moves the chunk offsets that stood before the box up by its size.
 fn shift(out: &mut [u8], file: &[u8], f: usize, b: BoxAt) -> usize
-    requires { ⌜ (f ≤ b .at) × (b .at + b .size ≤ length (now file)) × (length (now file) ≤ LONGEST) × (length (now file) ≤ length (now out)) ⌝ }
+    requires { ⌜ (f ≤ b .at) × (b .at + b .span ≤ length (now file)) × (length (now file) ≤ LONGEST) × (length (now file) ≤ length (now out)) ⌝ }
     ensures { λ r. ⌜ Wrote (shifted f b (now (file .entry))) (now (out .entry)) r (now (out .exit)) ⌝ }
 {
     let n = arrange(out, file, f, b);
@@ -41,8 +41,8 @@ fn shift(out: &mut [u8], file: &[u8], f: usize, b: BoxAt) -> usize
         out,
         n,
         By {
-            limit: b.at + b.size,
-            low: b.size,
+            limit: b.at + b.span,
+            low: b.span,
             high: 0,
             less: 0,
         },

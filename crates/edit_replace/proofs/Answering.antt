@@ -16,18 +16,18 @@ use Rattle.edit_offsets.specs.Settle.{settled}
 use Rattle.edit_offsets.proofs.Settled.{settled-length}
 
 -- settling changes no length
-module _ (xs zs out : List ℕ) {size : ℕ} (e : size ≡ length zs) where
-  pub settled-over : LONGEST < size → Exact (asked ((24, inLimit (settled xs zs)) ∷ []) (gives (settled xs zs))) out (Refused 24 0) out
+module _ (xs zs out : List ℕ) {span : ℕ} (e : span ≡ length zs) where
+  pub settled-over : LONGEST < span → Exact (asked ((24, inLimit (settled xs zs)) ∷ []) (gives (settled xs zs))) out (Refused 24 0) out
   settled-over h = over-limit (settled xs zs) out (rw (settled-length xs zs) (omega arith))
 
-  module _ (h : size ≤ LONGEST) where
+  module _ (h : span ≤ LONGEST) where
     limit : length (settled xs zs) ≤ LONGEST
     limit = rw (settled-length xs zs) (omega arith)
 
-    pub settled-short : length out < size → Exact (asked ((24, inLimit (settled xs zs)) ∷ []) (gives (settled xs zs))) out (Refused 25 0) out
+    pub settled-short : length out < span → Exact (asked ((24, inLimit (settled xs zs)) ∷ []) (gives (settled xs zs))) out (Refused 25 0) out
     settled-short k = in-limit (settled xs zs) out limit (exact-short (settled xs zs) out (rw (settled-length xs zs) (omega arith)))
 
-    pub settled-wrote : size ≤ length out → {r : ℕ} {left : List ℕ} → Wrote (settled xs zs) out r left → Exact (asked ((24, inLimit (settled xs zs)) ∷ []) (gives (settled xs zs))) out (Done r) left
+    pub settled-wrote : span ≤ length out → {r : ℕ} {left : List ℕ} → Wrote (settled xs zs) out r left → Exact (asked ((24, inLimit (settled xs zs)) ∷ []) (gives (settled xs zs))) out (Done r) left
     settled-wrote k w = in-limit (settled xs zs) out limit (exact-wrote (settled xs zs) out (rw (settled-length xs zs) (omega arith)) w)
 
 -- the result otherwise said

@@ -80,7 +80,7 @@ module _ (t n keep : ℕ) (new xs : List ℕ) (w : Bytes new) (v : Bytes xs) (s 
 
   moved-is : (o m : ℕ) → inAt (boxes xs) o m ≡ true → moved (grown b (length zs) (length xs)) o ≡ relocate (boxes xs) (boxes zs) o
   moved-is o m h =
-      let by : By = record { limit = b .at + b .size; low = 0; high = size made; less = size old } in
+      let by : By = record { limit = b .at + b .span; low = 0; high = size made; less = size old } in
       moved-same (grown b (length zs) (length xs)) by refl refl grows o
       ∙ rw (boxes-are, c .list)
       (moved-change (c .p) (c .q) old made (λ z. omega (arith, code-is)) (λ z. omega (arith, code-is)) (omega (arith, c .eight)) by

@@ -25,8 +25,8 @@ use Rattle.edit_replace.specs.Replace.{kindAt, recordCode, takes}
 -- ---- the kind
 
 -- by what `&xs[place..place + size]` lends
-pub kind-part : (place size : ℕ) (xs : List ℕ) {w r : ℕ} → w ≡ word 4 (midOf place (place + size - place) xs) 4 → r ≡ kindOf w → r ≡ kindOf (word 4 (take size (drop place xs)) 4)
-kind-part place size xs e f = let n : place + size - place ≡ size = omega arith in rw (f, e, n)
+pub kind-part : (place span : ℕ) (xs : List ℕ) {w r : ℕ} → w ≡ word 4 (midOf place (place + span - place) xs) 4 → r ≡ kindOf w → r ≡ kindOf (word 4 (take span (drop place xs)) 4)
+kind-part place span xs e f = let n : place + span - place ≡ span = omega arith in rw (f, e, n)
 
 none-known : 0 ≡ kindOf 0
 unfolding kindOf ifEq
@@ -37,7 +37,7 @@ module _ (xs : List ℕ) (i : ℕ) where
   unfolding kindAt
   kind-zero e = eq-yea _ _ _ _ _ e refl
 
-  pub kind-is : (i ≡ 0 → ⊥) → {e : EntryAt} → EntryIs xs (i - 1) e → {r : ℕ} → r ≡ kindOf (word 4 (take (e .size) (drop (e .place) xs)) 4) → r ≡ kindAt xs i
+  pub kind-is : (i ≡ 0 → ⊥) → {e : EntryAt} → EntryIs xs (i - 1) e → {r : ℕ} → r ≡ kindOf (word 4 (take (e .span) (drop (e .place) xs)) 4) → r ≡ kindAt xs i
   unfolding kindAt
   kind-is z s q = eq-nay _ _ _ _ _ z (q ∙ ap (λ (ys : List ℕ). kindOf (word 4 ys 4)) (sym (bytes-at (i - 1) (entries xs) (s .is))))
 

@@ -46,7 +46,7 @@ module _ (xs : List ℕ) (t n keep : ℕ) (new out : List ℕ) (f : Fits xs t n 
       let a : take r mid ≡ zs = rw (g .is) (take-at zs (drop r out) r e) in
       let d : drop r mid ≡ drop r out = rw (g .is) (drop-at zs (drop r out) r e) in
       let s = record-settled t n keep new xs w v (omega (arith, f .most)) c (f .meets) in
-      record { size = omega (arith, settled-length xs zs); is = q ∙ rw (a, d, ← e) (ap (λ (l : List ℕ). l ++ drop (length zs) out) s) }
+      record { span = omega (arith, settled-length xs zs); is = q ∙ rw (a, d, ← e) (ap (λ (l : List ℕ). l ++ drop (length zs) out) s) }
 
 -- ---- the spot
 
@@ -55,7 +55,7 @@ pub past-none : (xs : List ℕ) (i : ℕ) (new : List ℕ) → length (entries x
 past-none xs i new m {kind} g h = omega (arith, kind-none xs i m, record-short kind FRAMES new h .0)
 
 module _ (xs : List ℕ) (i : ℕ) (new : List ℕ) {moov : List ℕ} (e : moov ≡ find MOOV (boxes xs)) (r : Spot) (s : SpotAs moov (i - 1) r) (q : (p : ℕ) → r ≡ spotIn (stsdsFrom 0 (boxes moov) p) (i - 1)) where
-  pub spot-replaced : (t n : ℕ) → r ≡ In t n → {kind size : ℕ} → kind ≡ kindAt xs i → size ≡ headSize kind → settled xs (recordAt (In t n) (size - HEAD) new xs) ≡ replaceOf xs i new
+  pub spot-replaced : (t n : ℕ) → r ≡ In t n → {kind span : ℕ} → kind ≡ kindAt xs i → span ≡ headSize kind → settled xs (recordAt (In t n) (span - HEAD) new xs) ≡ replaceOf xs i new
   unfolding replaceOf recordReplaced stsds
   spot-replaced t n f g h =
       let p = startIn MOOV 0 (boxes xs) in

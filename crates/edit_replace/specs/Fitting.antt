@@ -18,4 +18,4 @@ pub record Fits (xs : List ℕ) (t n keep : ℕ) (new out : List ℕ) : Type 0 w
 
 -- past the box b a chunk offset moves by as much as a file of m bytes grows to n
 abbrev pub grown : BoxAt → ℕ → ℕ → By
-grown b n m = record { limit = b .at + b .size; low = 0; high = n; less = m }
+grown b n m = record { limit = b .at + b .span; low = 0; high = n; less = m }

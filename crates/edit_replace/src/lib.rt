@@ -30,11 +30,11 @@ fn replace_at(file: &[u8], t: usize, n: usize, keep: usize, new: &[u8], out: &mu
     requires { ⌜ (Meets (now file)) × (length (now new) ≤ 31) ⌝ }
     ensures { λ r. ⌜ Exact (asked ((24, inLimit (settled (now (file .entry)) (recordAt (In t n) keep (now (new .entry)) (now (file .entry))))) ∷ []) (gives (settled (now (file .entry)) (recordAt (In t n) keep (now (new .entry)) (now (file .entry)))))) (now (out .entry)) r (now (out .exit)) ⌝ }
 {
-    let size = write::result_length(file, t, n, keep, new);
-    if containers::LONGEST < size {
+    let span = write::result_length(file, t, n, keep, new);
+    if containers::LONGEST < span {
         return Answer::Refused(24, 0);
     }
-    if out.len() < size {
+    if out.len() < span {
         return Answer::Refused(25, 0);
     }
     Answer::Done(write::replaced(out, file, t, n, keep, new))

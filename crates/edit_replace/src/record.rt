@@ -21,17 +21,17 @@ pub fn kind_at(file: &[u8], i: usize) -> usize
         return kind::OTHER;
     }
     match entry::entry(file, i - 1) {
-        Named::At(e) => kind_of(file, e.place, e.size),
+        Named::At(e) => kind_of(file, e.place, e.span),
         Named::Missing => kind::OTHER,
     }
 }
 
-// The kind of the entry in the `size` bytes from a place on.
-fn kind_of(file: &[u8], place: usize, size: usize) -> usize
-    requires { ⌜ place + size ≤ length (now file) ⌝ }
-    ensures { λ r. ⌜ r ≡ kindOf (word 4 (take size (drop place (now (file .entry)))) 4) ⌝ }
+// The kind of the entry in the `span` bytes from a place on.
+fn kind_of(file: &[u8], place: usize, span: usize) -> usize
+    requires { ⌜ place + span ≤ length (now file) ⌝ }
+    ensures { λ r. ⌜ r ≡ kindOf (word 4 (take span (drop place (now (file .entry)))) 4) ⌝ }
 {
-    let to = place + size;
+    let to = place + span;
     kind::of_code(number::word32(&file[place..to], 4))
 }
 

@@ -79,15 +79,15 @@ fn settle_past(
     requires { ⌜ (Fits (now file) t n keep (now new) (now out)) × (Cut (now file) MOOV 0 b) ⌝ }
     ensures { λ r. ⌜ Wrote (settled (now (file .entry)) (recordAt (In t n) keep (now (new .entry)) (now (file .entry)))) (now (out .entry)) r (now (out .exit)) ⌝ }
 {
-    let size = put_record(out, file, t, n, keep, new);
+    let span = put_record(out, file, t, n, keep, new);
     let by = By {
-        limit: b.at + b.size,
+        limit: b.at + b.span,
         low: 0,
-        high: size,
+        high: span,
         less: file.len(),
     };
-    edit_offsets::settle(out, size, by);
-    size
+    edit_offsets::settle(out, span, by);
+    span
 }
 
 // Writes the file with another record, and answers its length. It has a `moov`, since it meets the rules.

@@ -7,7 +7,6 @@ use mathlib.Core.List.{List, [], _∷_, _++_}
 use lib.IntN.{ℤ}
 use lib.ListN.{length, drop}
 use Rattle.wire.specs.Clauses.{oneIf, every}
-use Rattle.codes.specs.Codes.{MOOV, MVHD, TRAK, TKHD, MDIA, MDHD}
 use Rattle.wire.specs.Numbers.{Bytes}
 use Rattle.wire.specs.Writing.{Wrote}
 use Rattle.wire.proofs.Clauses.{fails, holds, decides, nay}
@@ -28,20 +27,19 @@ use Rattle.judge.specs.declared.Judgement.{Judgement}
 use Rattle.judge.specs.declared.Judgement.the-variants.{Accepted}
 use Rattle.judge.specs.Judgement.{judged}
 use Rattle.judge.proofs.Calls.{met, result-accepted}
-use Rattle.edit_shift.specs.Shift.{timesOf, allTimesBy, shiftOf, allTimes, shiftable, shiftResult}
+use Rattle.edit_shift.specs.Shift.{shiftOf, allTimes, shiftable, shiftResult}
 use Rattle.edit_shift.specs.Amount.{byZone, zoneText, zoneResult}
-use Rattle.edit_shift.proofs.Passing.{times-length}
+use Rattle.edit_shift.proofs.Passing.{all-length}
 use Rattle.edit_shift.proofs.Meaning.{leaves-are, shift-text}
 
 pub text-length : (z : Zone) (xs : List ℕ) → length (zoneText z xs) ≡ length xs
-unfolding zoneText allTimesBy
-text-length z xs =
-    times-length (timesOf MDIA MDHD) (moved (byZone z)) _ ∙ times-length (timesOf TRAK TKHD) (moved (byZone z)) _ ∙ times-length (timesOf MOOV MVHD) (moved (byZone z)) xs
+unfolding zoneText
+text-length z xs = all-length (moved (byZone z)) xs
 
 -- ---- by a zone
 
 pub zone-wrote : (z : Zone) (xs out : List ℕ) {n : ℕ} {left : List ℕ} → n ≡ length xs → left ≡ zoneText z xs ++ drop (length xs) out → Wrote (zoneText z xs) out n left
-zone-wrote z xs out m a = record { size = m ∙ sym (text-length z xs); is = a ∙ rw m }
+zone-wrote z xs out m a = record { span = m ∙ sym (text-length z xs); is = a ∙ rw m }
 
 -- ---- by minutes
 

@@ -1,4 +1,5 @@
 pub mod Asking
 pub mod Passing
+pub mod Passes
 pub mod Meaning
 pub mod Answering

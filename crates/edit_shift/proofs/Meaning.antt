@@ -9,22 +9,17 @@ use lib.IntN.{ℤ}
 use lib.ListN.{length}
 use borrow.Author.Tests.{eqb-true, eqb-false}
 use Rattle.wire.specs.Tests.{pick, ifEq}
-use Rattle.codes.specs.Codes.{MOOV, MVHD, TRAK, TKHD, MDIA, MDHD}
 use Rattle.wire.specs.Numbers.{Bytes}
-use Rattle.boxes.specs.Boxes.{boxes}
-use Rattle.boxes.specs.Kin.{All2}
 use Rattle.boxes.specs.Words.{moved}
 use Rattle.boxes.proofs.Wording.{moved-low, moved-high}
-use Rattle.mdat.specs.Relocate.{Alike}
-use Rattle.mdat.proofs.Staying.{alike-then}
 use Rattle.clocks.specs.declared.Zone.{Zone}
 use Rattle.clocks.specs.Clocks.{zoneOf, shiftTime, mayShift}
 use Rattle.clocks.specs.Zones.{leaves}
 use Rattle.clocks.proofs.Whole.{shift-is, may-is}
 use Rattle.edit_offsets.proofs.Settled.{settled-same}
-use Rattle.edit_shift.specs.Shift.{timesOf, timesBy, allTimesBy, shiftOf}
+use Rattle.edit_shift.specs.Shift.{allTimesBy, shiftOf}
 use Rattle.edit_shift.specs.Amount.{byZone, zoneText}
-use Rattle.edit_shift.proofs.Passing.{times-length, times-bytes, times-alike}
+use Rattle.edit_shift.proofs.Passing.{all-bytes, all-alike}
 
 ext : {A : Type 0} (f g : ℕ → A) → ((n : ℕ) → f n ≡ g n) → f ≡ g
 ext f g h = λ i n. h n i
@@ -44,23 +39,6 @@ times-are z = ext _ _ (λ t. sym (shift-is z t ∙ moved-is (zoneOf z) t))
 pub leaves-are : (z : ℤ) → leaves (zoneOf z) ≡ mayShift z
 leaves-are z = ext _ _ (λ t. sym (may-is z t))
 
--- ---- nothing moves
-
-module _ (f : ℕ → ℕ) (xs : List ℕ) (v : Bytes xs) (h : length xs < 4294967296) where
-  all-alike : All2 Alike (boxes xs) (boxes (allTimesBy f xs))
-  unfolding allTimesBy
-  all-alike =
-      let m = times-length (timesOf MOOV MVHD) f xs in
-      let w = times-bytes (timesOf MOOV MVHD) f xs v in
-      let n = times-length (timesOf TRAK TKHD) f (timesBy (timesOf MOOV MVHD) f xs) in
-      let u = times-bytes (timesOf TRAK TKHD) f (timesBy (timesOf MOOV MVHD) f xs) w in
-      alike-then (times-alike (timesOf MOOV MVHD) f xs v h)
-      (alike-then (times-alike (timesOf TRAK TKHD) f _ w (omega arith)) (times-alike (timesOf MDIA MDHD) f _ u (omega arith)))
-
-  all-bytes : Bytes (allTimesBy f xs)
-  unfolding allTimesBy
-  all-bytes = times-bytes (timesOf MDIA MDHD) f _ (times-bytes (timesOf TRAK TKHD) f _ (times-bytes (timesOf MOOV MVHD) f xs v))
-
 pub shift-text : (z : ℤ) (xs : List ℕ) → Bytes xs → length xs < 4294967296 → zoneText (zoneOf z) xs ≡ shiftOf z xs
 unfolding zoneText shiftOf
-shift-text z xs v h = rw (times-are z) (sym (settled-same xs (allTimesBy (shiftTime z) xs) (all-alike (shiftTime z) xs v h) (all-bytes (shiftTime z) xs v h)))
+shift-text z xs v h = rw (times-are z) (sym (settled-same xs (allTimesBy (shiftTime z) xs) (all-alike (shiftTime z) xs v h) (all-bytes (shiftTime z) xs v)))

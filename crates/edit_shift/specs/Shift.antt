@@ -4,16 +4,16 @@ use Prim.Native.Nat.{ℕ}
 use mathlib.Core.Bool.{Bool}
 use mathlib.Core.List.{List, [], _∷_}
 use lib.IntN.{ℤ}
-use Rattle.wire.specs.Clauses.{every}
+use Rattle.wire.specs.Tests.{pick}
+use Rattle.wire.specs.Clauses.{isEq, every, either}
 use Rattle.wire.specs.Numbers.{word}
 use Rattle.wire.specs.Sums.{allTo}
 use Rattle.codes.specs.Codes.{MOOV, MVHD, TRAK, TKHD, MDIA, MDHD}
-use Rattle.boxes.specs.declared.words.Target.{Target}
 use Rattle.boxes.specs.Boxes.{boxes}
 use Rattle.boxes.specs.Containers.{FILE, DEPTH}
 use Rattle.boxes.specs.Seek.{find}
-use Rattle.boxes.specs.Rewrite.{editIn}
-use Rattle.boxes.specs.Words.{rewordLeaf}
+use Rattle.boxes.specs.Rewrite.{Leaves, editIn}
+use Rattle.boxes.specs.Words.{reword}
 use Rattle.clocks.specs.Clocks.{zoneFine, shiftTime, mayShift}
 use Rattle.movie.specs.Movie.{movie, tracks, track, mdia}
 use Rattle.rule.specs.Results.{Result}
@@ -23,15 +23,28 @@ use Rattle.edit_offsets.specs.Settle.{settled}
 
 -- ---- its meaning
 
--- the two times of the boxes of a code in a kind of container: "creation time at 4, modification at 8"
-abbrev pub timesOf : ℕ → ℕ → Target
-timesOf kind code = record { kind = kind; code = code; from = 4; span = 8 }
+-- the opaque boxes with times, by the container's kind k and the code c
+unfoldable pub timed : ℕ → ℕ → Bool
+timed k c =
+    either
+    (every (isEq k MOOV ∷ isEq c MVHD ∷ [])
+    ∷ every (isEq k TRAK ∷ isEq c TKHD ∷ [])
+    ∷ every (isEq k MDIA ∷ isEq c MDHD ∷ [])
+    ∷ [])
 
-abbrev pub timesBy : Target → (ℕ → ℕ) → List ℕ → List ℕ
-timesBy t f xs = editIn (rewordLeaf t f) DEPTH FILE xs
+-- "creation time at 4, modification at 8"
+abbrev pub CREATION : ℕ
+CREATION = 4
+
+abbrev pub MODIFICATION : ℕ
+MODIFICATION = 8
+
+-- both times of such a box by f
+unfoldable pub timesLeaf : (ℕ → ℕ) → Leaves
+timesLeaf f k c b = pick (timed k c) (reword f CREATION 8 b) b
 
 unfoldable pub allTimesBy : (ℕ → ℕ) → List ℕ → List ℕ
-allTimesBy f xs = timesBy (timesOf MDIA MDHD) f (timesBy (timesOf TRAK TKHD) f (timesBy (timesOf MOOV MVHD) f xs))
+allTimesBy f xs = editIn (timesLeaf f) DEPTH FILE xs
 
 unfoldable pub shiftOf : ℤ → List ℕ → List ℕ
 shiftOf z xs = settled xs (allTimesBy (shiftTime z) xs)
@@ -40,7 +53,7 @@ shiftOf z xs = settled xs (allTimesBy (shiftTime z) xs)
 
 -- p of both times of a header
 unfoldable pub both : (ℕ → Bool) → List ℕ → Bool
-both p b = every (p (word 4 b 4) ∷ p (word 4 b 8) ∷ [])
+both p b = every (p (word 4 b CREATION) ∷ p (word 4 b MODIFICATION) ∷ [])
 
 -- and of a track's two headers
 unfoldable pub trackTimes : (ℕ → Bool) → List ℕ → Bool

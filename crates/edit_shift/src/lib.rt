@@ -14,12 +14,13 @@ ghost use mathlib.Core.List.{_++_};
 ghost use Prim.Native.Nat.{_≤_};
 ghost use lib.ListN.{length, drop};
 ghost use Rattle.wire.specs.Clauses.{oneIf};
+ghost use Rattle.boxes.specs.Containers.{LONGEST};
 ghost use Rattle.boxes.specs.Words.{moved, Small};
 ghost use Rattle.clocks.specs.Zones.{Near, leaves};
 ghost use Rattle.rule.specs.Results.{Exact};
 ghost use Rattle.judge.specs.Acceptance.{Meets};
-ghost use Rattle.edit_shift.specs.Shift.{timesOf, both as bothOf, trackTimes, allTimes, allTimesBy, shiftResult};
-ghost use Rattle.edit_shift.specs.Amount.{zoneResult};
+ghost use Rattle.edit_shift.specs.Shift.{both as bothOf, trackTimes, allTimes, allTimesBy, shiftResult};
+ghost use Rattle.edit_shift.specs.Amount.{timesOf, zoneResult};
 
 // Whether both times of a header may be shifted: 1 or 0.
 fn both(head: &[u8], zone: Zone) -> usize
@@ -84,7 +85,7 @@ fn times(kind: usize, code: usize) -> Target
 
 // Writes the file with its times shifted.
 fn put_shifted(out: &mut [u8], file: &[u8], by: By)
-    requires { ⌜ (Small by) × (length (now file) ≤ length (now out)) ⌝ }
+    requires { ⌜ (Small by) × (length (now file) ≤ length (now out)) × (length (now file) ≤ LONGEST) ⌝ }
     ensures { λ _. ⌜ now (out .exit) ≡ allTimesBy (moved by) (now (file .entry)) ++ drop (length (now (file .entry))) (now (out .entry)) ⌝ }
 {
     let n = pen::copy(out, file);

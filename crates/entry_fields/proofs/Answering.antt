@@ -26,7 +26,7 @@ use Rattle.entry_fields.specs.Numbers.{recordOf, isRecord, readResult, w
 -- ---- numbers into a list
 
 pub put-fits : (ns out : List ℕ) → length ns ≤ length out → Exact (gives ns) out (Done (length ns)) (sets out 0 ns)
-put-fits ns out h = let z : 0 + length ns ≡ length ns = omega arith in exact-wrote ns out h (record { size = refl; is = rw z at (sets-eq ns out 0 (omega arith)) })
+put-fits ns out h = let z : 0 + length ns ≡ length ns = omega arith in exact-wrote ns out h (record { span = refl; is = rw z at (sets-eq ns out 0 (omega arith)) })
 
 -- ---- the reader
 

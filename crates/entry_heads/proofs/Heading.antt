@@ -18,17 +18,17 @@ use Rattle.entry_heads.specs.Kinds.{S263Kind, Avc1Kind, handlerOf}
 use Rattle.entry_heads.specs.Heads.{boxHeader, commonHead, audioHead, visualStart, visualHead, COMMON, AUDIO, VISUAL, headSize, commonRule, audioRule, nameRule, visualRule, headRule}
 
 -- the front of a part, a box's header longer
-pub grow-header : (xs : List ℕ) → Bytes xs → {p : List ℕ} (at size code : ℕ) → at + 8 ≤ length xs → word 4 xs at ≡ size → word 4 xs (at + 4) ≡ code
-    → take at xs ≡ p → take (at + 8) xs ≡ p ++ boxHeader size code
+pub grow-header : (xs : List ℕ) → Bytes xs → {p : List ℕ} (at span code : ℕ) → at + 8 ≤ length xs → word 4 xs at ≡ span → word 4 xs (at + 4) ≡ code
+    → take at xs ≡ p → take (at + 8) xs ≡ p ++ boxHeader span code
 unfolding boxHeader
-grow-header xs b {p} at size code h e f t =
+grow-header xs b {p} at span code h e f t =
     let s : at + 8 ≡ at + 4 + 4 = omega arith in
-    ap (λ (n : ℕ). take n xs) s ∙ grow xs b (at + 4) 4 code (omega arith) f (grow xs b at 4 size (omega arith) e t) ∙ append-assoc p (bytes 4 size) (bytes 4 code)
+    ap (λ (n : ℕ). take n xs) s ∙ grow xs b (at + 4) 4 code (omega arith) f (grow xs b at 4 span (omega arith) e t) ∙ append-assoc p (bytes 4 span) (bytes 4 code)
 
 -- ---- what has the rule begins with the head
 
 module _ (xs : List ℕ) (b : Bytes xs) where
-  common-begins : 16 ≤ length xs → word 6 xs 8 ≡ 0 → take 16 xs ≡ commonHead (word 4 xs 0) (word 4 xs 4) (word 2 xs 14)
+  pub common-begins : 16 ≤ length xs → word 6 xs 8 ≡ 0 → take 16 xs ≡ commonHead (word 4 xs 0) (word 4 xs 4) (word 2 xs 14)
   unfolding commonHead
   common-begins l e = grow xs b 14 2 _ (omega arith) refl (grow xs b 8 6 0 (omega arith) e (grow-header xs b 0 _ _ (omega arith) refl refl refl))
 
@@ -99,15 +99,25 @@ module _ (xs ys : List ℕ) where
 
 -- ---- what the writers make has the rule
 
-module _ (xs : List ℕ) (size code reference : ℕ) where
-  pub audio-made : (scale : ℕ) → take AUDIO xs ≡ audioHead size code reference scale → audioRule xs ≡ true
+module _ (xs : List ℕ) (span code reference : ℕ) where
+  pub audio-made : (scale : ℕ) → take AUDIO xs ≡ audioHead span code reference scale → audioRule xs ≡ true
   unfolding audioRule audioHead commonHead boxHeader bytes bytesOn word ifLe isEq isLe every
-  audio-made scale e = audio-alike (audioHead size code reference scale) xs (omega (arith, length-take 36 xs, ap length e)) (λ w k h. word-front 36 xs _ e refl w (4 + k) h) refl
+  audio-made scale e = audio-alike (audioHead span code reference scale) xs (omega (arith, length-take 36 xs, ap length e)) (λ w k h. word-front 36 xs _ e refl w (4 + k) h) refl
 
-  pub visual-made : (width height : ℕ) → take VISUAL xs ≡ visualHead size code reference width height (bytes 32 0) → visualRule S263Kind xs ≡ true
-  unfolding visualRule nameRule visualHead visualStart commonHead boxHeader bytes bytesOn word ifEq ifLe isEq isLe every
-  visual-made width height e =
-      visual-alike (visualHead size code reference width height (bytes 32 0)) xs S263Kind (omega (arith, length-take 86 xs, ap length e)) (λ w k h. word-front 86 xs _ e refl w (4 + k) h) refl
+  pub common-made : take COMMON xs ≡ commonHead span code reference → commonRule xs ≡ true
+  unfolding commonRule commonHead boxHeader bytes bytesOn word ifLe isEq isLe every
+  common-made e = common-alike (commonHead span code reference) xs (omega (arith, length-take 16 xs, ap length e)) (λ w k h. word-front 16 xs _ e refl w (4 + k) h) refl
+
+  -- the name is a number of 32 bytes: any in `avc1`, and else 0
+  module _ (kind name : ℕ) (z : (kind ≡ Avc1Kind → ⊥) → name ≡ 0) (width height : ℕ) where
+    named : nameRule kind (visualHead span code reference width height (bytes 32 name)) ≡ true
+    unfolding nameRule visualHead visualStart commonHead boxHeader bytes bytesOn word ifLe isEq
+    named = eq-or kind Avc1Kind (λ e. sym (eq-yea _ _ _ _ _ e refl)) (λ e. rw (z e) (sym (eq-nay _ _ _ _ _ e refl)))
+
+    pub visual-made : take VISUAL xs ≡ visualHead span code reference width height (bytes 32 name) → visualRule kind xs ≡ true
+    unfolding visualRule visualHead visualStart commonHead boxHeader bytes bytesOn word ifLe isEq isLe every
+    visual-made e =
+        visual-alike (visualHead span code reference width height (bytes 32 name)) xs kind (omega (arith, length-take 86 xs, ap length e)) (λ w k h. word-front 86 xs _ e refl w (4 + k) h) (rw named)
 
 -- ---- by the handler of a kind
 
@@ -131,11 +141,11 @@ module _ (kind : ℕ) where
     visual-rule xs = sym (eq-nay _ _ _ _ _ (λ e. omega arith) (eq-yea _ _ _ _ _ h refl))
 
   module _ (h : handlerOf kind ≡ SOUN → ⊥) (g : handlerOf kind ≡ VIDE → ⊥) where
-    common-size : headSize kind ≡ COMMON
+    pub common-size : headSize kind ≡ COMMON
     unfolding headSize
     common-size = sym (eq-nay _ _ _ _ _ h (eq-nay _ _ _ _ _ g refl))
 
-    common-rule : (xs : List ℕ) → headRule kind xs ≡ commonRule xs
+    pub common-rule : (xs : List ℕ) → headRule kind xs ≡ commonRule xs
     unfolding headRule
     common-rule xs = sym (eq-nay _ _ _ _ _ h (eq-nay _ _ _ _ _ g refl))
 

@@ -1,2 +1,3 @@
 pub mod Heading
+pub mod Tied
 pub mod Coding

@@ -11,26 +11,26 @@ use Rattle.entry_heads.specs.Kinds.{Avc1Kind, handlerOf}
 
 -- the header of a box
 unfoldable pub boxHeader : ℕ → ℕ → List ℕ
-boxHeader size code = bytes 4 size ++ bytes 4 code
+boxHeader span code = bytes 4 span ++ bytes 4 code
 
 -- all begin with 6 zero bytes and a data reference index
 unfoldable pub commonHead : ℕ → ℕ → ℕ → List ℕ
-commonHead size code reference = boxHeader size code ++ bytes 6 0 ++ bytes 2 reference
+commonHead span code reference = boxHeader span code ++ bytes 6 0 ++ bytes 2 reference
 
 -- audio: then 8 zero bytes, 2, 16, 4 zero bytes, TimeScale, 2 zero bytes
 unfoldable pub audioHead : ℕ → ℕ → ℕ → ℕ → List ℕ
-audioHead size code reference scale =
-    commonHead size code reference ++ bytes 8 0 ++ bytes 2 2 ++ bytes 2 16 ++ bytes 4 0 ++ bytes 2 scale ++ bytes 2 0
+audioHead span code reference scale =
+    commonHead span code reference ++ bytes 8 0 ++ bytes 2 2 ++ bytes 2 16 ++ bytes 4 0 ++ bytes 2 scale ++ bytes 2 0
 
 -- visual: then 16 zero bytes, width, height, 0x00480000 twice,
 unfoldable pub visualStart : ℕ → ℕ → ℕ → ℕ → ℕ → List ℕ
-visualStart size code reference width height =
-    commonHead size code reference ++ bytes 16 0 ++ bytes 2 width ++ bytes 2 height ++ bytes 4 0x00480000 ++ bytes 4 0x00480000
+visualStart span code reference width height =
+    commonHead span code reference ++ bytes 16 0 ++ bytes 2 width ++ bytes 2 height ++ bytes 4 0x00480000 ++ bytes 4 0x00480000
 
 -- 4 zero bytes, 1, a name of 32 bytes, 24, 0xFFFF
 unfoldable pub visualHead : ℕ → ℕ → ℕ → ℕ → ℕ → List ℕ → List ℕ
-visualHead size code reference width height name =
-    visualStart size code reference width height ++ bytes 4 0 ++ bytes 2 1 ++ name ++ bytes 2 24 ++ bytes 2 0xFFFF
+visualHead span code reference width height name =
+    visualStart span code reference width height ++ bytes 4 0 ++ bytes 2 1 ++ name ++ bytes 2 24 ++ bytes 2 0xFFFF
 
 -- the lengths of the three
 abbrev pub COMMON : ℕ
@@ -85,3 +85,14 @@ visualRule kind xs =
 
 unfoldable pub headRule : ℕ → List ℕ → Bool
 headRule kind xs = ifEq (handlerOf kind) SOUN (audioRule xs) (ifEq (handlerOf kind) VIDE (visualRule kind xs) (commonRule xs))
+
+-- ---- the head that the writers make of the fields that stand in an entry
+
+unfoldable pub nameIn : ℕ → List ℕ → List ℕ
+nameIn kind xs = bytes 32 (ifEq kind Avc1Kind (word 32 xs 50) 0)
+
+unfoldable pub headIn : ℕ → List ℕ → List ℕ
+headIn kind xs =
+    ifEq (handlerOf kind) SOUN (audioHead (word 4 xs 0) (word 4 xs 4) (word 2 xs 14) (word 2 xs 32))
+    (ifEq (handlerOf kind) VIDE (visualHead (word 4 xs 0) (word 4 xs 4) (word 2 xs 14) (word 2 xs 32) (word 2 xs 34) (nameIn kind xs))
+    (commonHead (word 4 xs 0) (word 4 xs 4) (word 2 xs 14)))

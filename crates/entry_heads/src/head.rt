@@ -19,19 +19,19 @@ const AUDIO: usize = 36;
 const VISUAL: usize = 86;
 
 // Writes the beginning of all entries.
-fn put_common(out: &mut [u8], size: usize, code: usize, reference: usize) -> usize
-    ensures { λ r. ⌜ Put (commonHead size code reference) (now (out .entry)) 0 r (now (out .exit)) × (r ≡ 16) ⌝ }
+fn put_common(out: &mut [u8], span: usize, code: usize, reference: usize) -> usize
+    ensures { λ r. ⌜ Put (commonHead span code reference) (now (out .entry)) 0 r (now (out .exit)) × (r ≡ 16) ⌝ }
 {
-    let a = put::header(out, 0, size, code);
+    let a = put::header(out, 0, span, code);
     let b = pen::put_number(out, a, 6, 0);
     pen::put_number(out, b, 2, reference)
 }
 
 // Writes the head of an audio entry.
-pub fn put_audio(out: &mut [u8], size: usize, code: usize, reference: usize, scale: usize) -> usize
-    ensures { λ r. ⌜ Put (audioHead size code reference scale) (now (out .entry)) 0 r (now (out .exit)) × (r ≡ 36) ⌝ }
+pub fn put_audio(out: &mut [u8], span: usize, code: usize, reference: usize, scale: usize) -> usize
+    ensures { λ r. ⌜ Put (audioHead span code reference scale) (now (out .entry)) 0 r (now (out .exit)) × (r ≡ 36) ⌝ }
 {
-    let a = put_common(out, size, code, reference);
+    let a = put_common(out, span, code, reference);
     let b = pen::put_number(out, a, 8, 0);
     let c = pen::put_number(out, b, 2, 2);
     let d = pen::put_number(out, c, 2, 16);
@@ -43,15 +43,15 @@ pub fn put_audio(out: &mut [u8], size: usize, code: usize, reference: usize, sca
 // Writes the head of a visual entry up to its resolutions.
 fn put_visual_start(
     out: &mut [u8],
-    size: usize,
+    span: usize,
     code: usize,
     reference: usize,
     width: usize,
     height: usize,
 ) -> usize
-    ensures { λ r. ⌜ Put (visualStart size code reference width height) (now (out .entry)) 0 r (now (out .exit)) × (r ≡ 44) ⌝ }
+    ensures { λ r. ⌜ Put (visualStart span code reference width height) (now (out .entry)) 0 r (now (out .exit)) × (r ≡ 44) ⌝ }
 {
-    let a = put_common(out, size, code, reference);
+    let a = put_common(out, span, code, reference);
     let b = pen::put_number(out, a, 16, 0);
     let c = pen::put_number(out, b, 2, width);
     let d = pen::put_number(out, c, 2, height);
@@ -62,7 +62,7 @@ fn put_visual_start(
 // Writes the head of a visual entry.
 pub fn put_visual(
     out: &mut [u8],
-    size: usize,
+    span: usize,
     code: usize,
     reference: usize,
     width: usize,
@@ -70,9 +70,9 @@ pub fn put_visual(
     name: &[u8],
 ) -> usize
     requires { ⌜ length (now name) ≡ 32 ⌝ }
-    ensures { λ r. ⌜ Put (visualHead size code reference width height (now (name .entry))) (now (out .entry)) 0 r (now (out .exit)) × (r ≡ 86) ⌝ }
+    ensures { λ r. ⌜ Put (visualHead span code reference width height (now (name .entry))) (now (out .entry)) 0 r (now (out .exit)) × (r ≡ 86) ⌝ }
 {
-    let a = put_visual_start(out, size, code, reference, width, height);
+    let a = put_visual_start(out, span, code, reference, width, height);
     let b = pen::put_number(out, a, 4, 0);
     let c = pen::put_number(out, b, 2, 1);
     let d = pen::put_part(out, c, name);

@@ -36,7 +36,7 @@ module _ (most kind : ℕ) (xs : List ℕ) (b : Bytes xs) (s : Spoken kind) (k :
   head : take 36 xs ≡ audioHead 53 (codeOf kind) (word 2 xs 14) (word 2 xs 32)
   head =
       let c : word 4 xs 4 ≡ codeOf kind = kind-code (word 4 xs 4) kind k (λ z. ⊎-elim (λ e. omega arith) (λ e. omega arith) s) in
-      audio-begins xs b (p .head) ∙ rw (p .size, c)
+      audio-begins xs b (p .head) ∙ rw (p .span, c)
 
   pub amr-again : amrText (amrIn kind xs) ≡ xs
   unfolding amrText

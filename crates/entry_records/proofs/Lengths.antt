@@ -14,9 +14,9 @@ pub amr-length : (f : Amr) → length (amrText f) ≡ 53
 unfolding amrText audioHead commonHead boxHeader bytes bytesOn
 amr-length f = refl
 
-pub plain-length : (size inner : ℕ) (f : H263) → length (plainText size inner f) ≡ 101
+pub plain-length : (span inner : ℕ) (f : H263) → length (plainText span inner f) ≡ 101
 unfolding plainText visualHead visualStart commonHead boxHeader bytes bytesOn
-plain-length size inner f = refl
+plain-length span inner f = refl
 
 pub rated-length : (f : H263) → length (ratedText f) ≡ 117
 unfolding ratedText plainText visualHead visualStart commonHead boxHeader bytes bytesOn

@@ -49,7 +49,7 @@ module _ (xs : List ℕ) (b : Bytes xs) where
         (grow xs b 99 1 _ (omega arith) refl
         (grow xs b 98 1 _ (omega arith) refl
         (grow xs b 94 4 _ (omega arith) refl
-        (grow-header xs b 86 n D263 (omega arith) (p .inner) (p .code) (rw (p .size, c, z) at (visual-begins xs b S263Kind (p .head)))))))
+        (grow-header xs b 86 n D263 (omega arith) (p .inner) (p .code) (rw (p .span, c, z) at (visual-begins xs b S263Kind (p .head)))))))
 
     module _ (p : PictureAt 15 xs) where
       plain : Plain (ratesIn xs)
@@ -82,5 +82,5 @@ module _ (xs : List ℕ) (b : Bytes xs) where
                 (eq-yea _ _ _ _ _ (rated .flag)
                 (sym (take-all 117 xs (omega arith))
                 ∙ grow xs b 113 4 _ (omega arith) refl
-                (grow xs b 109 4 _ (omega arith) refl (grow-header xs b 101 16 BITR (omega arith) (p .size) (p .code) (start 31 (omega arith) (p .start)))))),
+                (grow xs b 109 4 _ (omega arith) refl (grow-header xs b 101 16 BITR (omega arith) (p .span) (p .code) (start 31 (omega arith) (p .start)))))),
           )

@@ -54,4 +54,4 @@ module _ (f : H263) (a : h263Rule f ≡ true) where
         shows f a 31 (omega arith) (omega arith) _ start (rated-length f) (rw (c, rates .2, rates .3))
 
     pub rated-at : RatedAt (ratedText f)
-    rated-at = record { start = rated-shows .start; size = rates .0; code = rates .1 }
+    rated-at = record { start = rated-shows .start; span = rates .0; code = rates .1 }

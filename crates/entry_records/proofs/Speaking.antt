@@ -26,7 +26,7 @@ code-fits kind s = ⊎-elim (λ e. rw e (omega arith)) (λ e. rw e (omega arith)
 
 -- what stands where in it
 pub record AmrWords (f : Amr) (xs : List ℕ) : Type 0 where
-  pub size : word 4 xs 0 ≡ 53
+  pub span : word 4 xs 0 ≡ 53
   pub code : word 4 xs 4 ≡ codeOf (f .kind)
   pub reference : word 2 xs 14 ≡ f .reference
   pub scale : word 2 xs 32 ≡ f .scale
@@ -43,7 +43,7 @@ module _ (most : ℕ) (f : Amr) (s : Spoken (f .kind)) (a : amrRule most f ≡ t
   unfolding amrRule amrText audioHead commonHead boxHeader bytes bytesOn word ifLe
   amr-words =
       record {
-        size = refl;
+        span = refl;
         code = word-bytes 4 (codeOf (f .kind)) [] (code-fits (f .kind) s);
         reference = word-bytes 2 (f .reference) [] (lt-is _ _ (clause 1 _ a));
         scale = word-bytes 2 (f .scale) [] (lt-is _ _ (clause 2 _ a));
@@ -66,7 +66,7 @@ module _ (most : ℕ) (f : Amr) (s : Spoken (f .kind)) (a : amrRule most f ≡ t
       let w = amr-words in
       record {
         long = amr-length f;
-        size = w .size;
+        span = w .span;
         head = audio-made (amrText f) 53 (codeOf (f .kind)) (f .reference) (f .scale) amr-front;
         inner = w .inner;
         code = w .damr;

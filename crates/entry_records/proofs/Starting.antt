@@ -11,6 +11,7 @@ use Rattle.wire.specs.Numbers.{bytesOn, bytes, word}
 use Rattle.codes.specs.Codes.{S263, D263}
 use Rattle.wire.proofs.Clauses.{lt-is, clause}
 use Rattle.wire.proofs.Numbers.{word-bytes, word-front}
+use Rattle.entry_heads.specs.Kinds.{S263Kind}
 use Rattle.entry_heads.specs.Heads.{boxHeader, commonHead, visualStart, visualHead}
 use Rattle.entry_heads.proofs.Heading.{visual-made}
 use Rattle.entry_rules.proofs.Picture.{PictureAt}
@@ -21,7 +22,7 @@ use Rattle.entry_records.proofs.Lengths.{plain-length}
 
 -- what stands where up to the profile
 pub record PictureWords (n : ℕ) (f : H263) (xs : List ℕ) : Type 0 where
-  pub size : word 4 xs 0 ≡ 86 + n
+  pub span : word 4 xs 0 ≡ 86 + n
   pub code : word 4 xs 4 ≡ S263
   pub reference : word 2 xs 14 ≡ f .reference
   pub width : word 2 xs 32 ≡ f .width
@@ -47,7 +48,7 @@ module _ (f : H263) (a : h263Rule f ≡ true) where
     unfolding h263Rule plainText visualHead visualStart commonHead boxHeader bytes bytesOn word ifLe
     picture-words =
         record {
-          size = up 4 0 (omega arith) ∙ word-bytes 4 (86 + n) [] (omega arith);
+          span = up 4 0 (omega arith) ∙ word-bytes 4 (86 + n) [] (omega arith);
           code = up 4 4 (omega arith);
           reference = up 2 14 (omega arith) ∙ word-bytes 2 (f .reference) [] (lt-is _ _ (clause 0 _ a));
           width = up 2 32 (omega arith) ∙ word-bytes 2 (f .width) [] (lt-is _ _ (clause 1 _ a));
@@ -68,8 +69,8 @@ module _ (f : H263) (a : h263Rule f ≡ true) where
         let w = picture-words in
         record {
           long = l;
-          size = w .size;
-          head = visual-made xs (86 + n) S263 (f .reference) (f .width) (f .height) front;
+          span = w .span;
+          head = visual-made xs (86 + n) S263 (f .reference) S263Kind 0 (λ e. refl) (f .width) (f .height) front;
           inner = w .inner;
           code = w .d263;
         }

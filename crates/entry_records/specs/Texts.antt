@@ -19,8 +19,8 @@ amrText f =
 
 -- a head, and a `d263` up to its profile; the two boxes have these sizes
 unfoldable pub plainText : ℕ → ℕ → H263 → List ℕ
-plainText size inner f =
-    visualHead size S263 (f .reference) (f .width) (f .height) (bytes 32 0) ++ boxHeader inner D263
+plainText span inner f =
+    visualHead span S263 (f .reference) (f .width) (f .height) (bytes 32 0) ++ boxHeader inner D263
     ++ bytes 4 (f .vendor) ++ bytes 1 (f .version) ++ bytes 1 (f .level) ++ bytes 1 (f .profile)
 
 -- then nothing, or a `bitr`

@@ -26,12 +26,12 @@ fn put_amr(out: &mut [u8], f: Amr) -> usize
 }
 
 // Writes an `s263` entry up to its profile; the two sizes are those of the entry and of its `d263`.
-fn put_plain(out: &mut [u8], size: usize, inner: usize, f: H263) -> usize
-    ensures { λ r. ⌜ Put (plainText size inner f) (now (out .entry)) 0 r (now (out .exit)) × (r ≡ 101) ⌝ }
+fn put_plain(out: &mut [u8], span: usize, inner: usize, f: H263) -> usize
+    ensures { λ r. ⌜ Put (plainText span inner f) (now (out .entry)) 0 r (now (out .exit)) × (r ≡ 101) ⌝ }
 {
     let a = head::put_visual(
         out,
-        size,
+        span,
         codes::S263,
         f.reference,
         f.width,

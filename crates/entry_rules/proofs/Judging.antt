@@ -16,7 +16,7 @@ use Rattle.entry_rules.specs.Entries.{aroundRule, insideRule, ruleAs}
 
 -- an entry of a kind meets its rule
 pub record Met (kind : ℕ) (around : Around) (most : ℕ) (xs : List ℕ) : Type 0 where
-  pub size : word 4 xs 0 ≡ length xs
+  pub span : word 4 xs 0 ≡ length xs
   pub head : headRule kind xs ≡ true
   pub fits : aroundRule around kind xs ≡ true
   pub inside : insideRule kind most (drop (headSize kind) xs) ≡ true
@@ -24,11 +24,11 @@ pub record Met (kind : ℕ) (around : Around) (most : ℕ) (xs : List ℕ) : Typ
 module _ (kind : ℕ) (around : Around) (most : ℕ) (xs : List ℕ) where
   pub rule-met : ruleAs kind around most xs ≡ true → Met kind around most xs
   unfolding ruleAs
-  rule-met e = record { size = eq-is _ _ (clause 0 _ e); head = clause 1 _ e; fits = clause 2 _ e; inside = clause 3 _ e }
+  rule-met e = record { span = eq-is _ _ (clause 0 _ e); head = clause 1 _ e; fits = clause 2 _ e; inside = clause 3 _ e }
 
   pub rule-is : Met kind around most xs → ruleAs kind around most xs ≡ true
   unfolding ruleAs
-  rule-is m = sym (holds _ _ (is-eq _ _ (m .size)) (holds _ _ (m .head) (holds _ _ (m .fits) (holds _ _ (m .inside) done))))
+  rule-is m = sym (holds _ _ (is-eq _ _ (m .span)) (holds _ _ (m .head) (holds _ _ (m .fits) (holds _ _ (m .inside) done))))
 
 -- what follows the head of `samr`, `sawb` and `s263` is a decoder record
 pub inside-record : (kind most : ℕ) (xs : List ℕ) → SamrKind ≤ kind → kind ≤ S263Kind → insideRule kind most xs ≡ recordRule kind most xs

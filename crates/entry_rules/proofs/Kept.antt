@@ -77,7 +77,7 @@ entry-kept around most kind xs ys k e r =
     rw (w 4 0 (omega arith), k)
     (rule-is kind around most (behindHead (headSize kind) xs ys)
     (record {
-      size = new-size (headSize kind) xs ys h i s ∙ sym l;
+      span = new-size (headSize kind) xs ys h i s ∙ sym l;
       head = head-alike kind xs (behindHead (headSize kind) xs ys) (omega arith) w (m .head);
       fits = around-same around kind xs (behindHead (headSize kind) xs ys) (w 2 10 (omega arith)) (w 2 28 (omega arith)) ∙ m .fits;
       inside = rw (new-rest (headSize kind) xs ys h i s) (inside-record kind most ys (d .least) (d .most) ∙ r);

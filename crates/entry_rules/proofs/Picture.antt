@@ -22,7 +22,7 @@ use Rattle.entry_rules.proofs.Judging.{Met, rule-met, rule-is, inside-r
 -- a head, and behind it the start of a `d263` of n bytes
 pub record PictureAt (n : ℕ) (xs : List ℕ) : Type 0 where
   pub long : length xs ≡ 86 + n
-  pub size : word 4 xs 0 ≡ 86 + n
+  pub span : word 4 xs 0 ≡ 86 + n
   pub head : visualRule S263Kind xs ≡ true
   pub inner : word 4 xs 86 ≡ n
   pub code : word 4 xs 90 ≡ D263
@@ -30,7 +30,7 @@ pub record PictureAt (n : ℕ) (xs : List ℕ) : Type 0 where
 -- with a `bitr` that ends it
 pub record RatedAt (xs : List ℕ) : Type 0 where
   pub start : PictureAt 31 xs
-  pub size : word 4 xs 101 ≡ 16
+  pub span : word 4 xs 101 ≡ 16
   pub code : word 4 xs 105 ≡ BITR
 
 module _ (most : ℕ) (xs : List ℕ) where
@@ -54,7 +54,7 @@ module _ (most : ℕ) (xs : List ℕ) where
         let k : length xs ≡ 86 + (15 + n) = omega (arith, length-drop 86 xs) in
         record {
           long = k;
-          size = m .size ∙ k;
+          span = m .span ∙ k;
           head = sym (visual-rule S263Kind vide xs) ∙ m .head;
           inner = sym (word-drop 4 86 xs 0) ∙ b .0 ∙ l;
           code = sym (word-drop 4 86 xs 4) ∙ b .1;
@@ -72,7 +72,7 @@ module _ (most : ℕ) (xs : List ℕ) where
         inr
         (record {
           start = start-met 16 m l (clause 0 _ d);
-          size = sym (further 0) ∙ b .0 ∙ (length-drop 15 (drop 86 xs) ∙ ap (λ (n : ℕ). n - 15) l);
+          span = sym (further 0) ∙ b .0 ∙ (length-drop 15 (drop 86 xs) ∙ ap (λ (n : ℕ). n - 15) l);
           code = sym (further 4) ∙ b .1;
         }))
 
@@ -85,7 +85,7 @@ module _ (most : ℕ) (xs : List ℕ) where
           let b = box-is D263 (drop 86 xs) (word-drop 4 86 xs 0 ∙ p .inner ∙ sym l) (word-drop 4 86 xs 4 ∙ p .code) in
           rule-is S263Kind around most xs
           (record {
-            size = p .size ∙ sym (p .long);
+            span = p .span ∙ sym (p .long);
             head = visual-rule S263Kind vide xs ∙ p .head;
             fits = f;
             inside = rw (visual-size S263Kind vide) (inside ∙ sym (holds _ _ b (holds _ _ r done)));
@@ -100,5 +100,5 @@ module _ (most : ℕ) (xs : List ℕ) where
       rated-is p =
           let l : length (drop 86 xs) ≡ 31 = rw (length-drop, p .start .long) in
           let k : length (drop 15 (drop 86 xs)) ≡ 16 = rw (length-drop, l) in
-          let b = box-is BITR (drop 15 (drop 86 xs)) (further 0 ∙ p .size ∙ sym k) (further 4 ∙ p .code) in
+          let b = box-is BITR (drop 15 (drop 86 xs)) (further 0 ∙ p .span ∙ sym k) (further 4 ∙ p .code) in
           start-is 31 (p .start) (sym (one 1 _ (sym (holds _ _ (is-eq _ _ l) (holds _ _ b done)))))

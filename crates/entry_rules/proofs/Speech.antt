@@ -27,7 +27,7 @@ Spoken kind = (kind ≡ SamrKind) ⊎ (kind ≡ SawbKind)
 -- a head, and a `damr` behind it
 pub record SpeechAt (kind most : ℕ) (xs : List ℕ) : Type 0 where
   pub long : length xs ≡ 53
-  pub size : word 4 xs 0 ≡ 53
+  pub span : word 4 xs 0 ≡ 53
   pub head : audioRule xs ≡ true
   pub inner : word 4 xs 36 ≡ 17
   pub code : word 4 xs 40 ≡ DAMR
@@ -57,7 +57,7 @@ module _ (kind most : ℕ) (xs : List ℕ) (s : Spoken kind) where
         let n : length xs ≡ 53 = omega (arith, length-drop 36 xs) in
         record {
           long = n;
-          size = m .size ∙ n;
+          span = m .span ∙ n;
           head = sym (audio-rule kind soun xs) ∙ m .head;
           inner = sym (word-drop 4 36 xs 0) ∙ b .0 ∙ l;
           code = sym (word-drop 4 36 xs 4) ∙ b .1;
@@ -72,7 +72,7 @@ module _ (kind most : ℕ) (xs : List ℕ) (s : Spoken kind) where
         let w : framesRule kind most (word 2 (drop 36 xs) 13) (word 1 (drop 36 xs) 15) (word 1 (drop 36 xs) 16) ≡ true = rw (word-drop 2 36 xs 13, word-drop 1 36 xs 15, word-drop 1 36 xs 16) (p .frames) in
         rule-is kind around most xs
         (record {
-          size = p .size ∙ sym (p .long);
+          span = p .span ∙ sym (p .long);
           head = audio-rule kind soun xs ∙ p .head;
           fits = f;
           inside = rw (audio-size kind soun) (inside ∙ sym (holds _ _ b (holds _ _ (is-eq _ _ n) (holds _ _ w done))));

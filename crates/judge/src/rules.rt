@@ -82,7 +82,7 @@ fn judge_box(
     k: usize,
     depth: usize,
 ) -> Verdict
-    requires { ⌜ (b .head ≤ b .size) × (b .at + b .size ≤ length (now part)) × (base + length (now part) < 2 ^ 60) × (0 < depth) ⌝ }
+    requires { ⌜ (b .head ≤ b .span) × (b .at + b .span ≤ length (now part)) × (base + length (now part) < 2 ^ 60) × (0 < depth) ⌝ }
     ensures { λ r. ⌜ r ≡ judgeBox (judgeBy n (boxes (now (file .entry)))) (judgeIn (judgeBy n (boxes (now (file .entry)))) (depth - 1)) k (boxAt (now (part .entry)) b) (base + b .at) ⌝ }
 {
     let place = base + b.at;

@@ -52,13 +52,13 @@ module _ (xs : List ℕ) {out : List ℕ} {from : ℕ} where
 -- ---- entries
 
 -- what was found of an entry, printed
-pub found-line : (xs : List ℕ) (i track place size : ℕ) {n c : ℕ} → place + size ≤ length xs → n ≡ place + size → c ≡ word 4 (take (n - place) (drop place xs)) 4
-    → {out mid after : List ℕ} {at m r : ℕ} → Put (entryNamed i track c) out at m mid → Put (entryPlaced place size) mid m r after
-    → Put (entryLine i (record { track = track; place = place; bytes = take size (drop place xs) })) out at r after
+pub found-line : (xs : List ℕ) (i track place span : ℕ) {n c : ℕ} → place + span ≤ length xs → n ≡ place + span → c ≡ word 4 (take (n - place) (drop place xs)) 4
+    → {out mid after : List ℕ} {at m r : ℕ} → Put (entryNamed i track c) out at m mid → Put (entryPlaced place span) mid m r after
+    → Put (entryLine i (record { track = track; place = place; bytes = take span (drop place xs) })) out at r after
 unfolding entryLine
-found-line xs i track place size h e f p q =
-    let z : place + size - place ≡ size = omega arith in
-    let l : length (take size (drop place xs)) ≡ size = length-take size (drop place xs) ∙ rw length-drop (omega arith) in
+found-line xs i track place span h e f p q =
+    let z : place + span - place ≡ span = omega arith in
+    let l : length (take span (drop place xs)) ≡ span = length-take span (drop place xs) ∙ rw length-drop (omega arith) in
     pen-is (rw (f, e, z, l)) (pen-then p q)
 
 module _ (xs : List ℕ) (i : ℕ) {r : Named} (s : NamedAs xs i r) {out : List ℕ} {at : ℕ} where

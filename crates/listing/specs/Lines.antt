@@ -29,7 +29,7 @@ entryNamed i t c = labelled (text "entry ") i ++ labelled (text " track ") t ++ 
 
 -- " place 397 size 53"
 unfoldable pub entryPlaced : ℕ → ℕ → List ℕ
-entryPlaced place size = labelled (text " place ") place ++ labelled (text " size ") size ++ text "\n"
+entryPlaced place span = labelled (text " place ") place ++ labelled (text " size ") span ++ text "\n"
 
 -- entry i of a file
 unfoldable pub entryLine : ℕ → Entry → List ℕ

@@ -89,12 +89,12 @@ pub fn put_named(out: &mut [u8], at: usize, i: usize, t: usize, c: usize) -> usi
 }
 
 // The second half: its place and its size.
-pub fn put_placed(out: &mut [u8], at: usize, place: usize, size: usize) -> usize
+pub fn put_placed(out: &mut [u8], at: usize, place: usize, span: usize) -> usize
     requires { ⌜ at < 2 ^ 61 ⌝ }
-    ensures { λ r. ⌜ Put (entryPlaced place size) (now (out .entry)) at r (now (out .exit)) × (r ≤ at + 60) ⌝ }
+    ensures { λ r. ⌜ Put (entryPlaced place span) (now (out .entry)) at r (now (out .exit)) × (r ≤ at + 60) ⌝ }
 {
     let a = put_labelled(out, at, b" place ", place);
-    let b = put_labelled(out, a, b" size ", size);
+    let b = put_labelled(out, a, b" size ", span);
     pen::put_part(out, b, b"\n")
 }
 

@@ -49,15 +49,15 @@ fn put_found(
     i: usize,
     track: usize,
     place: usize,
-    size: usize,
+    span: usize,
 ) -> usize
-    requires { ⌜ (place + size ≤ length (now file)) × (at < 2 ^ 60) ⌝ }
-    ensures { λ r. ⌜ Put (entryLine i (record { track = track; place = place; bytes = take size (drop place (now (file .entry))) })) (now (out .entry)) at r (now (out .exit)) × (r ≤ at + 120) ⌝ }
+    requires { ⌜ (place + span ≤ length (now file)) × (at < 2 ^ 60) ⌝ }
+    ensures { λ r. ⌜ Put (entryLine i (record { track = track; place = place; bytes = take span (drop place (now (file .entry))) })) (now (out .entry)) at r (now (out .exit)) × (r ≤ at + 120) ⌝ }
 {
-    let to = place + size;
+    let to = place + span;
     let code = number::word32(&file[place..to], 4);
     let a = line::put_named(out, at, i, track, code);
-    line::put_placed(out, a, place, size)
+    line::put_placed(out, a, place, span)
 }
 
 // The line of entry i, from 0, and nothing where there is none.
@@ -67,7 +67,7 @@ fn put_entry(out: &mut [u8], at: usize, file: &[u8], i: usize) -> usize
 {
     let number = i + 1;
     match entry::entry(file, i) {
-        Named::At(e) => put_found(out, at, file, number, e.track, e.place, e.size),
+        Named::At(e) => put_found(out, at, file, number, e.track, e.place, e.span),
         Named::Missing => at,
     }
 }

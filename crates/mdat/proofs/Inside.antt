@@ -80,7 +80,7 @@ module _ {xs : List ℕ} {o n at : ℕ} (a : Ahead xs o n at) where
   ahead-over v = sym (a .left ∙ rw (v .list))
 
   module _ {b : BoxAt} {w : Walk} (s : Ran xs at b w) where
-    pub ahead-more : {end : ℕ} → end ≡ b .at + b .size → end < o → Ahead xs o n end
+    pub ahead-more : {end : ℕ} → end ≡ b .at + b .span → end < o → Ahead xs o n end
     ahead-more {end} q h =
         let i : w .at ≡ end = omega (arith, s .next, s .start) in
         let e : at + size (boxAt xs b) ≡ end = omega (arith, ran-size s, s .start) in
@@ -89,7 +89,7 @@ module _ {xs : List ℕ} {o n at : ℕ} (a : Ahead xs o n at) where
           below = omega arith;
         }
 
-    pub ahead-here : o ≤ b .at + b .size → lies (boxes xs) 0 o n ≡ held (b .code) (b .at + b .head) (b .at + b .size) o n
+    pub ahead-here : o ≤ b .at + b .span → lies (boxes xs) 0 o n ≡ held (b .code) (b .at + b .head) (b .at + b .span) o n
     ahead-here h =
         a .left ∙ rw (s .list) (lies-here (boxAt xs b) (boxes (drop (w .at) xs)) at o n (heads (drop (w .at) xs)) (omega (arith, ran-size s, s .start))
         ∙ rw (ran-size s, ← s .start))

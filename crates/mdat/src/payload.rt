@@ -12,8 +12,8 @@ ghost use Rattle.mdat.specs.Rules.{lies};
 
 // Whether so many bytes from a place on lie in the payload of a box, and it is an `mdat`: 1 or 0.
 fn holds(b: BoxAt, offset: usize, bytes: usize) -> usize
-    requires { ⌜ (b .head ≤ b .size) × (b .at + b .size < 2 ^ 63) × (offset ≤ b .at + b .size) ⌝ }
-    ensures { λ r. ⌜ r ≡ oneIf (every (isEq (b .code) MDAT ∷ isLe (b .at + b .head) offset ∷ isLe (offset + bytes) (b .at + b .size) ∷ [])) ⌝ }
+    requires { ⌜ (b .head ≤ b .span) × (b .at + b .span < 2 ^ 63) × (offset ≤ b .at + b .span) ⌝ }
+    ensures { λ r. ⌜ r ≡ oneIf (every (isEq (b .code) MDAT ∷ isLe (b .at + b .head) offset ∷ isLe (offset + bytes) (b .at + b .span) ∷ [])) ⌝ }
 {
     if b.code != codes::MDAT {
         return 0;
@@ -21,7 +21,7 @@ fn holds(b: BoxAt, offset: usize, bytes: usize) -> usize
     if offset < b.at + b.head {
         return 0;
     }
-    if b.at + b.size - offset < bytes {
+    if b.at + b.span - offset < bytes {
         return 0;
     }
     1
@@ -29,10 +29,10 @@ fn holds(b: BoxAt, offset: usize, bytes: usize) -> usize
 
 // The place past a box: an `mdat` inside it is passed over with it.
 fn past(b: BoxAt) -> usize
-    requires { ⌜ b .at + b .size < 2 ^ 63 ⌝ }
-    ensures { λ r. ⌜ r ≡ b .at + b .size ⌝ }
+    requires { ⌜ b .at + b .span < 2 ^ 63 ⌝ }
+    ensures { λ r. ⌜ r ≡ b .at + b .span ⌝ }
 {
-    b.at + b.size
+    b.at + b.span
 }
 
 // Whether so many bytes from a place on lie inside the payload of one `mdat` of the file: 1 or 0.

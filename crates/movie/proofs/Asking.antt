@@ -46,9 +46,9 @@ unfolding listStart
 list-start-is xs t e f o p q = rw (o, p, q, f, e)
 
 module _ (xs : List ℕ) (t n : ℕ) {b l : List ℕ} (e : b ≡ track xs t) (f : l ≡ listIn b) (r : Seen) (s : SeenAs l ANY n r) where
-  pub placed-at : (x : BoxAt) → r ≡ seen.At x → {p : ℕ} → p ≡ listStart xs t → PlacedAs xs t n (At (record { track = t + 1; nth = n; place = p + x .at; size = x .size }))
+  pub placed-at : (x : BoxAt) → r ≡ seen.At x → {p : ℕ} → p ≡ listStart xs t → PlacedAs xs t n (At (record { track = t + 1; nth = n; place = p + x .at; span = x .span }))
   unfolding PlacedAs
-  placed-at x g q = record { track = refl; nth = refl; box = x; cut = rw (f, e) at (cut-as l ANY n r s x g); size = refl; place = rw q }
+  placed-at x g q = record { track = refl; nth = refl; box = x; cut = rw (f, e) at (cut-as l ANY n r s x g); span = refl; place = rw q }
 
   pub placed-none : r ≡ seen.Missing → PlacedAs xs t n Missing
   unfolding PlacedAs

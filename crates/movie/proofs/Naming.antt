@@ -95,10 +95,10 @@ module _ (xs : List ℕ) (v : Bytes xs) {i t n : ℕ} (s : InTrack (find MOOV (b
   entry-is {e} p =
       let l = cut-lies (p .cut) in
       let m = length-box (bytes-list xs t v) (p .cut) in
-      let f : take (e .size) (drop (e .place) xs) ≡ header (boxAt (listIn (track xs t)) (p .box)) ++ payload (listIn (track xs t)) (p .box) = rw (p .place, p .size) (rw m at (l .is)) in
+      let f : take (e .span) (drop (e .place) xs) ≡ header (boxAt (listIn (track xs t)) (p .box)) ++ payload (listIn (track xs t)) (p .box) = rw (p .place, p .span) (rw m at (l .is)) in
       record {
         is = rw (f, p .track, p .place) (cut-is (p .cut));
-        inside = omega (arith, l .inside, p .place, p .size);
+        inside = omega (arith, l .inside, p .place, p .span);
         first = omega (arith, p .track);
         last = omega (arith, p .track, s .some);
       }

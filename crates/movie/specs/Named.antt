@@ -47,7 +47,7 @@ SpotAs ys i Past = (p : ℕ) → length (entriesIn (stsdsFrom 0 (boxes ys) p)) �
 
 -- what an answer says of an entry
 abbrev pub entryAs : List ℕ → EntryAt → Entry
-entryAs xs e = record { track = e .track; place = e .place; bytes = take (e .size) (drop (e .place) xs) }
+entryAs xs e = record { track = e .track; place = e .place; bytes = take (e .span) (drop (e .place) xs) }
 
 -- it is entry n of track t, both from 0: the box of that number there
 pub record Placed (xs : List ℕ) (t n : ℕ) (e : EntryAt) : Type 0 where
@@ -55,7 +55,7 @@ pub record Placed (xs : List ℕ) (t n : ℕ) (e : EntryAt) : Type 0 where
   pub nth : e .nth ≡ n
   pub box : BoxAt
   pub cut : Cut (listIn (trackOf xs t)) ANY n box
-  pub size : e .size ≡ box .size
+  pub span : e .span ≡ box .span
   pub place : e .place ≡ listStart xs t + box .at
 
 unfoldable pub PlacedAs : List ℕ → ℕ → ℕ → Named → Type 0
@@ -65,7 +65,7 @@ PlacedAs xs t n Missing = count ANY (boxes (listIn (trackOf xs t))) ≤ n
 -- it is entry i: those from number i on are it and those from i + 1 on
 pub record EntryIs (xs : List ℕ) (i : ℕ) (e : EntryAt) : Type 0 where
   pub is : drop i (entries xs) ≡ entryAs xs e ∷ drop (i + 1) (entries xs)
-  pub inside : e .place + e .size ≤ length xs
+  pub inside : e .place + e .span ≤ length xs
   pub first : 1 ≤ e .track
   pub last : e .track ≤ tracks xs
 

@@ -23,7 +23,7 @@ pub struct EntryAt {
     pub track: usize,
     pub nth: usize,
     pub place: usize,
-    pub size: usize,
+    pub span: usize,
 }
 
 pub enum Named {
@@ -135,7 +135,7 @@ fn entry_of(file: &[u8], t: usize, n: usize) -> Named
             track: t + 1,
             nth: n,
             place: list_start(file, t) + b.at,
-            size: b.size,
+            span: b.span,
         }),
         Seen::Missing => Named::Missing,
     }

@@ -42,9 +42,9 @@ module _ (o : Order) (f : ℕ) where
           let l : length (entries xs) ≤ j = rw h at a in
           eq-nay _ _ _ _ _ n (sym (rw (← e) (among-drop j (entries xs) ∙ rw (drop-of-length-le (entries xs) {i = j} l))))
 
-      pub entry-found : (v : EntryAt) → w ≡ At v → Found (record { order = o; file = f; place = v .place; size = v .size }) ≡ entryIn o f xs i
+      pub entry-found : (v : EntryAt) → w ≡ At v → Found (record { order = o; file = f; place = v .place; span = v .span }) ≡ entryIn o f xs i
       unfolding entryIn NamedAs among
       entry-found v h =
           let s : EntryIs xs j v = rw h at a in
-          let l : length (take (v .size) (drop (v .place) xs)) ≡ v .size = omega (arith, length-take (v .size) (drop (v .place) xs), length-drop (v .place) xs, s .inside) in
+          let l : length (take (v .span) (drop (v .place) xs)) ≡ v .span = omega (arith, length-take (v .span) (drop (v .place) xs), length-drop (v .place) xs, s .inside) in
           eq-nay _ _ _ _ _ n (sym (rw (← e) (among-drop j (entries xs) ∙ rw (s .is, l))))

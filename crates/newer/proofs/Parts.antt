@@ -15,13 +15,13 @@ module _ (xs ys : List ℕ) (w : Outcome) {o : Outcome} (e : o ≡ w) where
     told-is : a ≡ toldBy w
     told-is = m ∙ rw h (ap toldBy (sym g ∙ e))
 
-    pub part-first : {r : List ℕ} → f .file ≡ 1 → r ≡ take (f .size) (drop (f .place) xs) → (r ≡ partOf xs ys w) × (a ≡ toldBy w)
+    pub part-first : {r : List ℕ} → f .file ≡ 1 → r ≡ take (f .span) (drop (f .place) xs) → (r ≡ partOf xs ys w) × (a ≡ toldBy w)
     unfolding partOf
-    part-first h q = (q ∙ ap (λ (zs : List ℕ). take (f .size) (drop (f .place) zs)) (eq-yea (f .file) 1 xs ys xs h refl) ∙ ap (partOf xs ys) (sym g ∙ e), told-is)
+    part-first h q = (q ∙ ap (λ (zs : List ℕ). take (f .span) (drop (f .place) zs)) (eq-yea (f .file) 1 xs ys xs h refl) ∙ ap (partOf xs ys) (sym g ∙ e), told-is)
 
-    pub part-second : {r : List ℕ} → (f .file ≡ 1 → ⊥) → r ≡ take (f .size) (drop (f .place) ys) → (r ≡ partOf xs ys w) × (a ≡ toldBy w)
+    pub part-second : {r : List ℕ} → (f .file ≡ 1 → ⊥) → r ≡ take (f .span) (drop (f .place) ys) → (r ≡ partOf xs ys w) × (a ≡ toldBy w)
     unfolding partOf
-    part-second h q = (q ∙ ap (λ (zs : List ℕ). take (f .size) (drop (f .place) zs)) (eq-nay (f .file) 1 xs ys ys h refl) ∙ ap (partOf xs ys) (sym g ∙ e), told-is)
+    part-second h q = (q ∙ ap (λ (zs : List ℕ). take (f .span) (drop (f .place) zs)) (eq-nay (f .file) 1 xs ys ys h refl) ∙ ap (partOf xs ys) (sym g ∙ e), told-is)
 
   pub part-none : {file n p : ℕ} {a : List ℕ} → o ≡ Refused file n p → a ≡ n ∷ file ∷ p ∷ [] → ([] ≡ partOf xs ys w) × (a ≡ toldBy w)
   unfolding partOf

@@ -34,7 +34,7 @@ orderOf xs y ys z = order (less (modified xs) y) (less (modified ys) z)
 -- entry i, from 0, of some entries of a file, and 20 where there is none; with the order, and which file it is
 unfoldable pub among : Order → ℕ → ℕ → List Entry → Outcome
 among o file i [] = Refused 0 20 0
-among o file i (e ∷ es) = byNumber i (Found (record { order = o; file = file; place = e .place; size = length (e .bytes) })) (λ j. among o file j es)
+among o file i (e ∷ es) = byNumber i (Found (record { order = o; file = file; place = e .place; span = length (e .bytes) })) (λ j. among o file j es)
 
 -- entry i, from 1, of a file
 unfoldable pub entryIn : Order → ℕ → List ℕ → ℕ → Outcome
@@ -63,5 +63,5 @@ toldBy (Refused file n p) = n ∷ file ∷ p ∷ []
 
 -- "is handed back as a part of that file .. every refusal hands back an empty part"
 unfoldable pub partOf : List ℕ → List ℕ → Outcome → List ℕ
-partOf xs ys (Found f) = take (f .size) (drop (f .place) (ifEq (f .file) 1 xs ys))
+partOf xs ys (Found f) = take (f .span) (drop (f .place) (ifEq (f .file) 1 xs ys))
 partOf xs ys (Refused file n p) = []

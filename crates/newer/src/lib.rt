@@ -22,7 +22,7 @@ pub struct Part {
     pub order: Order,
     pub file: usize,
     pub place: usize,
-    pub size: usize,
+    pub span: usize,
 }
 
 // A refusal of 1 to 10 names the file, 1 or 2; any other has file 0.
@@ -67,7 +67,7 @@ fn entry_in(file: &[u8], order: Order, which: usize, i: usize) -> Outcome
             order,
             file: which,
             place: e.place,
-            size: e.size,
+            span: e.span,
         }),
         Named::Missing => refused(20),
     }
@@ -122,10 +122,10 @@ pub fn newest(first: &[u8], y: i64, second: &[u8], z: i64, i: usize) -> Outcome
 }
 
 // So many bytes of a file from a place on, as far as it has them.
-fn cut(file: &[u8], place: usize, size: usize) -> &[u8]
-    ensures { λ r. ⌜ now r ≡ take size (drop place (now (file .entry))) ⌝ }
+fn cut(file: &[u8], place: usize, span: usize) -> &[u8]
+    ensures { λ r. ⌜ now r ≡ take span (drop place (now (file .entry))) ⌝ }
 {
-    lend::front(lend::rest(file, place), size)
+    lend::front(lend::rest(file, place), span)
 }
 
 // Hands three numbers back.
@@ -152,9 +152,9 @@ pub fn newer<'a>(
             let order = f.order;
             tell(answer, 0, f.file, clocks::order_number(order));
             if f.file == 1 {
-                return cut(first, f.place, f.size);
+                return cut(first, f.place, f.span);
             }
-            cut(second, f.place, f.size)
+            cut(second, f.place, f.span)
         }
         Outcome::Refused {
             file,

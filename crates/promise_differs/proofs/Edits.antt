@@ -5,9 +5,9 @@ use native.Mathlib.Omega.{arith}
 use mathlib.Core.Path.{_≡_, refl, sym, ap, _∙_}
 use mathlib.Core.Bool.{true}
 use mathlib.Core.List.{List, [], _∷_}
-use mathlib.Core.Logic.{⊎-elim}
 use lib.IntN.{ℤ}
 use lib.ListN.{length, length-append}
+use Rattle.wire.specs.Clauses.{isEq, every, either}
 use Rattle.wire.specs.Numbers.{Bytes}
 use Rattle.wire.proofs.Tests.{lt-yea, lt-nay, lt-or}
 use Rattle.boxes.specs.Boxes.{boxes}
@@ -28,7 +28,7 @@ use Rattle.edit_move.specs.Moving.{moveOf}
 use Rattle.edit_replace.specs.Replace.{kindAt, recordAt, recordReplaced, replaceOf}
 use Rattle.edit_replace.proofs.Taking.{record-first}
 use Rattle.edit_replace.proofs.Written.{past-none}
-use Rattle.edit_shift.specs.Shift.{shiftOf}
+use Rattle.edit_shift.specs.Shift.{timed, shiftOf}
 use Rattle.promise_kept.proofs.Named.{entry-in}
 use Rattle.promise_kept.proofs.Second.{second}
 use Rattle.promise_differs.specs.Differs.{OnlyOffsets, OnlyTimes, OnlyRecord, keptOf, Replaces}
@@ -75,7 +75,8 @@ pub move-mdats : (xs : List ℕ) → Bytes xs → Meets xs → mdats (boxes (mov
 move-mdats xs w m = sym (kin-mdats OnlyOffsets 5 _ (moveOf xs) (λ b c r. r .rest (λ o. omega (arith, o .0))) (move-differs xs w m)) ∙ ap mdats (move-order xs w m) ∙ second .payloads (boxes xs)
 
 pub shift-mdats : (z : ℤ) (xs : List ℕ) → Bytes xs → Meets xs → mdats (boxes (shiftOf z xs)) ≡ mdats (boxes xs)
-shift-mdats z xs w m = sym (kin-mdats OnlyTimes 5 xs (shiftOf z xs) (λ b c r. r .rest (λ o. ⊎-elim (λ p. omega (arith, p .0)) (λ p. ⊎-elim (λ q. omega (arith, q .0)) (λ q. omega (arith, q .0)) p) o)) (shift-differs z xs w m))
+unfolding timed either every isEq
+shift-mdats z xs w m = sym (kin-mdats OnlyTimes 5 xs (shiftOf z xs) (λ b c r. r .rest refl) (shift-differs z xs w m))
 
 pub replace-mdats : (xs : List ℕ) (i : ℕ) (new ys : List ℕ) → Replaces xs i new ys → mdats (boxes ys) ≡ mdats (boxes xs)
 replace-mdats xs i new ys h = sym (kin-mdats (OnlyRecord (h .n) _ new) 5 xs ys (λ b c r. r .rest (λ o. omega (arith, o .0)) (λ o. omega (arith, o .0))) (h .differs))

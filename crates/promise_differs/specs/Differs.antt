@@ -1,11 +1,12 @@
 -- "only the named fields, enclosing sizes, chunk offsets and, for a move, the box order differ". Files that `Kin` relates have the
 -- same boxes in the same order, of the sizes that their bodies give; these say what differs in the body of an opaque box.
-use Prim.Native.Nat.{ℕ, _-_}
+use Prim.Native.Nat.{ℕ, _+_, _-_}
 use mathlib.Core.Path.{_≡_}
+use mathlib.Core.Bool.{true, false}
 use mathlib.Core.List.{List}
 use mathlib.Core.Logic.{_⊎_}
 use lib.ListN.{length, take, drop}
-use Rattle.codes.specs.Codes.{MOOV, MVHD, TRAK, TKHD, MDIA, MDHD, STBL, STSD, STCO}
+use Rattle.codes.specs.Codes.{TRAK, STBL, STSD, STCO}
 use Rattle.boxes.specs.Boxes.{HEAD, FRONT}
 use Rattle.boxes.specs.Containers.{FILE, DEPTH}
 use Rattle.boxes.specs.Seek.{ANY}
@@ -17,6 +18,7 @@ use Rattle.movie.specs.Stsds.{stsds}
 use Rattle.movie.specs.Named.{spotIn}
 use Rattle.entry_heads.specs.Heads.{headSize}
 use Rattle.edit_replace.specs.Replace.{kindAt}
+use Rattle.edit_shift.specs.Shift.{CREATION, timed}
 
 -- two bodies of the same length, with the same bytes before place `from` and the same from place `to` on
 pub record But (from to : ℕ) (b b′ : List ℕ) : Type 0 where
@@ -30,17 +32,13 @@ ButOffsets b b′ = But 8 (length b) b b′
 
 -- a header: all but "creation time at 4, modification at 8"
 abbrev pub ButTimes : List ℕ → List ℕ → Type 0
-ButTimes b b′ = But 4 12 b b′
+ButTimes b b′ = But CREATION (CREATION + 8) b b′
 
 -- ---- the boxes with such fields, by the container's kind k and the code c
 
 -- chunk offsets: `stco` in `stbl`
 abbrev pub HasOffsets : ℕ → ℕ → Type 0
 HasOffsets k c = (k ≡ STBL) × (c ≡ STCO)
-
--- times: `mvhd` in `moov`, `tkhd` in `trak`, `mdhd` in `mdia`
-abbrev pub HasTimes : ℕ → ℕ → Type 0
-HasTimes k c = ((k ≡ MOOV) × (c ≡ MVHD)) ⊎ (((k ≡ TRAK) × (c ≡ TKHD)) ⊎ ((k ≡ MDIA) × (c ≡ MDHD)))
 
 -- sample entries: `stsd` in `stbl`
 abbrev pub HasEntries : ℕ → ℕ → Type 0
@@ -57,8 +55,8 @@ pub record OnlyOffsets (k c : ℕ) (b b′ : List ℕ) : Type 0 where
 
 -- times; every other opaque box is the same, and so are chunk offsets, since nothing moves
 pub record OnlyTimes (k c : ℕ) (b b′ : List ℕ) : Type 0 where
-  pub times : HasTimes k c → ButTimes b b′
-  pub rest : (HasTimes k c → ⊥) → b ≡ b′
+  pub times : timed k c ≡ true → ButTimes b b′
+  pub rest : timed k c ≡ false → b ≡ b′
 
 -- ---- a replacement
 

@@ -14,7 +14,7 @@ use Rattle.rule_shape.specs.Three.{first}
 -- the same boxes, each with its bytes; what the rules read of the list stays, and bodies are not looked at
 pub record Arranges (A : List Box → List Box) : Type 1 where
   pub each : {P : Box → Type 0} {l : List Box} → All P l → All P (A l)
-  pub size : (l : List Box) → length (write (A l)) ≡ length (write l)
+  pub span : (l : List Box) → length (write (A l)) ≡ length (write l)
   pub payloads : (l : List Box) → mdats (A l) ≡ mdats l
   pub counts : (c : ℕ) (l : List Box) → count c (A l) ≡ count c l
   pub first : (l : List Box) → first (A l) ≡ first l
@@ -26,7 +26,7 @@ pub stay : Arranges (λ l. l)
 stay =
     record {
       each = λ a. a;
-      size = λ l. refl;
+      span = λ l. refl;
       payloads = λ l. refl;
       counts = λ c l. refl;
       first = λ l. refl;

@@ -32,7 +32,7 @@ module _ {A : List Box → List Box} (a : Arranges A) (ys : List ℕ) (w : Bytes
 
   -- as long as it was
   pub arranged-length : length (write (A (boxes ys))) ≡ length ys
-  arranged-length = let z = ap length e in omega (arith, a .size (boxes ys), lengths ys)
+  arranged-length = let z = ap length e in omega (arith, a .span (boxes ys), lengths ys)
 
   small : length (write (A (boxes ys))) < 4294967296
   small = omega (arith, arranged-length)

@@ -1,24 +1,22 @@
 -- No rule reads the times of headers. Assumes nothing.
 use Prim.Native.Nat.{ℕ}
-use native.Mathlib.Omega.{arith}
 use mathlib.Core.Path.{_≡_, refl, sym, ap, _∙_}
+use mathlib.Core.Bool.{false}
 use mathlib.Core.List.{List}
 use lib.ListN.{length, getD}
+use Rattle.wire.specs.Clauses.{isEq, every, either}
 use Rattle.wire.specs.Numbers.{word}
-use Rattle.codes.specs.Codes.{MOOV, MVHD, TRAK, TKHD, MDIA, MDHD, DINF, DREF, STBL, STSD, STTS, STSC, STSZ, STCO}
+use Rattle.codes.specs.Codes.{DINF, DREF, STBL, STSD, STTS, STSC, STSZ, STCO}
 use Rattle.rule_headers.specs.Forms.{brandsForm, headForm, handlerForm, form}
+use Rattle.edit_shift.specs.Shift.{timed}
 use Rattle.promise_kept.proofs.Sound.{Sound}
-
--- a box of code c in a container of kind k has no times
-abbrev pub Untimed : ℕ → ℕ → Type 0
-Untimed k c = (k ≡ MOOV → c ≡ MVHD → ⊥) × (k ≡ TRAK → c ≡ TKHD → ⊥) × (k ≡ MDIA → c ≡ MDHD → ⊥)
 
 -- length, version and the number at 12 are kept, and of a box that has no times all is
 pub record Clocked (k c : ℕ) (b b′ : List ℕ) : Type 0 where
   pub long : length b ≡ length b′
   pub version : getD b 0 0 ≡ getD b′ 0 0
   pub number : word 4 b 12 ≡ word 4 b′ 12
-  pub rest : Untimed k c → b ≡ b′
+  pub rest : timed k c ≡ false → b ≡ b′
 
 -- a body and itself
 pub clocked-same : (k c : ℕ) (b : List ℕ) → Clocked k c b b
@@ -31,16 +29,19 @@ clocked-form k c b b′ r = rw (r .long, r .version, r .number)
 
 -- no box of these containers has times
 pub in-stbl : (c : ℕ) (b b′ : List ℕ) → Clocked STBL c b b′ → b ≡ b′
-in-stbl c b b′ r = r .rest (λ e f. omega arith, λ e f. omega arith, λ e f. omega arith)
+unfolding timed either every isEq
+in-stbl c b b′ r = r .rest refl
 
 in-dinf : (c : ℕ) (b b′ : List ℕ) → Clocked DINF c b b′ → b ≡ b′
-in-dinf c b b′ r = r .rest (λ e f. omega arith, λ e f. omega arith, λ e f. omega arith)
+unfolding timed either every isEq
+in-dinf c b b′ r = r .rest refl
 
 -- an edit of times alone is sound
 pub clocked-sound : Sound Clocked
+unfolding timed either every isEq
 clocked-sound =
     record {
-      mdat = λ b b′ r. r .rest (λ e f. omega arith, λ e f. omega arith, λ e f. omega arith);
+      mdat = λ b b′ r. r .rest refl;
       forms = λ k c b b′ z r q. sym (clocked-form k c b b′ r) ∙ q;
       tkhd = λ b b′ r. r .number;
       stsd = λ b b′ r q. rw (← in-stbl STSD b b′ r) q;
@@ -57,7 +58,7 @@ clocked-sound =
       described =
           record {
             mdhd = λ b b′ r. r .number;
-            hdlr = λ b b′ r. ap (λ (u : List ℕ). word 4 u 8) (r .rest (λ e f. omega arith, λ e f. omega arith, λ e f. omega arith));
+            hdlr = λ b b′ r. ap (λ (u : List ℕ). word 4 u 8) (r .rest refl);
             dref = λ b b′ r. rw (in-dinf DREF b b′ r);
             stsd = λ b b′ r a q. rw (← in-stbl STSD b b′ r) q;
           };

@@ -44,4 +44,4 @@ second-first (x ∷ l) = refl
 
 -- the order of a move
 pub second : Arranges moovSecond
-second = record { each = each-second; size = second-length; payloads = second-payloads; counts = second-counts; first = second-first; movie = second-movie; maps = second-maps }
+second = record { each = each-second; span = second-length; payloads = second-payloads; counts = second-counts; first = second-first; movie = second-movie; maps = second-maps }

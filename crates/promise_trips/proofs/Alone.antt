@@ -21,7 +21,7 @@ unfolding entryRule
 alone a most xs e =
     let kind = kindOf (word 4 xs 4) in
     let m = rule-met kind a most xs e in
-    rule-is kind Alone most xs (record { size = m .size; head = m .head; fits = refl; inside = m .inside })
+    rule-is kind Alone most xs (record { span = m .span; head = m .head; fits = refl; inside = m .inside })
 
 -- so do the entries of a track
 pub from-meet : (a : Around) (t : ℕ) (l : List Box) (p : ℕ) → allList (entryFine a) true l ≡ true → allMeet (entriesFrom t l p) ≡ true

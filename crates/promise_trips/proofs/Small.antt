@@ -30,7 +30,7 @@ small-from : (t : ℕ) {l : List Box} (p : ℕ) → All Good l → p + total l <
 unfolding entriesFrom total
 small-from t p no-box h = no-entry
 small-from t p (some {x} {l} g a) h =
-    let s : Small (record { track = t; place = p; bytes = header x ++ x .body }) = record { place = omega (arith, g .head); size = rw (length-append, length-header) (omega (arith, g .head)) } in
+    let s : Small (record { track = t; place = p; bytes = header x ++ x .body }) = record { place = omega (arith, g .head); span = rw (length-append, length-header) (omega (arith, g .head)) } in
     one-more s (small-from t (p + size x) a (omega arith))
 
 small-of : {xs : List ℕ} (s : Stsd) → Described xs s → length xs < 2 ^ 32 → AllSmall (entriesOf s)

@@ -32,7 +32,7 @@ module _ (b : List ℕ) (v : Bytes b) (g : Listed b) where
   -- its first eight bytes are zeros and the count
   front-written : bytes 4 0 ++ bytes 4 (word 4 b 4) ≡ take 8 b
   front-written =
-      let a = rw (g .plain) at (bytes-word 4 b 0 v (omega (arith, g .room))) in
+      let a = rw (g .front) at (bytes-word 4 b 0 v (omega (arith, g .room))) in
       rw (a, bytes-word 4 b 4 v (omega (arith, g .room))) (sym (take-add 4 4 b))
 
   pub table-written : (t p : ℕ) → table (entriesFrom t (boxes (drop FRONT b)) p) ≡ header (record { head = HEAD; code = STSD; body = b }) ++ b

@@ -82,7 +82,7 @@ length-said s = refl
 
 pub wrote-said : (s : Said) (out : List ℕ) → 4 ≤ length out → Wrote (numbersOf s) out 4 (set (set (set (set out 0 (s .handler)) 1 (s .media .0)) 2 (s .scale)) 3 (s .movie .0))
 unfolding numbersOf
-wrote-said s out k = record { size = refl; is = sets-eq (s .handler ∷ s .media .0 ∷ s .scale ∷ s .movie .0 ∷ []) out 0 k }
+wrote-said s out k = record { span = refl; is = sets-eq (s .handler ∷ s .media .0 ∷ s .scale ∷ s .movie .0 ∷ []) out 0 k }
 
 pub said-as : {b d : List ℕ} → b ≡ d → {s : Said} → s ≡ saidBy b → {out left : List ℕ} {n : ℕ} → Wrote (numbersOf s) out n left → Wrote (numbersOf (saidBy d)) out n left
 said-as e f w = rw (f, e) at w
@@ -106,7 +106,7 @@ module _ (stco : List ℕ) where
       (sym (append-snoc (offsetsTo stco i) (field 4 0 stco i) (drop (suc i) list)))
 
   pub offsets-all : (list : List ℕ) {i n : ℕ} {mid : List ℕ} → mid ≡ offsetsTo stco i ++ drop i list → i ≡ n → n ≡ items stco → Wrote (offsetsTo stco (items stco)) list n mid
-  offsets-all list e f g = record { size = g ∙ sym (length-offsets (items stco)); is = e ∙ rw (f, g) }
+  offsets-all list e f g = record { span = g ∙ sym (length-offsets (items stco)); is = e ∙ rw (f, g) }
 
 -- of a track
 module _ (d : List ℕ) {b stco : List ℕ} (f : b ≡ d) (e : stco ≡ sampleTable STCO b) where

@@ -122,7 +122,7 @@ fn offsets_in(file: &[u8], track: usize, list: &mut [u32]) -> Answer
         return Answer::Refused(20, 0);
     }
     let stco = movie::table(movie::track(file, track - 1), codes::STCO);
-    if list.len() < sample_tables::table::count(stco) {
+    if list.len() < sample_tables::table::items(stco) {
         return Answer::Refused(25, 0);
     }
     Answer::Done(offset::put(stco, list))

@@ -10,7 +10,7 @@ pub fn put(stco: &[u8], list: &mut [u32]) -> usize
     requires { ⌜ Table 4 (now stco) × (items (now stco) ≤ length (now list)) ⌝ }
     ensures { λ r. ⌜ Wrote (offsetsTo (now (stco .entry)) (items (now (stco .entry)))) (now (list .entry)) r (now (list .exit)) ⌝ }
 {
-    let n = sample_tables::table::count(stco);
+    let n = sample_tables::table::items(stco);
     let mut i = 0;
     while i < n {
         list[i] = sample_tables::table::field(stco, 4, 0, i) as u32;

@@ -31,7 +31,7 @@ exact-short xs out h = record { answers = lt-yea _ _ _ _ _ h refl; leaves = lt-y
 pub exact-wrote : (xs out : List ℕ) → length xs ≤ length out → {n : ℕ} {left : List ℕ} → Wrote xs out n left → Exact (gives xs) out (Done n) left
 unfolding answerIn leftIn
 exact-wrote xs out h w =
-    record { answers = lt-nay _ _ _ _ _ h (ap Done (w .size)); leaves = lt-nay _ _ _ _ _ h (w .is ∙ ap (λ (m : ℕ). xs ++ drop m out) (w .size)) }
+    record { answers = lt-nay _ _ _ _ _ h (ap Done (w .span)); leaves = lt-nay _ _ _ _ _ h (w .is ∙ ap (λ (m : ℕ). xs ++ drop m out) (w .span)) }
 
 -- a text whose length a total writer told first
 module _ (xs out : List ℕ) {start mid : List ℕ} {n : ℕ} (p : Put xs start 0 n mid) where
@@ -82,7 +82,7 @@ refused-not k p n e = let z : _≡_ {A = ℕ} 0 1 = cc in omega arith
 
 -- what it was to give stands at the front, as many numbers as it answers
 pub record Gave (xs out : List ℕ) (n : ℕ) : Type 0 where
-  pub size : n ≡ length xs
+  pub span : n ≡ length xs
   pub taken : take n (leftIn (gives xs) out) ≡ xs
 
 pub gives-done : (xs out : List ℕ) (n : ℕ) → answerIn (gives xs) out ≡ Done n → Gave xs out n
@@ -93,7 +93,7 @@ gives-done xs out n e = ⊎-elim (λ w. absurd (refused-not 25 0 n (w .1))) (λ 
     fits h q =
         let l : n ≡ length xs = cc in
         let f : leftIn (gives xs) out ≡ xs ++ drop (length xs) out = sym (lt-nay _ _ _ _ _ h refl) in
-        record { size = l; taken = rw f (take-at xs (drop (length xs) out) n (sym l)) }
+        record { span = l; taken = rw f (take-at xs (drop (length xs) out) n (sym l)) }
 
 -- and every test held
 pub asked-done : (ts : List (ℕ × Bool)) (xs out : List ℕ) (n : ℕ) → answerIn (asked ts (gives xs)) out ≡ Done n → (every (map (λ t. t .1) ts) ≡ true) × (asked ts (gives xs) ≡ gives xs)

@@ -46,10 +46,10 @@ meets-nay a xs p e q = unless-nay _ p (sym (was-nay _ _ q e))
 -- the bytes of a box that a step found are its header and its payload
 pub bytes-is : {xs : List ℕ} {at : ℕ} {b : BoxAt} {w : Walk} → Bytes xs → Ran xs at b w → bytesOf xs b ≡ header (boxAt xs b) ++ payload xs b
 bytes-is {xs} {at} {b} {w} v s =
-    let n : b .at + b .size - b .at ≡ b .size = omega arith in
-    let m : length (header (boxAt xs b) ++ payload xs b) ≡ b .size = rw (length-append, length-header, length-payload s) (omega (arith, s .least, s .eight)) in
+    let n : b .at + b .span - b .at ≡ b .span = omega arith in
+    let m : length (header (boxAt xs b) ++ payload xs b) ≡ b .span = rw (length-append, length-header, length-payload s) (omega (arith, s .least, s .eight)) in
     let d : drop (b .at) xs ≡ header (boxAt xs b) ++ payload xs b ++ drop (w .at) xs = ap (λ (i : ℕ). drop i xs) (s .start) ∙ ran-bytes s v ∙ sym (append-assoc (header (boxAt xs b)) (payload xs b) (drop (w .at) xs)) in
-    rw n (ap (take (b .size)) d ∙ take-at (header (boxAt xs b) ++ payload xs b) (drop (w .at) xs) (b .size) m)
+    rw n (ap (take (b .span)) d ∙ take-at (header (boxAt xs b) ++ payload xs b) (drop (w .at) xs) (b .span) m)
 
 -- ---- the loop over the entries of a list
 

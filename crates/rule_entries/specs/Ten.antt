@@ -31,7 +31,7 @@ meets a xs = entryRule a FRAMES xs
 
 -- the bytes of a box that was found
 abbrev pub bytesOf : List ℕ → BoxAt → List ℕ
-bytesOf xs b = take (b .at + b .size - b .at) (drop (b .at) xs)
+bytesOf xs b = take (b .at + b .span - b .at) (drop (b .at) xs)
 
 abbrev pub entryFine : Around → Box → Bool
 entryFine a x = meets a (header x ++ x .body)

@@ -31,11 +31,11 @@ fn around_of(track: &[u8]) -> Around
 
 // One entry of a list that starts at base.
 fn entry_at(list: &[u8], b: BoxAt, base: usize, around: Around) -> Verdict
-    requires { ⌜ (b .head ≤ b .size) × (b .at + b .size ≤ length (now list)) × (base + length (now list) < 2 ^ 63) ⌝ }
+    requires { ⌜ (b .head ≤ b .span) × (b .at + b .span ≤ length (now list)) × (base + length (now list) < 2 ^ 63) ⌝ }
     ensures { λ r. ⌜ r ≡ unless (meets around (bytesOf (now (list .entry)) b)) (base + b .at) ⌝ }
 {
     let from = b.at;
-    let to = b.at + b.size;
+    let to = b.at + b.span;
     if entry::entry_rule(&list[from..to], around, entry::FRAMES) == 0 {
         return Verdict::Bad(base + from);
     }
@@ -81,7 +81,7 @@ fn track_entries(track: &[u8], base: usize) -> Verdict
 
 // Those of a box of a `moov` that starts at base: none where it is no `trak`.
 fn box_entries(part: &[u8], b: BoxAt, base: usize) -> Verdict
-    requires { ⌜ (b .head ≤ b .size) × (b .at + b .size ≤ length (now part)) × (base + length (now part) < 2 ^ 60) ⌝ }
+    requires { ⌜ (b .head ≤ b .span) × (b .at + b .span ≤ length (now part)) × (base + length (now part) < 2 ^ 60) ⌝ }
     ensures { λ r. ⌜ r ≡ stsdsJudged (stsdsFrom 0 (boxAt (now (part .entry)) b ∷ []) (base + b .at)) ⌝ }
 {
     if b.code != codes::TRAK {

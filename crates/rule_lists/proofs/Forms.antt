@@ -11,7 +11,7 @@ unfolding listForm
 form-is b e =
     record {
       room = le-is _ _ (clause 0 _ e);
-      plain = eq-is _ _ (clause 1 _ e);
+      front = eq-is _ _ (clause 1 _ e);
       some = le-is _ _ (clause 2 _ e);
       tiled = eq-is _ _ (clause 3 _ e);
       counted = eq-is _ _ (clause 4 _ e);

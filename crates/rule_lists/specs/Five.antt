@@ -34,7 +34,7 @@ listForm b =
 -- what it says
 pub record Listed (b : List ℕ) : Type 0 where
   pub room : FRONT ≤ length b
-  pub plain : word 4 b 0 ≡ 0
+  pub front : word 4 b 0 ≡ 0
   pub some : 1 ≤ storedCount b
   pub tiled : length (after (drop FRONT b)) ≡ 0
   pub counted : count ANY (boxes (drop FRONT b)) ≡ storedCount b

@@ -33,7 +33,7 @@ fn counted(code: usize, body: &[u8]) -> usize
 
 // The `stsd` of a track that was found, as broken.
 fn stsd_at(part: &[u8], b: BoxAt, base: usize) -> Verdict
-    requires { ⌜ (b .head ≤ b .size) × (b .at + b .size ≤ length (now part)) × (base + length (now part) < 2 ^ 60) ⌝ }
+    requires { ⌜ (b .head ≤ b .span) × (b .at + b .span ≤ length (now part)) × (base + length (now part) < 2 ^ 60) ⌝ }
     ensures { λ r. ⌜ r ≡ Bad (base + b .at + b .head + placeAlong toStsd (payload (now (part .entry)) b)) ⌝ }
 {
     let start = base + b.at + b.head;

@@ -32,7 +32,7 @@ fn is_url(code: usize, body: &[u8]) -> usize
 
 // The same of a box that was found in a part that starts at place base.
 fn url_at(part: &[u8], b: BoxAt, base: usize) -> Verdict
-    requires { ⌜ (b .head ≤ b .size) × (b .at + b .size ≤ length (now part)) × (base + length (now part) < 2 ^ 64) ⌝ }
+    requires { ⌜ (b .head ≤ b .span) × (b .at + b .span ≤ length (now part)) × (base + length (now part) < 2 ^ 64) ⌝ }
     ensures { λ r. ⌜ r ≡ urlAt (boxAt (now (part .entry)) b) (base + b .at) ⌝ }
 {
     if is_url(b.code, walk::body(part, b)) == 0 {

@@ -17,14 +17,14 @@ some-runs : (chunks runs n : ℕ) → emptyTogether chunks runs n ≡ true → 0
 unfolding emptyTogether
 some-runs chunks runs n e h = le-is _ _ (eq-nay _ _ _ _ _ (λ z. omega arith) refl ∙ e)
 
-module _ (stts stsc stsz stco : List ℕ) (entries : ℕ) (six : Six stts stsc stsz stco) where
+module _ (stts stsc stsz stco : List ℕ) (descriptions : ℕ) (six : Six stts stsc stsz stco) where
   -- the clauses that the walk goes by
-  pub walkable : runsFine stsc (items stco) entries (items stsc) ≡ true → emptyTogether (items stco) (items stsc) (sampleCount stsz) ≡ true → Walkable stsc stco
+  pub walkable : runsFine stsc (items stco) descriptions (items stsc) ≡ true → emptyTogether (items stco) (items stsc) (sampleCount stsz) ≡ true → Walkable stsc stco
   walkable e f =
-      record { runs = six .runs; offsets = six .offsets; rising = rising stsc (items stco) entries e; some = some-runs _ _ _ f }
+      record { runs = six .runs; offsets = six .offsets; rising = rising stsc (items stco) descriptions e; some = some-runs _ _ _ f }
 
   -- rule 7, as a test and as facts
-  pub seven-is : tablesAgree stts stsc stsz stco entries ≡ true → Seven stts stsc stsz stco
+  pub seven-is : tablesAgree stts stsc stsz stco descriptions ≡ true → Seven stts stsc stsz stco
   unfolding tablesAgree
   seven-is e =
       record {
@@ -36,9 +36,9 @@ module _ (stts stsc stsz stco : List ℕ) (entries : ℕ) (six : Six stts stsc s
 
 -- ---- `stco` is read by its count and its offsets alone
 
-pub seven-same : (stts stsc stsz : List ℕ) (entries : ℕ) (o p : List ℕ) → items o ≡ items p → tablesAgree stts stsc stsz o entries ≡ tablesAgree stts stsc stsz p entries
+pub seven-same : (stts stsc stsz : List ℕ) (descriptions : ℕ) (o p : List ℕ) → items o ≡ items p → tablesAgree stts stsc stsz o descriptions ≡ tablesAgree stts stsc stsz p descriptions
 unfolding tablesAgree
-seven-same stts stsc stsz entries o p e = rw e
+seven-same stts stsc stsz descriptions o p e = rw e
 
 pub chunk-same : (stsc : List ℕ) (k : ℕ) (o p : List ℕ) → offsetAt o k ≡ offsetAt p k → chunkAt stsc o k ≡ chunkAt stsc p k
 unfolding chunkAt

@@ -10,25 +10,25 @@ use Rattle.wire.proofs.Clauses.{eq-is, lt-is, clause}
 use Rattle.sample_tables.specs.Tables.{items}
 use Rattle.sample_tables.specs.Runs.{rises, runFine, runsFine, Rising}
 
-module _ (stsc : List ℕ) (chunks entries : ℕ) where
-  pub runs-none : runsFine stsc chunks entries 0 ≡ true
+module _ (stsc : List ℕ) (chunks descriptions : ℕ) where
+  pub runs-none : runsFine stsc chunks descriptions 0 ≡ true
   unfolding runsFine
-  runs-none = all-none (runFine stsc chunks entries)
+  runs-none = all-none (runFine stsc chunks descriptions)
 
-  pub runs-more : (i : ℕ) → runsFine stsc chunks entries i ≡ true → runFine stsc chunks entries i ≡ true → runsFine stsc chunks entries (i + 1) ≡ true
+  pub runs-more : (i : ℕ) → runsFine stsc chunks descriptions i ≡ true → runFine stsc chunks descriptions i ≡ true → runsFine stsc chunks descriptions (i + 1) ≡ true
   unfolding runsFine
-  runs-more = all-more (runFine stsc chunks entries)
+  runs-more = all-more (runFine stsc chunks descriptions)
 
-  pub runs-fail : (n i : ℕ) → i < n → runFine stsc chunks entries i ≡ false → runsFine stsc chunks entries n ≡ false
+  pub runs-fail : (n i : ℕ) → i < n → runFine stsc chunks descriptions i ≡ false → runsFine stsc chunks descriptions n ≡ false
   unfolding runsFine
-  runs-fail = all-fails (runFine stsc chunks entries)
+  runs-fail = all-fails (runFine stsc chunks descriptions)
 
-  rises-at : (n : ℕ) → runsFine stsc chunks entries n ≡ true → (i : ℕ) → i < n → rises stsc i ≡ true
+  rises-at : (n : ℕ) → runsFine stsc chunks descriptions n ≡ true → (i : ℕ) → i < n → rises stsc i ≡ true
   unfolding runsFine runFine
-  rises-at n e i h = clause 0 _ (all-at (runFine stsc chunks entries) n e i h)
+  rises-at n e i h = clause 0 _ (all-at (runFine stsc chunks descriptions) n e i h)
 
   -- the runs that the rule lets through rise from 1
-  pub rising : runsFine stsc chunks entries (items stsc) ≡ true → Rising stsc
+  pub rising : runsFine stsc chunks descriptions (items stsc) ≡ true → Rising stsc
   unfolding rises
   rising e =
       record {

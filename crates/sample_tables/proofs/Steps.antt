@@ -32,7 +32,7 @@ module _ (stsc stco : List ℕ) where
       → entry ≡ description stsc (w .run)
       → run ≡ runOf stsc (w .chunk + 1)
       → w .chunk < items stco
-      → Found (record { number = w .chunk; offset = offset; first = w .sample; samples = samples; description = entry })
+      → Found (record { nth = w .chunk; offset = offset; first = w .sample; samples = samples; description = entry })
       (record { chunk = w .chunk + 1; run = run; sample = w .sample + samples })
       ≡ stepOf stsc stco (w .chunk)
   unfolding stepOf chunkAt walkAt samplesIn descriptionOf

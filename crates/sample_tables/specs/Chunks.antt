@@ -33,7 +33,7 @@ offsetAt stco k = field 4 0 stco k
 unfoldable pub chunkAt : List ℕ → List ℕ → ℕ → Chunk
 chunkAt stsc stco k =
     record {
-      number = k;
+      nth = k;
       offset = offsetAt stco k;
       first = firstSample stsc k;
       samples = samplesIn stsc k;

@@ -22,13 +22,13 @@ pub record Six (stts stsc stsz stco : List ℕ) : Type 0 where
 unfoldable pub emptyTogether : ℕ → ℕ → ℕ → Bool
 emptyTogether chunks runs n = ifEq chunks 0 (every (isEq runs 0 ∷ isEq n 0 ∷ [])) (isLe 1 runs)
 
--- rule 7, with the count of the track's sample entries
+-- rule 7, with the count of the track's sample descriptions
 unfoldable pub tablesAgree : (stts stsc stsz stco : List ℕ) → ℕ → Bool
-tablesAgree stts stsc stsz stco entries =
+tablesAgree stts stsc stsz stco descriptions =
     every
     (isLe (sampleCount stsz) 65536
     ∷ isEq (timed stts) (sampleCount stsz)
-    ∷ runsFine stsc (items stco) entries (items stsc)
+    ∷ runsFine stsc (items stco) descriptions (items stsc)
     ∷ isEq (samplesOver stsc (items stco)) (sampleCount stsz)
     ∷ emptyTogether (items stco) (items stsc) (sampleCount stsz)
     ∷ [])

@@ -23,18 +23,18 @@ rises stsc i = ifEq i 0 (isEq (firstChunk stsc i) 1) (isLt (firstChunk stsc (i -
 
 -- rule 7 of run i: its first chunk number rises and doesn't "pass the chunk count; samples per chunk at least 1; description index 1 to the entry count"
 unfoldable pub runFine : List ℕ → ℕ → ℕ → ℕ → Bool
-runFine stsc chunks entries i =
+runFine stsc chunks descriptions i =
     every
     (rises stsc i
     ∷ isLe (firstChunk stsc i) chunks
     ∷ isLe 1 (perChunk stsc i)
     ∷ isLe 1 (description stsc i)
-    ∷ isLe (description stsc i) entries
+    ∷ isLe (description stsc i) descriptions
     ∷ [])
 
 -- of the first n runs
 unfoldable pub runsFine : List ℕ → ℕ → ℕ → ℕ → Bool
-runsFine stsc chunks entries n = allTo (runFine stsc chunks entries) n
+runsFine stsc chunks descriptions n = allTo (runFine stsc chunks descriptions) n
 
 -- what the walk by chunk goes by
 pub record Rising (stsc : List ℕ) : Type 0 where

@@ -27,23 +27,23 @@ fn empty_together(chunks: usize, runs: usize, samples: usize) -> usize
     1
 }
 
-// Whether a track with so many sample entries meets rule 7: 1 or 0.
-pub fn seven(stts: &[u8], stsc: &[u8], stsz: &[u8], stco: &[u8], entries: usize) -> usize
+// Whether a track with so many sample descriptions meets rule 7: 1 or 0.
+pub fn seven(stts: &[u8], stsc: &[u8], stsz: &[u8], stco: &[u8], descriptions: usize) -> usize
     requires { ⌜ Six (now stts) (now stsc) (now stsz) (now stco) ⌝ }
-    ensures { λ r. ⌜ r ≡ oneIf (tablesAgree (now (stts .entry)) (now (stsc .entry)) (now (stsz .entry)) (now (stco .entry)) entries) ⌝ }
+    ensures { λ r. ⌜ r ≡ oneIf (tablesAgree (now (stts .entry)) (now (stsc .entry)) (now (stsz .entry)) (now (stco .entry)) descriptions) ⌝ }
 {
     let samples = size::samples(stsz);
-    let chunks = table::count(stco);
+    let chunks = table::items(stco);
     if 65536 < samples {
         return 0;
     }
     if time::timed(stts) != samples {
         return 0;
     }
-    if run::runs_fine(stsc, chunks, entries) == 0 {
+    if run::runs_fine(stsc, chunks, descriptions) == 0 {
         return 0;
     }
-    if empty_together(chunks, table::count(stsc), samples) == 0 {
+    if empty_together(chunks, table::items(stsc), samples) == 0 {
         return 0;
     }
     if chunk::samples_over(stsc, stco) != samples {

@@ -9,7 +9,7 @@ ghost use Rattle.sample_tables.specs.Chunks.{offsetAt, extentOf, samples
 
 // A chunk: its number from 0, its offset in the file, its first sample from 0, how many it has, and their description.
 pub struct Chunk {
-    pub number: usize,
+    pub nth: usize,
     pub offset: usize,
     pub first: usize,
     pub samples: usize,
@@ -59,22 +59,22 @@ impl ChunkWalk {
         requires { ⌜ Walkable (now stsc) (now stco) × (self ≡ walkAt (now stsc) (self .chunk)) ⌝ }
         ensures { λ r. ⌜ r ≡ stepOf (now (stsc .entry)) (now (stco .entry)) (self .chunk) ⌝ }
     {
-        let number = self.chunk;
-        if table::count(stco) <= number {
+        let nth = self.chunk;
+        if table::items(stco) <= nth {
             return ChunkStep::End;
         }
         let run = self.run;
         let samples = run::per_chunk(stsc, run);
         let found = Chunk {
-            number,
-            offset: offset_at(stco, number),
+            nth,
+            offset: offset_at(stco, nth),
             first: self.sample,
             samples,
             description: run::description(stsc, run),
         };
         let next = ChunkWalk {
-            chunk: number + 1,
-            run: run::run_after(stsc, number, run),
+            chunk: nth + 1,
+            run: run::run_after(stsc, nth, run),
             sample: self.sample + samples,
         };
         ChunkStep::Found(found, next)

@@ -48,9 +48,9 @@ fn rises(stsc: &[u8], i: usize) -> usize
 }
 
 // Whether run i is as rule 7 wants it: 1 or 0.
-fn run_fine(stsc: &[u8], chunks: usize, entries: usize, i: usize) -> usize
+fn run_fine(stsc: &[u8], chunks: usize, descriptions: usize, i: usize) -> usize
     requires { ⌜ Table 12 (now stsc) × (i < items (now stsc)) ⌝ }
-    ensures { λ r. ⌜ r ≡ oneIf (runFine (now (stsc .entry)) chunks entries i) ⌝ }
+    ensures { λ r. ⌜ r ≡ oneIf (runFine (now (stsc .entry)) chunks descriptions i) ⌝ }
 {
     if rises(stsc, i) == 0 {
         return 0;
@@ -65,21 +65,21 @@ fn run_fine(stsc: &[u8], chunks: usize, entries: usize, i: usize) -> usize
     if index < 1 {
         return 0;
     }
-    if entries < index {
+    if descriptions < index {
         return 0;
     }
     1
 }
 
 // Whether every run is: 1 or 0.
-pub fn runs_fine(stsc: &[u8], chunks: usize, entries: usize) -> usize
+pub fn runs_fine(stsc: &[u8], chunks: usize, descriptions: usize) -> usize
     requires { ⌜ Table 12 (now stsc) ⌝ }
-    ensures { λ r. ⌜ r ≡ oneIf (runsFine (now (stsc .entry)) chunks entries (items (now (stsc .entry)))) ⌝ }
+    ensures { λ r. ⌜ r ≡ oneIf (runsFine (now (stsc .entry)) chunks descriptions (items (now (stsc .entry)))) ⌝ }
 {
-    let n = table::count(stsc);
+    let n = table::items(stsc);
     let mut i = 0;
     while i < n {
-        if run_fine(stsc, chunks, entries, i) == 0 {
+        if run_fine(stsc, chunks, descriptions, i) == 0 {
             return 0;
         }
         i += 1;
@@ -92,7 +92,7 @@ pub fn run_after(stsc: &[u8], k: usize, run: usize) -> usize
     requires { ⌜ Table 12 (now stsc) × Rising (now stsc) × (run ≡ runOf (now stsc) k) × (k < 2 ^ 32) × (0 < items (now stsc)) ⌝ }
     ensures { λ r. ⌜ r ≡ runOf (now (stsc .entry)) (k + 1) ⌝ }
 {
-    if run + 1 < table::count(stsc) {
+    if run + 1 < table::items(stsc) {
         if start_of(stsc, run + 1) <= k + 2 {
             return run + 1;
         }

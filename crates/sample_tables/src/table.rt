@@ -3,7 +3,7 @@ use wire::number;
 ghost use mathlib.Core.Path.{_≡_};
 ghost use Prim.Native.Nat.{_+_, _^_, _≤_, _<_};
 ghost use Rattle.wire.specs.Clauses.{oneIf};
-ghost use Rattle.sample_tables.specs.Tables.{Table, hasForm, tableForm, items, field as fieldOf};
+ghost use Rattle.sample_tables.specs.Tables.{Table, hasForm, tableForm, items as itemsOf, field as fieldOf};
 
 // Whether a payload has version byte 0 and the given length: 1 or 0.
 pub fn has_form(part: &[u8], long: usize) -> usize
@@ -19,8 +19,8 @@ pub fn has_form(part: &[u8], long: usize) -> usize
 }
 
 // The stored count.
-pub fn count(part: &[u8]) -> usize
-    ensures { λ r. ⌜ (r ≡ items (now (part .entry))) × (r < 2 ^ 32) ⌝ }
+pub fn items(part: &[u8]) -> usize
+    ensures { λ r. ⌜ (r ≡ itemsOf (now (part .entry))) × (r < 2 ^ 32) ⌝ }
 {
     number::word32(part, 4)
 }
@@ -30,12 +30,12 @@ pub fn table_form(part: &[u8], width: usize) -> usize
     requires { ⌜ width ≤ 12 ⌝ }
     ensures { λ r. ⌜ r ≡ oneIf (tableForm width (now (part .entry))) ⌝ }
 {
-    has_form(part, 8 + width * count(part))
+    has_form(part, 8 + width * items(part))
 }
 
 // The number at byte j of item i.
 pub fn field(part: &[u8], width: usize, j: usize, i: usize) -> usize
-    requires { ⌜ Table width (now part) × (j + 4 ≤ width) × (i < items (now part)) ⌝ }
+    requires { ⌜ Table width (now part) × (j + 4 ≤ width) × (i < itemsOf (now part)) ⌝ }
     ensures { λ r. ⌜ (r ≡ fieldOf width j (now (part .entry)) i) × (r < 2 ^ 32) ⌝ }
 {
     number::word32_in(part, 8 + j + width * i)

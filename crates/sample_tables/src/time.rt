@@ -14,7 +14,7 @@ pub fn timed(stts: &[u8]) -> usize
     requires { ⌜ Table 8 (now stts) ⌝ }
     ensures { λ r. ⌜ r ≡ timedOf (now (stts .entry)) ⌝ }
 {
-    let n = table::count(stts);
+    let n = table::items(stts);
     let mut i = 0;
     let mut sum = 0;
     while i < n {
@@ -29,7 +29,7 @@ pub fn media_ticks(stts: &[u8]) -> MediaTicks
     requires { ⌜ Table 8 (now stts) × (timedOf (now stts) ≤ 65536) ⌝ }
     ensures { λ r. ⌜ r .0 ≡ mediaTicks (now (stts .entry)) ⌝ }
 {
-    let n = table::count(stts);
+    let n = table::items(stts);
     let mut i = 0;
     let mut sum = 0;
     while i < n {
@@ -46,7 +46,7 @@ pub fn tick_at(stts: &[u8], sample: usize) -> MediaTicks
     requires { ⌜ Table 8 (now stts) × (sample ≤ 65536) ⌝ }
     ensures { λ r. ⌜ r .0 ≡ tickAt (now (stts .entry)) sample ⌝ }
 {
-    let n = table::count(stts);
+    let n = table::items(stts);
     let mut i = 0;
     let mut left = sample;
     let mut sum = 0;

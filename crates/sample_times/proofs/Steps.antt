@@ -24,7 +24,7 @@ use Rattle.sample_times.proofs.Walks.{timed-is, first-timed}
 pub record Sounded (stts stsc stco : List ℕ) (i k : ℕ) (c : Chunk) (t : MediaTicks) (w : TimedWalk) : Type 0 where
   pub inside : k < items stco
   pub found : c ≡ chunkAt stsc stco k
-  pub number : c .number ≡ k
+  pub nth : c .nth ≡ k
   pub tick : t .0 ≡ tickAt stts (firstSample stsc k)
   pub chunk : w .walk .chunk ≡ k + 1
   pub item : w .clock .item ≡ i
@@ -37,9 +37,9 @@ pub record Ticked (stts stsc stco : List ℕ) (i k : ℕ) (w : TimedWalk) : Type
   pub item : w .clock .item ≡ i + 1
   pub walk : Timed stts stsc w
 
-chunk-number : (stsc stco : List ℕ) (k : ℕ) (c : Chunk) → c ≡ chunkAt stsc stco k → c .number ≡ k
+chunk-number : (stsc stco : List ℕ) (k : ℕ) (c : Chunk) → c ≡ chunkAt stsc stco k → c .nth ≡ k
 unfolding chunkAt
-chunk-number stsc stco k c e = ap (λ (d : Chunk). d .number) e
+chunk-number stsc stco k c e = ap (λ (d : Chunk). d .nth) e
 
 -- the tick of the chunk of a number
 pub tick-of : (stts stsc : List ℕ) (j k : ℕ) (t : MediaTicks) → t .0 ≡ tickAt stts (firstSample stsc k) → k ≡ j → t .0 ≡ tickAt stts (firstSample stsc j)
@@ -63,7 +63,7 @@ module _ (stts stsc stco : List ℕ) (a : Playable stts stsc stco) (w : TimedWal
       let f : c ≡ chunkAt stsc stco (w .walk .chunk) = cc in
       let u : t ≡ startTick stts (firstSample stsc (w .walk .chunk)) = cc in
       let i = timed-is stts stsc stco a v (w .clock .item) (w .walk .chunk + 1) (cc) (h .item) (omega (arith, h .before, first-mono stsc (w .walk .chunk) (w .walk .chunk + 1) (omega arith))) in
-      record { inside = k; found = f; number = chunk-number stsc stco _ c f; tick = ap (λ (m : MediaTicks). m .0) u; chunk = i .0; item = i .1; walk = i .2 })
+      record { inside = k; found = f; nth = chunk-number stsc stco _ c f; tick = ap (λ (m : MediaTicks). m .0) u; chunk = i .0; item = i .1; walk = i .2 })
       (λ k x. let z : _≡_ {A = ℕ} 0 1 = cc in absurd (omega arith))
 
   -- no chunk starts past the last item

@@ -38,7 +38,7 @@ impl Clock {
         ensures { λ r. ⌜ r ≡ turnOf (now (stts .entry)) (self .item) sample ⌝ }
     {
         let item = self.item;
-        if item < table::count(stts) {
+        if item < table::items(stts) {
             let counted = table::field(stts, 8, 0, item);
             let delta = table::field(stts, 8, 4, item);
             let over = sample - self.sample;

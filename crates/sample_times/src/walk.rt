@@ -62,7 +62,7 @@ pub fn chunk_tick(stts: &[u8], stsc: &[u8], stco: &[u8], k: usize) -> MediaTicks
     loop {
         match walk.step(stts, stsc, stco) {
             TimedStep::Found(chunk, tick, next) => {
-                if chunk.number == k {
+                if chunk.nth == k {
                     return tick;
                 }
                 walk = next;

@@ -31,15 +31,15 @@ kind-byte code =
     (either _ _ _ _ (omega arith)
     (either _ _ _ _ (omega arith) (either _ _ _ _ (omega arith) (either _ _ _ _ (omega arith) (omega arith))))))
 
-pub slot-is : (kind track place size : ℕ) → kind < 256 → track < 256 → bytes 1 kind ++ bytes 1 track ++ bytes 2 0 ++ bytes 4 place ++ bytes 4 size ≡ slot kind track place size
+pub slot-is : (kind track place span : ℕ) → kind < 256 → track < 256 → bytes 1 kind ++ bytes 1 track ++ bytes 2 0 ++ bytes 4 place ++ bytes 4 span ≡ slot kind track place span
 unfolding slot bytes bytesOn
-slot-is kind track place size h k =
+slot-is kind track place span h k =
     let e : kind % 256 ≡ kind = omega arith in
     let f : track % 256 ≡ track = omega arith in
     rw (e, f)
 
 -- the slot of an entry whose bytes are ys
-pub slot-of : (xs : List ℕ) (e : EntryAt) {ys : List ℕ} {code kind : ℕ} {out after : List ℕ} {at r : ℕ} → ys ≡ take (e .size) (drop (e .place) xs) → code ≡ word 4 ys 4 → kind ≡ kindOf code → Put (slot kind (e .track) (e .place) (length ys)) out at r after → Put (slotOf (entryAs xs e)) out at r after
+pub slot-of : (xs : List ℕ) (e : EntryAt) {ys : List ℕ} {code kind : ℕ} {out after : List ℕ} {at r : ℕ} → ys ≡ take (e .span) (drop (e .place) xs) → code ≡ word 4 ys 4 → kind ≡ kindOf code → Put (slot kind (e .track) (e .place) (length ys)) out at r after → Put (slotOf (entryAs xs e)) out at r after
 slot-of xs e f g k p = pen-is (rw (k, g, f)) p
 
 -- what `&file[from..to]` lends

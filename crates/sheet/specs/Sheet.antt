@@ -15,7 +15,7 @@ SLOT = 12
 
 -- "kind, track (from 1, in file order), two zeros, the entry's place in the file (4), body length (4)"
 unfoldable pub slot : ℕ → ℕ → ℕ → ℕ → List ℕ
-slot kind track place size = (kind ∷ track ∷ 0 ∷ 0 ∷ []) ++ bytes 4 place ++ bytes 4 size
+slot kind track place span = (kind ∷ track ∷ 0 ∷ 0 ∷ []) ++ bytes 4 place ++ bytes 4 span
 
 abbrev pub slotOf : Entry → List ℕ
 slotOf e = slot (kindOf (word 4 (e .bytes) 4)) (e .track) (e .place) (length (e .bytes))

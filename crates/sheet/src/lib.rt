@@ -32,25 +32,25 @@ pub fn put_slot(
     kind: usize,
     track: usize,
     place: usize,
-    size: usize,
+    span: usize,
 ) -> usize
     requires { ⌜ (at < 60000) × (kind < 256) × (track < 256) ⌝ }
-    ensures { λ r. ⌜ Put (slotText kind track place size) (now (out .entry)) at r (now (out .exit)) × (r ≡ at + 12) ⌝ }
+    ensures { λ r. ⌜ Put (slotText kind track place span) (now (out .entry)) at r (now (out .exit)) × (r ≡ at + 12) ⌝ }
 {
     let a = pen::put_number(out, at, 1, kind);
     let b = pen::put_number(out, a, 1, track);
     let c = pen::put_number(out, b, 2, 0);
     let d = pen::put_number(out, c, 4, place);
-    pen::put_number(out, d, 4, size)
+    pen::put_number(out, d, 4, span)
 }
 
 // Writes the slot of an entry that was looked up.
 fn put_slot_of(out: &mut [u8], at: usize, file: &[u8], e: EntryAt) -> usize
-    requires { ⌜ (at < 60000) × (e .track < 256) × (e .place + e .size ≤ length (now file)) ⌝ }
+    requires { ⌜ (at < 60000) × (e .track < 256) × (e .place + e .span ≤ length (now file)) ⌝ }
     ensures { λ r. ⌜ Put (slotOf (entryAs (now (file .entry)) e)) (now (out .entry)) at r (now (out .exit)) × (r ≡ at + 12) ⌝ }
 {
     let from = e.place;
-    let to = e.place + e.size;
+    let to = e.place + e.span;
     let bytes = &file[from..to];
     let kind = kind::of_code(number::word32(bytes, 4));
     put_slot(out, at, kind, e.track, from, bytes.len())
@@ -83,11 +83,11 @@ fn put_slots(out: &mut [u8], from: usize, file: &[u8], n: usize) -> usize
 
 // Writes an entry that was looked up.
 fn put_body_of(out: &mut [u8], at: usize, file: &[u8], e: EntryAt) -> usize
-    requires { ⌜ (at < 2 ^ 62) × (e .place + e .size ≤ length (now file)) × (length (now file) ≤ LONGEST) ⌝ }
-    ensures { λ r. ⌜ Put (take (e .size) (drop (e .place) (now (file .entry)))) (now (out .entry)) at r (now (out .exit)) × (r ≤ at + LONGEST) ⌝ }
+    requires { ⌜ (at < 2 ^ 62) × (e .place + e .span ≤ length (now file)) × (length (now file) ≤ LONGEST) ⌝ }
+    ensures { λ r. ⌜ Put (take (e .span) (drop (e .place) (now (file .entry)))) (now (out .entry)) at r (now (out .exit)) × (r ≤ at + LONGEST) ⌝ }
 {
     let from = e.place;
-    let to = e.place + e.size;
+    let to = e.place + e.span;
     pen::put_part(out, at, &file[from..to])
 }
 
@@ -136,8 +136,8 @@ fn sheet_of(file: &[u8], out: &mut [u8]) -> Answer
     ensures { λ r. ⌜ Exact (gives (sheetOf (now (file .entry)))) (now (out .entry)) r (now (out .exit)) ⌝ }
 {
     let mut none = [0u8; 1];
-    let size = put_sheet(&mut none, file);
-    if out.len() < size {
+    let span = put_sheet(&mut none, file);
+    if out.len() < span {
         return Answer::Refused(25, 0);
     }
     Answer::Done(put_sheet(out, file))

@@ -31,24 +31,24 @@ table-length : (es : List Entry) → length (table es) ≡ 16 + length (bodies e
 unfolding table
 table-length es = rw (length-append, length-append, length-append, length-append, length-bytes 4 (16 + length (bodies es)), length-bytes 4 STSD, length-bytes 4 0, length-bytes 4 (length es))
 
-pub table-put : (es : List Entry) {count size : ℕ} {out a b d e after : List ℕ} {i j l m r : ℕ} → count ≡ length es → size ≡ length (bodies es) → Put (bytes 4 (16 + size)) out 0 i a → Put (bytes 4 STSD) a i j b → Put (bytes 4 0) b j l d → Put (bytes 4 count) d l m e → Put (bodies es) e m r after → Put (table es) out 0 r after
+pub table-put : (es : List Entry) {count span : ℕ} {out a b d e after : List ℕ} {i j l m r : ℕ} → count ≡ length es → span ≡ length (bodies es) → Put (bytes 4 (16 + span)) out 0 i a → Put (bytes 4 STSD) a i j b → Put (bytes 4 0) b j l d → Put (bytes 4 count) d l m e → Put (bodies es) e m r after → Put (table es) out 0 r after
 unfolding table
 table-put es c s pa pb pd pe po = pen-then (pen-then (pen-then (pen-then (rw s at pa) pb) pd) (rw c at pe)) po
 
 -- ---- of a track's entries, the length of whose bodies a writer told first
 
-module _ (es : List Entry) (out : List ℕ) {start after : List ℕ} {size : ℕ} (p : Put (bodies es) start 0 size after) where
-  long : length (table es) ≡ 16 + size
+module _ (es : List Entry) (out : List ℕ) {start after : List ℕ} {span : ℕ} (p : Put (bodies es) start 0 span after) where
+  long : length (table es) ≡ 16 + span
   long = table-length es ∙ omega (arith, p .next)
 
-  pub own-long : LONGEST < 16 + size → Exact (asked ((24, inLimit (table es)) ∷ []) (gives (table es))) out (Refused 24 0) out
+  pub own-long : LONGEST < 16 + span → Exact (asked ((24, inLimit (table es)) ∷ []) (gives (table es))) out (Refused 24 0) out
   own-long l = over-limit (table es) out (omega (arith, long))
 
-  module _ (l : 16 + size ≤ LONGEST) where
-    pub own-short : length out < 16 + size → Exact (asked ((24, inLimit (table es)) ∷ []) (gives (table es))) out (Refused 25 0) out
+  module _ (l : 16 + span ≤ LONGEST) where
+    pub own-short : length out < 16 + span → Exact (asked ((24, inLimit (table es)) ∷ []) (gives (table es))) out (Refused 25 0) out
     own-short m = in-limit (table es) out (omega (arith, long)) (exact-short (table es) out (omega (arith, long)))
 
-    pub own-done : {r : ℕ} {left : List ℕ} → 16 + size ≤ length out → Put (table es) out 0 r left → Exact (asked ((24, inLimit (table es)) ∷ []) (gives (table es))) out (Done r) left
+    pub own-done : {r : ℕ} {left : List ℕ} → 16 + span ≤ length out → Put (table es) out 0 r left → Exact (asked ((24, inLimit (table es)) ∷ []) (gives (table es))) out (Done r) left
     own-done m w = in-limit (table es) out (omega (arith, long)) (exact-wrote (table es) out (omega (arith, long)) (pen-front w (omega (arith, long, w .next))))
 
 -- ---- of a sheet

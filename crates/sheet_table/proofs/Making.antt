@@ -16,9 +16,9 @@ use Rattle.sheet_table.specs.Form.{read}
 
 -- ---- the front
 
-pub slot-length : (kind track place size : ℕ) → length (slot kind track place size) ≡ SLOT
+pub slot-length : (kind track place span : ℕ) → length (slot kind track place span) ≡ SLOT
 unfolding slot
-slot-length kind track place size = rw (length-append, length-append, length-bytes 4 place, length-bytes 4 size)
+slot-length kind track place span = rw (length-append, length-append, length-bytes 4 place, length-bytes 4 span)
 
 pub slots-length : (es : List Entry) → length (slots es) ≡ SLOT * length es
 unfolding slots

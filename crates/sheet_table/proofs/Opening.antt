@@ -34,7 +34,7 @@ module _ {k n : ℕ} (s : List ℕ) {xs ys made start : List ℕ} {r f : ℕ} (o
   unfolding sheet
   made-bad = same-bad s (front k (unsheet k s)) (bodies (unsheet k s)) (front-length k (unsheet k s) few) is
 
-  pub made-good : {size q : ℕ} → (f ≡ 0 → ⊥) → size ≡ length (bodies (read n xs ys)) → q ≡ ifEq size (length ys) 1 0 → q ≡ same s (sheet k (unsheet k s))
+  pub made-good : {span q : ℕ} → (f ≡ 0 → ⊥) → span ≡ length (bodies (read n xs ys)) → q ≡ ifEq span (length ys) 1 0 → q ≡ same s (sheet k (unsheet k s))
   unfolding sheet
   made-good z l g =
       same-good s (front k (unsheet k s)) (bodies (unsheet k s)) (front-length k (unsheet k s) few) is z

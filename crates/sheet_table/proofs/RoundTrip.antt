@@ -19,7 +19,7 @@ use Rattle.sheet_table.proofs.Making.{slot-length, front-length}
 -- what an entry says fits its slot
 pub record Small (e : Entry) : Type 0 where
   pub place : e .place < 2 ^ 32
-  pub size : length (e .bytes) < 2 ^ 32
+  pub span : length (e .bytes) < 2 ^ 32
 
 pub data AllSmall : List Entry → Type 0 where
   none : AllSmall []
@@ -27,27 +27,27 @@ pub data AllSmall : List Entry → Type 0 where
 
 -- ---- a slot read back
 
-module _ (kind track place size : ℕ) (zs : List ℕ) where
-  slot-track : getD (slot kind track place size ++ zs) 1 0 ≡ track
+module _ (kind track place span : ℕ) (zs : List ℕ) where
+  slot-track : getD (slot kind track place span ++ zs) 1 0 ≡ track
   unfolding slot
   slot-track = refl
 
-  slot-place : place < 2 ^ 32 → word 4 (slot kind track place size ++ zs) 4 ≡ place
+  slot-place : place < 2 ^ 32 → word 4 (slot kind track place span ++ zs) 4 ≡ place
   unfolding slot
   slot-place h =
-      ap (λ (xs : List ℕ). word 4 xs 4) (append-assoc (kind ∷ track ∷ 0 ∷ 0 ∷ [] ++ bytes 4 place) (bytes 4 size) zs)
-      ∙ word-right 4 (kind ∷ track ∷ 0 ∷ 0 ∷ []) (bytes 4 place ++ (bytes 4 size ++ zs)) 4 0 refl
-      ∙ word-bytes 4 place (bytes 4 size ++ zs) h
+      ap (λ (xs : List ℕ). word 4 xs 4) (append-assoc (kind ∷ track ∷ 0 ∷ 0 ∷ [] ++ bytes 4 place) (bytes 4 span) zs)
+      ∙ word-right 4 (kind ∷ track ∷ 0 ∷ 0 ∷ []) (bytes 4 place ++ (bytes 4 span ++ zs)) 4 0 refl
+      ∙ word-bytes 4 place (bytes 4 span ++ zs) h
 
-  slot-size : size < 2 ^ 32 → word 4 (slot kind track place size ++ zs) 8 ≡ size
+  slot-size : span < 2 ^ 32 → word 4 (slot kind track place span ++ zs) 8 ≡ span
   unfolding slot
   slot-size h =
-      ap (λ (xs : List ℕ). word 4 xs 8) (append-assoc (kind ∷ track ∷ 0 ∷ 0 ∷ [] ++ bytes 4 place) (bytes 4 size) zs)
-      ∙ word-right 4 (kind ∷ track ∷ 0 ∷ 0 ∷ [] ++ bytes 4 place) (bytes 4 size ++ zs) 8 0 (rw (length-bytes 4 place))
-      ∙ word-bytes 4 size zs h
+      ap (λ (xs : List ℕ). word 4 xs 8) (append-assoc (kind ∷ track ∷ 0 ∷ 0 ∷ [] ++ bytes 4 place) (bytes 4 span) zs)
+      ∙ word-right 4 (kind ∷ track ∷ 0 ∷ 0 ∷ [] ++ bytes 4 place) (bytes 4 span ++ zs) 8 0 (rw (length-bytes 4 place))
+      ∙ word-bytes 4 span zs h
 
-  slot-past : drop SLOT (slot kind track place size ++ zs) ≡ zs
-  slot-past = drop-at (slot kind track place size) zs SLOT (slot-length kind track place size)
+  slot-past : drop SLOT (slot kind track place span ++ zs) ≡ zs
+  slot-past = drop-at (slot kind track place span) zs SLOT (slot-length kind track place span)
 
 -- ---- there and back
 
@@ -55,7 +55,7 @@ back : (es : List Entry) (zs : List ℕ) → AllSmall es → read (length es) (s
 unfolding read slots bodies
 back [] zs none = refl
 back (e ∷ es) zs (more s a) =
-    rw (append-assoc, slot-track, slot-place _ _ _ _ _ (s .place), slot-size _ _ _ _ _ (s .size), slot-past, take-append-seam, drop-append-seam)
+    rw (append-assoc, slot-track, slot-place _ _ _ _ _ (s .place), slot-size _ _ _ _ _ (s .span), slot-past, take-append-seam, drop-append-seam)
     (ap (λ (t : List Entry). e ∷ t) (back es zs a))
 
 pub unsheet-sheet : (k : ℕ) (es : List Entry) → length es ≤ k → AllSmall es → unsheet k (sheet k es) ≡ es

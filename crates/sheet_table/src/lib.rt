@@ -73,47 +73,47 @@ fn put_own(out: &mut [u8], at: usize, slots: &[u8], bodies: &[u8], n: usize, tra
     )
 }
 
-// Writes the table of a track, which has `count` entries with bodies of `size` bytes in all.
+// Writes the table of a track, which has `own` entries with bodies of `span` bytes in all.
 fn put_table(
     out: &mut [u8],
     slots: &[u8],
     bodies: &[u8],
     n: usize,
     track: usize,
-    count: usize,
-    size: usize,
+    own: usize,
+    span: usize,
 ) -> usize
-    requires { ⌜ (16 + length (now bodies) < 2 ^ 63) × (size < 2 ^ 63) × (count ≡ length (ownEntries track (read n (now slots) (now bodies)))) × (size ≡ length (bodiesText (ownEntries track (read n (now slots) (now bodies))))) ⌝ }
+    requires { ⌜ (16 + length (now bodies) < 2 ^ 63) × (span < 2 ^ 63) × (own ≡ length (ownEntries track (read n (now slots) (now bodies)))) × (span ≡ length (bodiesText (ownEntries track (read n (now slots) (now bodies))))) ⌝ }
     ensures { λ r. ⌜ Put (tableText (ownEntries track (read n (now (slots .entry)) (now (bodies .entry))))) (now (out .entry)) 0 r (now (out .exit)) ⌝ }
 {
-    let a = pen::put_number(out, 0, 4, 16 + size);
+    let a = pen::put_number(out, 0, 4, 16 + span);
     let b = pen::put_number(out, a, 4, codes::STSD);
     let c = pen::put_number(out, b, 4, 0);
-    let d = pen::put_number(out, c, 4, count);
+    let d = pen::put_number(out, c, 4, own);
     put_own(out, d, slots, bodies, n, track)
 }
 
-// Of a track that has `count` entries of n slots: 24, 25, or its table is written.
+// Of a track that has `own` entries of n slots: 24, 25, or its table is written.
 fn write_own(
     slots: &[u8],
     bodies: &[u8],
     n: usize,
     track: usize,
-    count: usize,
+    own: usize,
     out: &mut [u8],
 ) -> Answer
-    requires { ⌜ (16 + length (now bodies) < 2 ^ 63) × (count ≡ length (ownEntries track (read n (now slots) (now bodies)))) ⌝ }
+    requires { ⌜ (16 + length (now bodies) < 2 ^ 63) × (own ≡ length (ownEntries track (read n (now slots) (now bodies)))) ⌝ }
     ensures { λ r. ⌜ Exact (asked ((24, inLimit (tableText (ownEntries track (read n (now (slots .entry)) (now (bodies .entry)))))) ∷ []) (gives (tableText (ownEntries track (read n (now (slots .entry)) (now (bodies .entry))))))) (now (out .entry)) r (now (out .exit)) ⌝ }
 {
     let mut none = [0u8; 1];
-    let size = put_own(&mut none, 0, slots, bodies, n, track);
-    if containers::LONGEST < 16 + size {
+    let span = put_own(&mut none, 0, slots, bodies, n, track);
+    if containers::LONGEST < 16 + span {
         return Answer::Refused(24, 0);
     }
-    if out.len() < 16 + size {
+    if out.len() < 16 + span {
         return Answer::Refused(25, 0);
     }
-    Answer::Done(put_table(out, slots, bodies, n, track, count, size))
+    Answer::Done(put_table(out, slots, bodies, n, track, own, span))
 }
 
 // The `stsd` box of a track of a sheet.
@@ -126,9 +126,9 @@ pub fn table(sheet: &[u8], track: usize, out: &mut [u8]) -> Answer
     let n = number::byte(sheet, 1);
     let slots = lend::rest(sheet, form::FRONT);
     let bodies = lend::rest(sheet, form::BODIES);
-    let count = count_own(slots, bodies, n, track);
-    if count == 0 {
+    let own = count_own(slots, bodies, n, track);
+    if own == 0 {
         return Answer::Refused(20, 0);
     }
-    write_own(slots, bodies, n, track, count, out)
+    write_own(slots, bodies, n, track, own, out)
 }

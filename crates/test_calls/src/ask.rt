@@ -4,7 +4,7 @@ use wire::lend;
 use wire::number;
 
 // Those that answer a number alone.
-pub fn plain(file: &[u8], call: &[u8]) -> u64 {
+pub fn numbered(file: &[u8], call: &[u8]) -> u64 {
     match call::kind(call) {
         1 => threegp::threegp_judge(file),
         2 => threegp::threegp_tracks(file),

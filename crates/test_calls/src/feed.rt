@@ -4,10 +4,10 @@ use wire::lend;
 use wire::number;
 
 // The next 32-bit number.
-fn next(file: i32) -> usize {
-    let mut four = [0u8; 4];
-    io::read_full(file, &mut four);
-    number::word32(&four, 0)
+fn length_of_next(file: i32) -> usize {
+    let mut word = [0u8; 4];
+    io::read_full(file, &mut word);
+    number::word32(&word, 0)
 }
 
 // The next so many bytes, as far as there is room for them.
@@ -19,7 +19,7 @@ fn fill(file: i32, n: usize, room: &mut [u8]) {
 
 fn make(file: i32) {
     let mut buffer = io::large_buffer();
-    let n = next(file);
+    let n = length_of_next(file);
     fill(file, n, &mut buffer);
     group::make(lend::front(&buffer, n));
 }
@@ -30,7 +30,7 @@ pub fn run(path: &[u8]) {
         os::fail(path);
         return;
     }
-    let mut left = next(file);
+    let mut left = length_of_next(file);
     while 0 < left {
         make(file);
         left = left - 1;

@@ -77,7 +77,7 @@ fn long(file: &[u8], call: &[u8]) {
 
 fn make_kind(kind: usize, file: &[u8], call: &[u8]) {
     match kind {
-        1 | 2 | 3 => print::answer(ask::plain(file, call)),
+        1 | 2 | 3 => print::answer(ask::numbered(file, call)),
         4 | 5 | 6 => numbers(file, call),
         7 => offsets(file, call),
         8 => part(file, call),

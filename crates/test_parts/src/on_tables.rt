@@ -40,7 +40,7 @@ fn say_chunk(stts: &[u8], stsz: &[u8], found: Chunk)
     requires { ⌜ Table 8 (now stts) × (found .first + found .samples ≤ 65536) ⌝ }
 {
     let lies = chunk::extent_of(stsz, found);
-    print::say(b"\nchunk ", found.number);
+    print::say(b"\nchunk ", found.nth);
     print::say(b" ", lies.offset);
     print::say(b" ", found.first);
     print::say(b" ", found.samples);
@@ -67,7 +67,7 @@ fn chunks(stts: &[u8], stsc: &[u8], stsz: &[u8], stco: &[u8])
     }
 }
 
-fn agree(stts: &[u8], stsc: &[u8], stsz: &[u8], stco: &[u8], entries: usize) {
+fn agree(stts: &[u8], stsc: &[u8], stsz: &[u8], stco: &[u8], descriptions: usize) {
     if table::table_form(stts, 8) == 0 {
         return;
     }
@@ -80,7 +80,7 @@ fn agree(stts: &[u8], stsc: &[u8], stsz: &[u8], stco: &[u8], entries: usize) {
     if table::table_form(stco, 4) == 0 {
         return;
     }
-    if agree::seven(stts, stsc, stsz, stco, entries) == 0 {
+    if agree::seven(stts, stsc, stsz, stco, descriptions) == 0 {
         print::text(b" agree 0");
         return;
     }
@@ -88,7 +88,7 @@ fn agree(stts: &[u8], stsc: &[u8], stsz: &[u8], stco: &[u8], entries: usize) {
     chunks(stts, stsc, stsz, stco);
 }
 
-// The count of sample entries, then `stts`, `stsc`, `stsz` and `stco`, each behind its length.
+// The count of sample descriptions, then `stts`, `stsc`, `stsz` and `stco`, each behind its length.
 pub fn show(case: &[u8]) {
     let rest = named::body(case);
     let times = named::pieces(rest);
@@ -98,10 +98,10 @@ pub fn show(case: &[u8]) {
     let stsc = named::piece(runs);
     let stsz = named::piece(sizes);
     let stco = named::piece(named::pieces(sizes));
-    let entries = number::word32(named::piece(rest), 0);
+    let descriptions = number::word32(named::piece(rest), 0);
     named::name(case);
     forms(stts, stsc, stsz, stco);
     ticks(stts);
-    agree(stts, stsc, stsz, stco, entries);
+    agree(stts, stsc, stsz, stco, descriptions);
     print::line();
 }

@@ -15,7 +15,7 @@ fn say_box(b: BoxAt) {
     io::print_hex(1, b.code as u64, 8);
     say(b" place ", b.at);
     say(b" head ", b.head);
-    say(b" size ", b.size);
+    say(b" size ", b.span);
     print::line();
 }
 

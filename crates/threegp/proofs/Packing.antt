@@ -22,8 +22,8 @@ for-c e x = record { answers = packs e (x .answers); leaves = x .leaves }
 
 -- ---- four numbers
 
-pub part-fits : (f : Part) (out : List ℕ) {o : ℕ} → o ≡ orderNumber (f .order) → 4 ≤ length out → Exact (newerResult (Found f)) out (answer.Done 4) (set (set (set (set out 0 o) 1 (f .file)) 2 (f .place)) 3 (f .size))
-part-fits f out e h = rw e (exact-wrote _ out h (record { size = refl; is = sets-eq (orderNumber (f .order) ∷ f .file ∷ f .place ∷ f .size ∷ []) out 0 h }))
+pub part-fits : (f : Part) (out : List ℕ) {o : ℕ} → o ≡ orderNumber (f .order) → 4 ≤ length out → Exact (newerResult (Found f)) out (answer.Done 4) (set (set (set (set out 0 o) 1 (f .file)) 2 (f .place)) 3 (f .span))
+part-fits f out e h = rw e (exact-wrote _ out h (record { span = refl; is = sets-eq (orderNumber (f .order) ∷ f .file ∷ f .place ∷ f .span ∷ []) out 0 h }))
 
 module _ (o : Outcome) (out : List ℕ) where
   pub outcome-found : (f : Part) → o ≡ Found f → {a : Answer} {left : List ℕ} → Exact (newerResult (Found f)) out a left → Exact (newerResult o) out a left

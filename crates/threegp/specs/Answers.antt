@@ -31,7 +31,7 @@ pub record ForC (g : Result) (out : List ℕ) (r : ℕ) (left : List ℕ) : Type
 
 -- "a refusal of 1 to 10 names the file: its number is 256 × file + number"
 abbrev pub newerResult : Outcome → Result
-newerResult (Found f) = gives (orderNumber (f .order) ∷ f .file ∷ f .place ∷ f .size ∷ [])
+newerResult (Found f) = gives (orderNumber (f .order) ∷ f .file ∷ f .place ∷ f .span ∷ [])
 newerResult (Refused file n p) = refuses (256 * file + n) p
 
 -- a refusal's numbers are small

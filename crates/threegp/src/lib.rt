@@ -154,7 +154,7 @@ fn put_part(out: &mut [u64], f: Part) -> Answer
     out[0] = clocks::order_number(order) as u64;
     out[1] = f.file as u64;
     out[2] = f.place as u64;
-    out[3] = f.size as u64;
+    out[3] = f.span as u64;
     Answer::Done(4)
 }
 

@@ -77,7 +77,7 @@ put32-is out at n p q h =
 
 pub wrote-put : {xs out after : List ℕ} → after ≡ put out 0 xs → Wrote xs out (length xs) after
 unfolding put
-wrote-put {xs} e = let z : 0 + length xs ≡ length xs = omega arith in record { size = refl; is = rw z at e }
+wrote-put {xs} e = let z : 0 + length xs ≡ length xs = omega arith in record { span = refl; is = rw z at e }
 
 -- ---- total writers
 

@@ -10,7 +10,7 @@ put out at xs = take at out ++ (xs ++ drop (at + length xs) out)
 
 -- xs was written to the front; what lies past it stays, and n is the length of xs
 pub record Wrote (xs out : List ℕ) (n : ℕ) (after : List ℕ) : Type 0 where
-  pub size : n ≡ length xs
+  pub span : n ≡ length xs
   pub is : after ≡ xs ++ drop n out
 
 -- a total writer: r is the place past xs, whether xs fits there or not; where it fits it stands there, and all else stays

@@ -15,6 +15,6 @@ shift-by-spec = tie.close (tie.spec
     (λ c κs. search needs)
     (λ c. test-yea _ _ _ _ _ (c .before .before .before .all-times .ensures) (c .before .before .if1 .left) (test-nay _ _ _ _ _ (c .before .editable .ensures) (c .if2 .taken)))
     (λ c. test-yea _ _ _ _ _ (c .before .before .before .before .all-times .ensures) (c .before .before .before .if1 .left) (test-yea _ _ _ _ _ (c .before .before .editable .ensures) (c .before .if2 .left) (test-all _ _ (exact-short _ _ (rw text-length (omega arith))))))
-    (λ c κs. (record { low = omega arith; high = omega arith }, omega arith))
+    (λ c κs. (record { low = omega arith; high = omega arith }, omega arith, c .before .before .before .before .before .before .before .before .pre .1 .most))
     (λ c. search needs)
     (λ c. test-yea _ _ _ _ _ (c .before .before .before .before .before .before .before .before .all-times .ensures) (c .before .before .before .before .before .before .before .if1 .left) (test-yea _ _ _ _ _ (c .before .before .before .before .before .before .editable .ensures) (c .before .before .before .before .before .if2 .left) (test-all _ _ (exact-wrote _ _ (rw text-length (omega arith)) (zone-wrote _ _ _ (search needs) (c .before .before .put-shifted .ensures)))))))

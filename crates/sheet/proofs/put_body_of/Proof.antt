@@ -14,4 +14,4 @@ put-body-of-spec = tie.close (tie.spec
     (λ c. search needs)
     (λ c κs. search needs)
     (λ c. search needs)
-    (λ c. let a = c .before .before .before .before .before .before .before .before .args in (pen-is (part-is (a .file .now) (a .e .place) (a .e .size)) (c .before .before .put-part .ensures), rw (c .before .before .put-part .ensures .next, length-take, length-drop) (omega arith))))
+    (λ c. let a = c .before .before .before .before .before .before .before .before .args in (pen-is (part-is (a .file .now) (a .e .place) (a .e .span)) (c .before .before .put-part .ensures), rw (c .before .before .put-part .ensures .next, length-take, length-drop) (omega arith))))

@@ -11,4 +11,4 @@ kind-of-spec = tie.close (tie.spec
     (λ c. search needs)
     (λ c κs. search needs)
     (λ c κs. search needs)
-    (λ c. let a = c .before .before .before .before .args in kind-part (a .place) (a .size) (a .file .now) (c .before .word32 .ensures .0) (c .of-code .ensures)))
+    (λ c. let a = c .before .before .before .before .args in kind-part (a .place) (a .span) (a .file .now) (c .before .word32 .ensures .0) (c .of-code .ensures)))

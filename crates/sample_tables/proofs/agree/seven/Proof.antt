@@ -20,7 +20,7 @@ seven-spec = tie.close (tie.spec
     (λ c κs. search needs)
     (λ c. nay _ (fails 4 _ (was-nay _ _ (c .if4 .taken) (cc))))
     (λ c κs. let s = c .before .before .before .before .before .before .before .before .before .before .before .before .before .before in
-    walkable _ _ _ _ (s .args .entries) (s .pre) (was-yea _ _ (c .before .before .before .if3 .left) (cc)) (was-yea _ _ (c .if4 .left) (cc)))
+    walkable _ _ _ _ (s .args .descriptions) (s .pre) (was-yea _ _ (c .before .before .before .if3 .left) (cc)) (was-yea _ _ (c .if4 .left) (cc)))
     (λ c. nay _ (fails 3 _ (not-eq _ _ (λ e. omega arith))))
     (λ c. yea _ (holds _ _ (is-le _ _ (omega arith)) (holds _ _ (is-eq _ _ (omega arith))
     (holds _ _ (was-yea _ _ (c .before .before .before .before .before .if3 .left) (cc)) (holds _ _ (is-eq _ _ (omega arith)) (holds _ _ (was-yea _ _ (c .before .before .if4 .left) (cc)) done)))))))

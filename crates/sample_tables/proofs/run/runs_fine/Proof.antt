@@ -12,10 +12,10 @@ use Rattle.sample_tables.proofs.run.runs_fine.Statement.{statement}
 use Rattle.sample_tables.proofs.run.runs_fine.Tie as tie
 
 abbrev Inv : tie.InvT-loop
-Inv stsc chunks entries n i₀ i = (n ≡ items stsc) × (i ≤ n) × (runsFine stsc chunks entries i ≡ true)
+Inv stsc chunks descriptions n i₀ i = (n ≡ items stsc) × (i ≤ n) × (runsFine stsc chunks descriptions i ≡ true)
 
 abbrev μ : tie.MeasureT-loop
-μ stsc chunks entries n i₀ i = n - i
+μ stsc chunks descriptions n i₀ i = n - i
 
 pub runs-fine-spec : {M : Type 1} → statement M
 runs-fine-spec = tie.close (tie.spec Inv μ

@@ -28,4 +28,4 @@ media-ticks-spec = tie.close (tie.spec Inv μ
     (λ c. search needs)
     (λ c. search needs)
     (λ c. (search needs, search needs, omega (arith, ticks-more _ _ (c .before .field .ensures .0) (c .field2 .ensures .0))))
-    (λ c. let e : c .before .loop .i ≡ c .before .before .count .result = omega arith in cc))
+    (λ c. let e : c .before .loop .i ≡ c .before .before .items .result = omega arith in cc))

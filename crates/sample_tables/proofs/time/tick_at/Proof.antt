@@ -29,4 +29,4 @@ tick-at-spec = tie.close (tie.spec Inv μ
     (λ c. search needs)
     (λ c. let v = c .before .before .before .before .loop .inv in let p = c .before .before .field .ensures .0 in let q = c .before .least .ensures in
     (search needs, search needs, left-more _ _ _ (v .2) p q, omega (arith, tick-more _ _ _ (v .2) p q (c .field2 .ensures .0)), omega (arith, tick-most (c .before .least .result) (c .field2 .ensures .1))))
-    (λ c. let e : c .before .loop .i ≡ c .before .before .count .result = omega arith in cc))
+    (λ c. let e : c .before .loop .i ≡ c .before .before .items .result = omega arith in cc))

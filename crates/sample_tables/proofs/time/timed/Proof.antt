@@ -24,4 +24,4 @@ timed-spec = tie.close (tie.spec Inv μ
     (λ c. search needs)
     (λ c. search needs)
     (λ c. (search needs, search needs, rw timed-more (omega arith), omega arith))
-    (λ c. let e : c .before .loop .i ≡ c .before .before .count .result = omega arith in cc))
+    (λ c. let e : c .before .loop .i ≡ c .before .before .items .result = omega arith in cc))

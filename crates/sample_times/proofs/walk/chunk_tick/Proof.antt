@@ -24,13 +24,13 @@ chunk-tick-spec = tie.close (tie.spec Inv μ
     (λ c. search needs)
     (λ c. let s = c .before .before .before .before .before in let p = s .before .before .before .before .before .before .pre in
     let f = sounded _ _ _ (p .0) _ (s .before .loop .inv .0) _ _ _ (sym (c .before .before .before .chunk .given .1) ∙ s .step .ensures) in
-    tick-of _ _ _ _ _ (f .tick) (omega (arith, f .number)))
+    tick-of _ _ _ _ _ (f .tick) (omega (arith, f .nth)))
     (λ c. let s = c .before .before .before .before .before in let p = s .before .before .before .before .before .before .pre in
     let f = sounded _ _ _ (p .0) _ (s .before .loop .inv .0) _ _ _ (sym (c .before .before .before .chunk .given .1) ∙ s .step .ensures) in
     omega (arith, f .inside, f .chunk, f .item))
     (λ c. let s = c .before .before .before .before .before in let p = s .before .before .before .before .before .before .pre in
     let f = sounded _ _ _ (p .0) _ (s .before .loop .inv .0) _ _ _ (sym (c .before .before .before .chunk .given .1) ∙ s .step .ensures) in
-    (f .walk, omega (arith, f .number, f .chunk)))
+    (f .walk, omega (arith, f .nth, f .chunk)))
     (λ c. search needs)
     (λ c. let s = c .before .before .before in let p = s .before .before .before .before .before .before .pre in
     let f = ticked _ _ _ (p .0) _ (s .before .loop .inv .0) _ (sym (c .before .next .given .1) ∙ s .step .ensures) in
