@@ -7,7 +7,7 @@ use mathlib.Core.List.{List}
 use mathlib.Core.Logic.{_⊎_}
 use lib.ListN.{length, take, drop}
 use Rattle.codes.specs.Codes.{TRAK, STBL, STSD, STCO}
-use Rattle.boxes.specs.Boxes.{HEAD, FRONT}
+use Rattle.boxes.specs.Boxes.{HEAD, FRONT, boxes}
 use Rattle.boxes.specs.Containers.{FILE, DEPTH}
 use Rattle.boxes.specs.Seek.{ANY}
 use Rattle.boxes.specs.Kin.{Kin}
@@ -17,8 +17,10 @@ use Rattle.movie.specs.Movie.{track, sampleTable}
 use Rattle.movie.specs.Stsds.{stsds}
 use Rattle.movie.specs.Named.{spotIn}
 use Rattle.entry_heads.specs.Heads.{headSize}
+use Rattle.edit_move.specs.Moving.{moovSecond}
 use Rattle.edit_replace.specs.Replace.{kindAt}
 use Rattle.edit_shift.specs.Shift.{CREATION, timed}
+use Rattle.promise_kept.specs.Edits.{Edit, shift, replace, move}
 
 -- two bodies of the same length, with the same bytes before place `from` and the same from place `to` on
 pub record But (from to : ℕ) (b b′ : List ℕ) : Type 0 where
@@ -50,6 +52,12 @@ HasEntries k c = (k ≡ STBL) × (c ≡ STSD)
 pub record OnlyOffsets (k c : ℕ) (b b′ : List ℕ) : Type 0 where
   pub offsets : HasOffsets k c → ButOffsets b b′
   pub rest : (HasOffsets k c → ⊥) → b ≡ b′
+
+-- ys is xs with its boxes in their new order, and then chunk offsets differ
+pub record Moves (xs ys : List ℕ) : Type 0 where
+  pub mid : List ℕ
+  pub order : boxes mid ≡ moovSecond (boxes xs)
+  pub offsets : Kin OnlyOffsets DEPTH FILE mid ys
 
 -- ---- a shift
 
@@ -87,3 +95,10 @@ pub record Replaces (xs : List ℕ) (i : ℕ) (new ys : List ℕ) : Type 0 where
   pub differs : Kin (OnlyRecord n (keptOf xs i) new) DEPTH FILE xs ys
   pub there : sampleTable STSD (track ys t) ≡ withRecord n (keptOf xs i) new (sampleTable STSD (track xs t))
   pub elsewhere : (u : ℕ) → (u ≡ t → ⊥) → Kin OnlyOffsets TRACK TRAK (track xs u) (track ys u)
+
+-- ---- any edit
+
+abbrev pub Differs : Edit → List ℕ → List ℕ → Type 0
+Differs (shift z) xs ys = Kin OnlyTimes DEPTH FILE xs ys
+Differs (replace i new) xs ys = Replaces xs i new ys
+Differs move xs ys = Moves xs ys

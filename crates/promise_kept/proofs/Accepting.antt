@@ -32,7 +32,7 @@ use Rattle.promise_kept.proofs.Content.{Content}
 use Rattle.promise_kept.proofs.Forms.{six-forms}
 use Rattle.promise_kept.proofs.Arranges.{Arranges}
 use Rattle.promise_kept.proofs.Arranging.{arranged-rule}
-use Rattle.promise_kept.proofs.Settling.{new, new-bytes, new-tiled, new-small, Edit, edit-kin, edit-sound}
+use Rattle.promise_kept.proofs.Settling.{new, new-bytes, new-tiled, new-small, Changes, edit-kin, edit-sound}
 use Rattle.promise_kept.proofs.Following.{in-order, edit-moved, same-payloads, new-good}
 
 -- the file has its boxes, in whichever order
@@ -55,13 +55,13 @@ module _ {A : List Box → List Box} (a : Arranges A) (xs ys : List ℕ) (w : By
   pub edit-plain : editable xs ≡ true → editable result ≡ true
   edit-plain q =
       to-file editableRule (λ p. rw (in-order a xs ys w m c, same-exactly (A (boxes mid)) (boxes mid) (λ d. a .counts d (boxes mid)) 0) p)
-      (kin-editable (Edit a xs ys w m c) DEPTH FILE xs mid (edit-kin a xs ys w m c) q)
+      (kin-editable (Changes a xs ys w m c) DEPTH FILE xs mid (edit-kin a xs ys w m c) q)
 
   -- every rule holds of it
   pub edit-meets : 8 ≤ length result → length result ≤ LONGEST → Meets result
   unfolding tracksFine sevenIn eightIn tenIn ifEq
   edit-meets n k =
-      let G = Edit a xs ys w m c in
+      let G = Changes a xs ys w m c in
       let h = edit-kin a xs ys w m c in
       let s = edit-sound a xs ys w m c in
       record {

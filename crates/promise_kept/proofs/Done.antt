@@ -17,7 +17,8 @@ use Rattle.judge.proofs.Calls.{result-done}
 use Rattle.edit_shift.specs.Shift.{shiftOf, shiftResult}
 use Rattle.edit_replace.specs.Replace.{kindAt, replaceOf, replaceResult}
 use Rattle.edit_move.specs.Moving.{moveOf, moveResult}
-use Rattle.promise_kept.specs.Kept.{Kept}
+use Rattle.promise_kept.specs.Kept.{Keeps}
+use Rattle.promise_kept.specs.Edits.{Edit, shift, replace, move, Given, meaning, answer, left}
 use Rattle.promise_kept.proofs.Edits.{keeps-move, keeps-shift, keeps-replace}
 
 -- ---- a shift
@@ -27,11 +28,11 @@ module _ (z : ℤ) (xs out : List ℕ) {n : ℕ} (e : answerIn (shiftResult z xs
   unfolding shiftResult
   shift-passed = result-done xs _ _ out n e .meets
 
-  pub shift-left : take n (leftIn (shiftResult z xs) out) ≡ shiftOf z xs
+  pub shift-left : (n ≡ length (shiftOf z xs)) × (take n (leftIn (shiftResult z xs) out) ≡ shiftOf z xs)
   unfolding shiftResult
-  shift-left = let d = result-done xs _ _ out n e in rw (d .is) (d .gave .taken)
+  shift-left = let d = result-done xs _ _ out n e in (d .gave .span, rw (d .is) (d .gave .taken))
 
-  pub done-shift : Bytes xs → Kept xs (shiftOf z xs)
+  pub done-shift : Bytes xs → Keeps xs (shiftOf z xs)
   done-shift w = keeps-shift z xs w shift-passed
 
 -- ---- a replacement
@@ -41,11 +42,11 @@ module _ (xs : List ℕ) (i : ℕ) (new out : List ℕ) {n : ℕ} (e : answerIn 
   unfolding replaceResult
   replace-passed = let d = result-done xs _ _ out n e in (d .meets, clause 1 _ (d .tests), le-is _ _ (clause 3 _ (d .tests)))
 
-  pub replace-left : take n (leftIn (replaceResult xs i new) out) ≡ replaceOf xs i new
+  pub replace-left : (n ≡ length (replaceOf xs i new)) × (take n (leftIn (replaceResult xs i new) out) ≡ replaceOf xs i new)
   unfolding replaceResult
-  replace-left = let d = result-done xs _ _ out n e in rw (d .is) (d .gave .taken)
+  replace-left = let d = result-done xs _ _ out n e in (d .gave .span, rw (d .is) (d .gave .taken))
 
-  pub done-replace : Bytes xs → Bytes new → Kept xs (replaceOf xs i new)
+  pub done-replace : Bytes xs → Bytes new → Keeps xs (replaceOf xs i new)
   done-replace w v = let p = replace-passed in keeps-replace xs i new w v (p .0) (p .1) (p .2)
 
 -- ---- a move
@@ -55,9 +56,22 @@ module _ (xs out : List ℕ) {n : ℕ} (e : answerIn (moveResult xs) out ≡ Don
   unfolding moveResult
   move-passed = result-done xs _ _ out n e .meets
 
-  pub move-left : take n (leftIn (moveResult xs) out) ≡ moveOf xs
+  pub move-left : (n ≡ length (moveOf xs)) × (take n (leftIn (moveResult xs) out) ≡ moveOf xs)
   unfolding moveResult
-  move-left = let d = result-done xs _ _ out n e in rw (d .is) (d .gave .taken)
+  move-left = let d = result-done xs _ _ out n e in (d .gave .span, rw (d .is) (d .gave .taken))
 
-  pub done-move : Bytes xs → Kept xs (moveOf xs)
+  pub done-move : Bytes xs → Keeps xs (moveOf xs)
   done-move w = keeps-move xs w move-passed
+
+-- ---- of any edit
+
+pub done-keeps : (e : Edit) → Given e → (xs out : List ℕ) {n : ℕ} → Bytes xs → answer e xs out ≡ Done n → Keeps xs (meaning e xs)
+done-keeps (shift z) g xs out w d = done-shift z xs out d w
+done-keeps (replace i new) g xs out w d = done-replace xs i new out d w g
+done-keeps move g xs out w d = done-move xs out d w
+
+-- the file that is meant then stands in the buffer, as many bytes of it as the edit says
+pub done-left : (e : Edit) (xs out : List ℕ) {n : ℕ} → answer e xs out ≡ Done n → (n ≡ length (meaning e xs)) × (take n (left e xs out) ≡ meaning e xs)
+done-left (shift z) xs out d = shift-left z xs out d
+done-left (replace i new) xs out d = replace-left xs i new out d
+done-left move xs out d = move-left xs out d

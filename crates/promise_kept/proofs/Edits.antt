@@ -1,4 +1,5 @@
--- Demand 3 of each edit: what it makes of an accepted file is accepted, edits take it again, and every track has the same samples. Assumes nothing.
+-- Demand 3 of each edit: what it makes of an accepted file is accepted, edits take it again, every track has the same samples, and
+-- every chunk offset follows its `mdat`. Assumes nothing.
 use Prim.Native.Nat.{ℕ, _-_, _≤_}
 use mathlib.Core.Path.{_≡_, refl}
 use mathlib.Core.Bool.{true}
@@ -22,7 +23,7 @@ use Rattle.edit_offsets.proofs.Settled.{settled-length}
 use Rattle.edit_move.specs.Moving.{moveOf}
 use Rattle.edit_replace.specs.Replace.{kindAt, recordAt, recordReplaced, replaceOf}
 use Rattle.edit_shift.specs.Shift.{shiftOf}
-use Rattle.promise_kept.specs.Kept.{Kept}
+use Rattle.promise_kept.specs.Kept.{Keeps}
 use Rattle.promise_kept.proofs.Content.{content-same}
 use Rattle.promise_kept.proofs.Second.{second}
 use Rattle.promise_kept.proofs.Times.{shift-content}
@@ -30,20 +31,20 @@ use Rattle.promise_kept.proofs.Replacing.{record-content}
 use Rattle.promise_kept.proofs.Keeping.{keeps, keeps-stay}
 
 -- "Move: moov goes right after ftyp"
-pub keeps-move : (xs : List ℕ) → Bytes xs → Meets xs → Kept xs (moveOf xs)
+pub keeps-move : (xs : List ℕ) → Bytes xs → Meets xs → Keeps xs (moveOf xs)
 unfolding moveOf
 keeps-move xs w m = keeps second xs xs w m (content-same xs w (m .most))
 
 -- "Shift times by z minutes"
-pub keeps-shift : (z : ℤ) (xs : List ℕ) → Bytes xs → Meets xs → Kept xs (shiftOf z xs)
+pub keeps-shift : (z : ℤ) (xs : List ℕ) → Bytes xs → Meets xs → Keeps xs (shiftOf z xs)
 unfolding shiftOf
 keeps-shift z xs w m = keeps-stay xs _ w m (shift-content (shiftTime z) xs w (m .most))
 
 -- "Replace decoder record of entry i": one that meets its rule, where the result is not too long
-pub keeps-replace : (xs : List ℕ) (i : ℕ) (new : List ℕ) → Bytes xs → Bytes new → Meets xs → recordRule (kindAt xs i) FRAMES new ≡ true → length (replaceOf xs i new) ≤ LONGEST → Kept xs (replaceOf xs i new)
+pub keeps-replace : (xs : List ℕ) (i : ℕ) (new : List ℕ) → Bytes xs → Bytes new → Meets xs → recordRule (kindAt xs i) FRAMES new ≡ true → length (replaceOf xs i new) ≤ LONGEST → Keeps xs (replaceOf xs i new)
 unfolding replaceOf recordReplaced
 keeps-replace xs i new w v m r h = go (spotIn (stsds xs) (i - 1)) refl (rw settled-length at h)
   where
-    go : (s : Spot) → spotIn (stsds xs) (i - 1) ≡ s → length (recordAt s (headSize (kindAt xs i) - HEAD) new xs) ≤ LONGEST → Kept xs (settled xs (recordAt s (headSize (kindAt xs i) - HEAD) new xs))
+    go : (s : Spot) → spotIn (stsds xs) (i - 1) ≡ s → length (recordAt s (headSize (kindAt xs i) - HEAD) new xs) ≤ LONGEST → Keeps xs (settled xs (recordAt s (headSize (kindAt xs i) - HEAD) new xs))
     go (In t n) e k = keeps-stay xs _ w m (record-content xs i new w (m .most) r t n e v k)
     go Past e k = keeps-stay xs xs w m (content-same xs w (m .most))

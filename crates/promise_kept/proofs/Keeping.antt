@@ -11,20 +11,24 @@ use Rattle.boxes.specs.Kin.{All2}
 use Rattle.boxes.specs.Kin.All2.{nil, cons}
 use Rattle.boxes.proofs.Reading.{lengths, length-cons}
 use Rattle.mdat.proofs.Keeping.{tiled}
+use Rattle.judge.specs.declared.Judgement.the-variants.{Accepted}
+use Rattle.judge.specs.Judgement.{judged}
 use Rattle.judge.specs.Acceptance.{Meets}
+use Rattle.judge.proofs.Exact.{meets-accepted}
 use Rattle.edit_offsets.specs.Settle.{settled}
-use Rattle.promise_kept.specs.Kept.{Kept}
+use Rattle.promise_kept.specs.Kept.{Kept, Keeps}
 use Rattle.promise_kept.proofs.Content.{Content}
 use Rattle.promise_kept.proofs.Arranges.{Arranges, stay}
 use Rattle.promise_kept.proofs.Arranging.{arranged-length, arranged-bytes}
 use Rattle.promise_kept.proofs.Settling.{xs-tiled, new, new-bytes, new-tiled, new-small, new-length, edit-kin, settled-is, ys-tiled}
 use Rattle.promise_kept.proofs.Accepting.{edit-plain, edit-meets}
 use Rattle.promise_kept.proofs.Sampling.{edit-tracks, edit-samples}
+use Rattle.promise_kept.proofs.Follows.{edit-follows}
 
 -- ---- what is kept, in a row
 
 -- a file keeps itself
-pub kept-refl : (xs : List ℕ) → Bytes xs → Meets xs → Kept xs xs
+pub kept-refl : (xs : List ℕ) → Bytes xs → judged xs ≡ Accepted → Kept xs xs
 kept-refl xs w m = record { accepted = m; editable = λ q. q; tracks = refl; samples = λ t. refl; bytes = w }
 
 -- what two edits in a row keep
@@ -64,7 +68,7 @@ module _ {A : List Box → List Box} (a : Arranges A) (xs ys : List ℕ) (w : By
   kept : Kept xs result
   kept =
       record {
-        accepted = edit-meets a xs ys w m c (omega (arith, long, least)) (omega (arith, long, new-length a xs ys w m c, c .small));
+        accepted = meets-accepted result (edit-meets a xs ys w m c (omega (arith, long, least)) (omega (arith, long, new-length a xs ys w m c, c .small)));
         editable = edit-plain a xs ys w m c;
         tracks = edit-tracks a xs ys w m c;
         samples = edit-samples a xs ys w m c;
@@ -72,13 +76,13 @@ module _ {A : List Box → List Box} (a : Arranges A) (xs ys : List ℕ) (w : By
       }
 
   -- an edit of the content and an order of the boxes, chunk offsets following, keep a file: it is accepted and has the same samples
-  pub keeps : Kept xs (settled xs (write (A (boxes ys))))
-  keeps = subst (Kept xs) (sym (settled-is a xs ys w m c)) kept
+  pub keeps : Keeps xs (settled xs (write (A (boxes ys))))
+  keeps = subst (Keeps xs) (sym (settled-is a xs ys w m c)) (record { kept = kept; follow = edit-follows a xs ys w m c })
 
   -- as long as its content
   pub keeps-length : length (settled xs (write (A (boxes ys)))) ≡ length ys
   keeps-length = rw (settled-is a xs ys w m c) (long ∙ new-length a xs ys w m c)
 
 -- the same of an edit that leaves the boxes in their order
-pub keeps-stay : (xs ys : List ℕ) → Bytes xs → Meets xs → Content xs ys → Kept xs (settled xs ys)
-keeps-stay xs ys w m c = subst (λ (zs : List ℕ). Kept xs (settled xs zs)) (tiled ys (c .bytes) (ys-tiled stay xs ys w m c)) (keeps stay xs ys w m c)
+pub keeps-stay : (xs ys : List ℕ) → Bytes xs → Meets xs → Content xs ys → Keeps xs (settled xs ys)
+keeps-stay xs ys w m c = subst (λ (zs : List ℕ). Keeps xs (settled xs zs)) (tiled ys (c .bytes) (ys-tiled stay xs ys w m c)) (keeps stay xs ys w m c)

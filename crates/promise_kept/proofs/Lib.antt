@@ -13,6 +13,8 @@ pub mod Settling
 pub mod Following
 pub mod Accepting
 pub mod Sampling
+pub mod Starts
+pub mod Follows
 pub mod Clocked
 pub mod Times
 pub mod Keeping

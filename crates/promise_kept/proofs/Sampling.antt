@@ -12,12 +12,10 @@ use Rattle.boxes.specs.Boxes.{boxes}
 use Rattle.boxes.specs.Containers.{FILE, parent, kindIn}
 use Rattle.boxes.specs.Seek.{count, nth, find}
 use Rattle.boxes.specs.Kin.{Kin}
-use Rattle.boxes.proofs.Kin.{kin-count, kin-find, kin-child}
-use Rattle.mdat.specs.Relocate.{Relocated}
+use Rattle.boxes.proofs.Kin.{kin-count, kin-child}
 use Rattle.mdat.specs.Rules.{chunksLie}
 use Rattle.mdat.specs.Samples.{joinTo, samplesOf}
 use Rattle.mdat.proofs.Keeping.{file-samples-kept}
-use Rattle.mdat.proofs.Staying.{relocated-none}
 use Rattle.movie.specs.Ways.{follow}
 use Rattle.movie.specs.Movie.{movie, tracks, track, sampleTable}
 use Rattle.rule_tracks.proofs.Kept.{same-table}
@@ -28,8 +26,8 @@ use Rattle.promise_kept.proofs.Arranges.{Arranges}
 use Rattle.promise_kept.proofs.Arranging.{arranged-after, arranged-bytes}
 use Rattle.promise_kept.proofs.Tracking.{kin-track}
 use Rattle.promise_kept.proofs.Tables.{track-eight}
-use Rattle.promise_kept.proofs.Settling.{xs-tiled, new, new-bytes, new-tiled, new-small, Edit, edit-kin, edit-sound}
-use Rattle.promise_kept.proofs.Following.{in-order, edit-moved, same-payloads}
+use Rattle.promise_kept.proofs.Settling.{xs-tiled, new, new-bytes, new-tiled, new-small, Changes, edit-kin, edit-sound}
+use Rattle.promise_kept.proofs.Following.{in-order, stbl-moved, same-payloads}
 
 module _ {A : List Box → List Box} (a : Arranges A) (xs ys : List ℕ) (w : Bytes xs) (m : Meets xs) (c : Content xs ys) where
   abbrev mid : List ℕ
@@ -42,7 +40,7 @@ module _ {A : List Box → List Box} (a : Arranges A) (xs ys : List ℕ) (w : By
   same-moov : find MOOV (boxes result) ≡ find MOOV (boxes mid)
   same-moov = rw (in-order a xs ys w m c, a .movie (boxes mid))
 
-  same-track : (t : ℕ) → track result t ≡ track mid t
+  pub same-track : (t : ℕ) → track (write (A (boxes (new a xs ys w m c)))) t ≡ track (new a xs ys w m c) t
   unfolding track
   same-track t = rw same-moov
 
@@ -50,8 +48,8 @@ module _ {A : List Box → List Box} (a : Arranges A) (xs ys : List ℕ) (w : By
   pub edit-tracks : tracks result ≡ tracks xs
   unfolding kindIn parent ifEq
   edit-tracks =
-      rw same-moov (sym (kin-child (Edit a xs ys w m c) 5 FILE xs mid (edit-kin a xs ys w m c) MOOV (λ z. omega arith) (λ b b′. count TRAK (boxes b) ≡ count TRAK (boxes b′)) refl (λ z. omega arith)
-      (λ b b′ h. kin-count (Edit a xs ys w m c) 4 MOOV b b′ h TRAK) 0))
+      rw same-moov (sym (kin-child (Changes a xs ys w m c) 5 FILE xs mid (edit-kin a xs ys w m c) MOOV (λ z. omega arith) (λ b b′. count TRAK (boxes b) ≡ count TRAK (boxes b′)) refl (λ z. omega arith)
+      (λ b b′ h. kin-count (Changes a xs ys w m c) 4 MOOV b b′ h TRAK) 0))
 
   -- samples by the payload of an `stbl`
   abbrev cut : List ℕ → List ℕ → List (List ℕ)
@@ -65,19 +63,19 @@ module _ {A : List Box → List Box} (a : Arranges A) (xs ys : List ℕ) (w : By
   unfolding boxes nth samplesOf joinTo word ifLe
   same-none q = refl
 
-  same-stbl : (b b′ : List ℕ) → Kin (Edit a xs ys w m c) 1 STBL b b′ → Same b b′
+  same-stbl : (b b′ : List ℕ) → Kin (Changes a xs ys w m c) 1 STBL b b′ → Same b b′
   unfolding kindIn parent ifEq
   same-stbl b b′ h q =
-      let G = Edit a xs ys w m c in
+      let G = Changes a xs ys w m c in
       let t = edit-sound a xs ys w m c .tables in
       rw (← same-table G t 0 b b′ h STSC (λ z. omega arith) refl (t .stsc), ← same-table G t 0 b b′ h STSZ (λ z. omega arith) refl (t .stsz))
       (file-samples-kept xs result w (arranged-bytes a mid (new-bytes a xs ys w m c) (new-tiled a xs ys w m c) (new-small a xs ys w m c)) (xs-tiled a xs ys w m c)
       (arranged-after a mid (new-bytes a xs ys w m c) (new-tiled a xs ys w m c) (new-small a xs ys w m c)) (rw (in-order a xs ys w m c) (same-payloads a xs ys w m c))
       (find STSC (boxes b)) (find STSZ (boxes b)) (find STCO (boxes b)) (find STCO (boxes b′))
-      (rw (in-order a xs ys w m c) (kin-find G 0 STBL b b′ h STCO (λ z. omega arith) (Relocated (boxes xs) (A (boxes mid))) (relocated-none (boxes xs) (A (boxes mid))) refl (edit-moved a xs ys w m c) 0)) q)
+      (stbl-moved a xs ys w m c b b′ h) q)
 
   -- each sample of each track
   pub edit-samples : (t : ℕ) → samples result t ≡ samples xs t
   unfolding samples sampleTable follow
   edit-samples t =
-      rw (same-track t) (sym (kin-track (Edit a xs ys w m c) Same same-none same-stbl xs mid (edit-kin a xs ys w m c) t (track-eight xs m t)))
+      rw (same-track t) (sym (kin-track (Changes a xs ys w m c) Same same-none same-stbl xs mid (edit-kin a xs ys w m c) t (track-eight xs m t)))

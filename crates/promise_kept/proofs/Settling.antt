@@ -63,18 +63,18 @@ module _ {A : List Box → List Box} (a : Arranges A) (xs ys : List ℕ) (w : By
   new-small = omega (arith, new-length, c .small)
 
   -- what is known of its boxes
-  abbrev pub Edit : Leaf
-  Edit = Then (With sixRule (With (short LONGEST) (c .leaf))) (Made (rewordLeaf offsets (relocate (boxes xs) (A (boxes ys)))))
+  abbrev pub Changes : Leaf
+  Changes = Then (With sixRule (With (short LONGEST) (c .leaf))) (Made (rewordLeaf offsets (relocate (boxes xs) (A (boxes ys)))))
 
   -- it has the boxes of the file, related so
-  pub edit-kin : Kin Edit DEPTH FILE xs new
+  pub edit-kin : Kin Changes DEPTH FILE xs new
   edit-kin =
       kin-then (With sixRule (With (short LONGEST) (c .leaf))) (Made g) DEPTH FILE xs ys new
       (kin-with sixRule (With (short LONGEST) (c .leaf)) DEPTH FILE xs ys (kin-with (short LONGEST) (c .leaf) DEPTH FILE xs ys (c .kin) (short-all LONGEST DEPTH FILE xs (m .most))) (m .six))
       (kin-edit g DEPTH FILE ys (c .bytes) new-small)
 
   -- which keeps every rule but 8
-  pub edit-sound : Sound Edit
+  pub edit-sound : Sound Changes
   edit-sound = sound-then (sound-less (λ k d b b′ r. r .0 .0) (c .sound)) (offsets-sound (relocate (boxes xs) (A (boxes ys))))
 
   -- boxes tile it

@@ -1,2 +1,4 @@
 pub mod Samples
+pub mod Follows
 pub mod Kept
+pub mod Edits

@@ -1,3 +1,4 @@
 pub mod Example
 pub mod Marked
 pub mod Runs
+pub mod Demand
