@@ -67,11 +67,13 @@ module _ {A : List Box → List Box} (a : Arranges A) (xs ys : List ℕ) (w : By
 
   moved-stbl : (b b′ : List ℕ) → Kin (Changes a xs ys w m c) 1 STBL b b′ → Moved b b′
   moved-stbl b b′ h q =
-      let r = stbl-moved a xs ys w m c b b′ h in
-      (r .same, λ k n.
-      rw (r .offsets k n)
-      (follows (boxes xs) (boxes result) (rw (in-order a xs ys w m c) (same-payloads a xs ys w m c)) _ _
-      (in-lies (boxes xs) _ _ (chunk-in (boxes xs) (find STSC (boxes b)) (find STSZ (boxes b)) (find STCO (boxes b)) (heads xs) k (eight-at (boxes xs) _ _ _ q k n)))))
+      let r = stbl-moved a xs ys w m c b b′ h in (
+        r .same,
+        λ k n.
+            rw (r .offsets k n)
+            (follows (boxes xs) (boxes result) (rw (in-order a xs ys w m c) (same-payloads a xs ys w m c)) _ _
+            (in-lies (boxes xs) _ _ (chunk-in (boxes xs) (find STSC (boxes b)) (find STSZ (boxes b)) (find STCO (boxes b)) (heads xs) k (eight-at (boxes xs) _ _ _ q k n)))),
+      )
 
   pub edit-follows : AllFollow xs (write (A (boxes (new a xs ys w m c))))
   unfolding sampleTable follow

@@ -22,10 +22,10 @@ pub record Follows (l m : List Box) (o p : ℕ) : Type 0 where
   pub moved : p - startIn MDAT j m ≡ o - startIn MDAT j l
 
 -- the chunk offsets of track t, from 0
-abbrev pub offsetsOf : List ℕ → ℕ → List ℕ
-offsetsOf xs t = sampleTable STCO (track xs t)
+abbrev pub chunkOffsets : List ℕ → ℕ → List ℕ
+chunkOffsets xs t = sampleTable STCO (track xs t)
 
 -- as many in every track, and each so
 pub record AllFollow (xs ys : List ℕ) : Type 0 where
-  pub same : (t : ℕ) → items (offsetsOf ys t) ≡ items (offsetsOf xs t)
-  pub each : (t k : ℕ) → k < items (offsetsOf xs t) → Follows (boxes xs) (boxes ys) (offsetAt (offsetsOf xs t) k) (offsetAt (offsetsOf ys t) k)
+  pub same : (t : ℕ) → items (chunkOffsets ys t) ≡ items (chunkOffsets xs t)
+  pub each : (t k : ℕ) → k < items (chunkOffsets xs t) → Follows (boxes xs) (boxes ys) (offsetAt (chunkOffsets xs t) k) (offsetAt (chunkOffsets ys t) k)

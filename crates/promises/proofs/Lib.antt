@@ -1,4 +1,3 @@
-pub mod Example
-pub mod Marked
 pub mod Runs
+pub mod Examples
 pub mod OneAnswer

@@ -48,14 +48,19 @@ moovBoxes time m =
     ∷ plainBox TRAK (write (plainBox TKHD (zeros 12 ++ bytes 4 1 ++ zeros 68) ∷ plainBox MDIA (write m) ∷ []))
     ∷ []
 
--- compatible `3gp6`, `isom`; the payload of `mdat` starts 501 bytes and the entry into the file
+-- compatible `3gp6`, `isom`
+abbrev pub ftypBox : Box
+ftypBox = plainBox FTYP (bytes 4 GP6 ++ zeros 4 ++ bytes 4 GP6 ++ bytes 4 ISOM)
+
+abbrev pub moovBox : ℕ → ℕ → List ℕ → ℕ → Box
+moovBox time handler entry place = plainBox MOOV (write (moovBoxes time (mdiaBoxes handler entry place)))
+
+abbrev pub mdatBox : Box
+mdatBox = plainBox MDAT (60 ∷ [])
+
+-- the payload of `mdat` starts 501 bytes and the entry into the file
 abbrev pub fileAt : ℕ → ℕ → List ℕ → List ℕ
-fileAt time handler entry =
-    write
-    (plainBox FTYP (bytes 4 GP6 ++ zeros 4 ++ bytes 4 GP6 ++ bytes 4 ISOM)
-    ∷ plainBox MOOV (write (moovBoxes time (mdiaBoxes handler entry (501 + length entry))))
-    ∷ plainBox MDAT (60 ∷ [])
-    ∷ [])
+fileAt time handler entry = write (ftypBox ∷ moovBox time handler entry (501 + length entry) ∷ mdatBox ∷ [])
 
 abbrev pub fileOf : ℕ → List ℕ → List ℕ
 fileOf handler entry = fileAt 0 handler entry

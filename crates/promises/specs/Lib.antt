@@ -2,3 +2,4 @@ pub mod Example
 pub mod Marked
 pub mod Runs
 pub mod Demand
+pub mod Worked
