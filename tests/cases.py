@@ -494,7 +494,7 @@ def show_chunks(stts, stsc, stsz, stco):
     for k, n in enumerate(chunk_samples(runs, len(offsets))):
         description = [description for start, per, description in runs if start <= k + 1][-1]
         length = sum(size_of(stsz, sample) for sample in range(first, first + n))
-        lines.append("chunk %d %d %d %d %d tick %d bytes %d" % (k, *offsets[k], first, n, description, sum(deltas[:first]), length))
+        lines.append("chunk %d %d %d %d %d tick %d %d bytes %d" % (k, *offsets[k], first, n, description, *(sum(deltas[:first]),) * 2, length))
         first += n
     return lines
 

@@ -1,3 +1,3 @@
 // The walk by chunk with ticks.
-pub mod clock;
+mod clock;
 pub mod walk;

@@ -4,15 +4,16 @@ use crate::print;
 use sample_tables::agree;
 use sample_tables::chunk;
 use sample_tables::chunk::Chunk;
-use sample_tables::chunk::ChunkStep;
-use sample_tables::chunk::ChunkWalk;
 use sample_tables::size;
 use sample_tables::table;
 use sample_tables::time;
+use sample_tables::time::MediaTicks;
+use sample_times::walk::TimedStep;
+use sample_times::walk::TimedWalk;
 use wire::number;
 ghost use Prim.Native.Nat.{_+_, _≤_};
-ghost use Rattle.sample_tables.specs.Tables.{Table, items};
-ghost use Rattle.sample_tables.specs.Chunks.{Walkable, samplesOver};
+ghost use Rattle.sample_tables.specs.Tables.{Table};
+ghost use Rattle.sample_times.specs.Walks.{Playable};
 
 fn forms(stts: &[u8], stsc: &[u8], stsz: &[u8], stco: &[u8]) {
     print::say(b": forms ", table::table_form(stts, 8));
@@ -35,8 +36,8 @@ fn ticks(stts: &[u8]) {
     print::say(b" ticks ", sum.0 as usize);
 }
 
-// A chunk's number from 0, offset, first sample from 0, samples and description, its first tick, and how many bytes it has.
-fn say_chunk(stts: &[u8], stsz: &[u8], found: Chunk)
+// A chunk's number from 0, offset, first sample from 0, samples and description, its first tick by the walk and by itself, and how many bytes it has.
+fn say_chunk(stts: &[u8], stsz: &[u8], found: Chunk, tick: MediaTicks)
     requires { ⌜ Table 8 (now stts) × (found .first + found .samples ≤ 65536) ⌝ }
 {
     let lies = chunk::extent_of(stsz, found);
@@ -45,22 +46,26 @@ fn say_chunk(stts: &[u8], stsz: &[u8], found: Chunk)
     print::say(b" ", found.first);
     print::say(b" ", found.samples);
     print::say(b" ", found.description);
-    let tick = time::tick_at(stts, found.first);
     print::say(b" tick ", tick.0 as usize);
+    let alone = time::tick_at(stts, found.first);
+    print::say(b" ", alone.0 as usize);
     print::say(b" bytes ", lies.bytes);
 }
 
 fn chunks(stts: &[u8], stsc: &[u8], stsz: &[u8], stco: &[u8])
-    requires { ⌜ Table 8 (now stts) × Walkable (now stsc) (now stco) × (samplesOver (now stsc) (items (now stco)) ≤ 65536) ⌝ }
+    requires { ⌜ Playable (now stts) (now stsc) (now stco) ⌝ }
 {
-    let mut walk = ChunkWalk::start();
+    let mut walk = TimedWalk::start();
     loop {
-        match walk.step(stsc, stco) {
-            ChunkStep::Found(found, next) => {
-                say_chunk(stts, stsz, found);
+        match walk.step(stts, stsc, stco) {
+            TimedStep::Found(found, tick, next) => {
+                say_chunk(stts, stsz, found, tick);
                 walk = next;
             }
-            ChunkStep::End => {
+            TimedStep::Ticking(next) => {
+                walk = next;
+            }
+            TimedStep::End => {
                 return;
             }
         }

@@ -2,7 +2,6 @@ use borrow.Author.Needs.{needs}
 use Prim.Native.Nat.{ℕ}
 use mathlib.Core.List.{List}
 use mathlib.Core.Path.{_≡_}
-use native.Mathlib.Omega.{arith}
 use Rattle.wire.specs.Clauses.{oneIf}
 use Rattle.wire.proofs.Clauses.{was-yea}
 use Rattle.sample_tables.specs.Tables.{tableForm}
@@ -10,6 +9,7 @@ use Rattle.sample_tables.specs.Sizes.{sizesForm}
 use Rattle.sample_tables.specs.Rules.{Six}
 use Rattle.sample_tables.proofs.Tables.{form-is}
 use Rattle.sample_tables.proofs.Rules.{seven-is}
+use Rattle.sample_times.proofs.Walks.{playable}
 use Rattle.test_parts.proofs.on_tables.agree.Statement.{statement}
 use Rattle.test_parts.proofs.on_tables.agree.Tie as tie
 
@@ -58,5 +58,5 @@ agree-spec = tie.close (tie.spec
     let forms = six _ _ _ _ _ _ _ _ (first .if1 .left) (first .before .table-form .ensures) (second .if2 .left) (second .before .table-form2 .ensures)
     (third .if3 .left) (third .before .sizes-form .ensures) (fourth .if4 .left) (fourth .before .table-form3 .ensures) in
     let s = seven-is _ _ _ _ _ forms (was-yea _ _ (fifth .if5 .left) (fifth .before .seven .ensures)) in
-    (forms .times, s .walk, omega (arith, s .total, s .few)))
+    playable _ _ _ _ forms s)
     (λ c. search needs))
