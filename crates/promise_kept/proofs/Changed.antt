@@ -34,7 +34,7 @@ pub record Changed (new b b′ : List ℕ) : Type 0 where
   pub entry : Box
   pub past : List Box
   pub old : boxes (drop FRONT b) ≡ before ++ entry ∷ past
-  pub now : boxes (drop FRONT b′) ≡ before ++ remade entry (tailBy (headSize kind - HEAD) new (entry .body)) ∷ past
+  pub made : boxes (drop FRONT b′) ≡ before ++ remade entry (tailBy (headSize kind - HEAD) new (entry .body)) ∷ past
   pub room : FRONT ≤ length b
   pub front : take FRONT b′ ≡ take FRONT b
   pub rest : after (drop FRONT b′) ≡ after (drop FRONT b)
@@ -60,13 +60,13 @@ module _ (new b b′ : List ℕ) (c : Changed new b b′) where
   pub changed-fine : (a : Around) → entriesFine a (drop FRONT b) ≡ true → entriesFine a (drop FRONT b′) ≡ true
   unfolding entriesFine
   changed-fine a q =
-      rw (c .now) (all-swap (entryFine a) true (c .before) (c .entry) after-it (c .past) (entry-changed (c .entry) (c .good) a (c .kind) new (c .is) (c .meets)) (rw (c .old) at q))
+      rw (c .made) (all-swap (entryFine a) true (c .before) (c .entry) after-it (c .past) (entry-changed (c .entry) (c .good) a (c .kind) new (c .is) (c .meets)) (rw (c .old) at q))
 
   -- ---- rule 5
 
   changed-count : count ANY (boxes (drop FRONT b′)) ≡ count ANY (boxes (drop FRONT b))
   unfolding count
-  changed-count = rw (c .now, c .old, count-append ANY (c .before) (after-it ∷ c .past), count-append ANY (c .before) (c .entry ∷ c .past))
+  changed-count = rw (c .made, c .old, count-append ANY (c .before) (after-it ∷ c .past), count-append ANY (c .before) (c .entry ∷ c .past))
 
   long : FRONT ≤ length b′
   long = let n = ap length (c .front) in omega (arith, length-take FRONT b′, length-take FRONT b, c .room)

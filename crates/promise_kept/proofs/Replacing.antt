@@ -72,7 +72,7 @@ module _ (xs : List ℕ) (i : ℕ) (new : List ℕ) (w : Bytes xs) (few : length
         entry = s .box;
         past = s .past;
         old = s .list;
-        now = rw (behind, boxes-nth ANY n by (drop FRONT stsd) (s .filled) small, s .list) (nth-by ANY by n (s .before) (s .box) (s .past) (s .nth) (sym (meant-any ANY (s .box .code) refl)));
+        made = rw (behind, boxes-nth ANY n by (drop FRONT stsd) (s .filled) small, s .list) (nth-by ANY by n (s .before) (s .box) (s .past) (s .nth) (sym (meant-any ANY (s .box .code) refl)));
         room = s .room;
         front = ap (take FRONT) open-it ∙ take-at (take FRONT stsd) (overNth ANY n by (drop FRONT stsd)) FRONT (length-take-le FRONT stsd (s .room));
         rest = rw behind (after-nth ANY n by (drop FRONT stsd) (s .filled) small);
