@@ -5,7 +5,7 @@ use Rattle.wire.specs.Numbers.{bytes, bytesOn}
 use Rattle.wire.specs.Text.{text}
 use Rattle.codes.specs.Codes.{SAMR, SOUN, GP4, GP6}
 use Rattle.entry_heads.specs.Kinds.{kindOf}
-use Rattle.listing.specs.Decimal.{decimal, labelled}
+use Rattle.decimal.specs.Decimal.{decimal, labelled}
 use Rattle.listing.specs.Lines.{handlerText, codeText, trackLine, entryNamed, entryPlaced, yesText, brandLine, refusedLine}
 
 the-track : trackLine 1 SOUN (record { 0 = 160 }) 8000 ≡ text "track 1 soun 160/8000\n"

@@ -9,7 +9,7 @@ use Rattle.codes.specs.Codes.{VIDE, SOUN, TEXT}
 use Rattle.movie.specs.Entries.{Entry}
 use Rattle.sample_tables.specs.declared.time.MediaTicks.{MediaTicks}
 use Rattle.entry_heads.specs.Kinds.{OtherKind, kindOf}
-use Rattle.listing.specs.Decimal.{labelled}
+use Rattle.decimal.specs.Decimal.{labelled}
 
 -- "Handlers but vide, soun, text .. print other"
 unfoldable pub handlerText : ℕ → List ℕ

@@ -3,13 +3,13 @@ use Prim.Native.Nat.{ℕ, _<_, _/_}
 use borrow.Fn.Kinds.{In}
 use borrow.Fn.PlainCycle.{Measures, is, falls, and}
 use native.Mathlib.Omega.{arith}
-use Rattle.listing.proofs.Digits.{put-digit, put-digits, decimal-20}
-use Rattle.listing.proofs.line.put_decimal.Reads as put-decimal
-use Rattle.listing.proofs.line.put_decimal.Kinds as put-decimal-kinds
-use Rattle.listing.proofs.line.+put_decimal.Lts-put_decimal as put-decimal-lts
+use Rattle.decimal.proofs.Digits.{put-digit, put-digits, decimal-20}
+use Rattle.decimal.proofs.put_decimal.Reads as put-decimal
+use Rattle.decimal.proofs.put_decimal.Kinds as put-decimal-kinds
+use Rattle.decimal.proofs.+put_decimal.Lts-put_decimal as put-decimal-lts
 use Rattle.wire.proofs.pen.put_byte.Reads as put-byte-reads
-use Rattle.listing.proofs.line.+put_decimal.{statement}
-use Rattle.listing.proofs.line.+put_decimal.Tie.{close}
+use Rattle.decimal.proofs.+put_decimal.{statement}
+use Rattle.decimal.proofs.+put_decimal.Tie.{close}
 
 -- the number itself falls
 abbrev μ : Measures 1 put-decimal-kinds.ps ℕ

@@ -1,8 +1,8 @@
 use borrow.Author.Needs.{needs}
-use Rattle.listing.proofs.Digits.{put-label}
+use Rattle.decimal.proofs.Digits.{put-label}
 use native.Mathlib.Omega.{arith}
-use Rattle.listing.proofs.line.put_labelled.Statement.{statement}
-use Rattle.listing.proofs.line.put_labelled.Tie as tie
+use Rattle.decimal.proofs.put_labelled.Statement.{statement}
+use Rattle.decimal.proofs.put_labelled.Tie as tie
 
 pub put-labelled-spec : {M : Type 1} → statement M
 put-labelled-spec = tie.close (tie.spec

@@ -7,7 +7,7 @@ use lib.ListN.{length, length-append}
 use Rattle.wire.specs.Writing.{Put}
 use Rattle.wire.proofs.Tests.{lt-yea, lt-nay, lt-or}
 use Rattle.wire.proofs.Writing.{pen-then, pen-is}
-use Rattle.listing.specs.Decimal.{decimalBy, decimal, labelled}
+use Rattle.decimal.specs.Decimal.{decimalBy, decimal, labelled}
 
 -- enough fuel is enough
 enough : (j k n : ℕ) → n < j → n < k → decimalBy j n ≡ decimalBy k n
