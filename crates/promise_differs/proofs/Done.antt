@@ -13,11 +13,13 @@ use Rattle.rule.specs.Results.{answerIn}
 use Rattle.edit_move.specs.Moving.{moovSecond, moveOf, moveResult}
 use Rattle.edit_replace.specs.Replace.{replaceOf, replaceResult}
 use Rattle.edit_shift.specs.Shift.{shiftOf, shiftResult}
-use Rattle.promise_kept.proofs.Done.{move-passed, shift-passed, replace-passed}
+use Rattle.promise_kept.proofs.Done.{move-passed, shift-passed, shift-timed, replace-passed}
 use Rattle.promise_differs.specs.Differs.{OnlyOffsets, OnlyTimes, Replaces}
+use Rattle.promise_differs.specs.Times.{TimesShifted}
 use Rattle.promise_differs.proofs.Moving.{move-order, move-differs}
 use Rattle.promise_differs.proofs.Timing.{shift-differs}
 use Rattle.promise_differs.proofs.Edits.{replace-differs}
+use Rattle.promise_differs.proofs.Written.{shift-times}
 
 -- a move: the boxes in their new order, and then chunk offsets
 pub done-move-differs : (xs out : List ℕ) {n : ℕ} → Bytes xs → answerIn (moveResult xs) out ≡ Done n → (boxes (write (moovSecond (boxes xs))) ≡ moovSecond (boxes xs)) × Kin OnlyOffsets DEPTH FILE (write (moovSecond (boxes xs))) (moveOf xs)
@@ -26,6 +28,10 @@ done-move-differs xs out w e = let m = move-passed xs out e in (move-order xs w 
 -- a shift: times
 pub done-shift-differs : (z : ℤ) (xs out : List ℕ) {n : ℕ} → Bytes xs → answerIn (shiftResult z xs) out ≡ Done n → Kin OnlyTimes DEPTH FILE xs (shiftOf z xs)
 done-shift-differs z xs out w e = shift-differs z xs w (shift-passed z xs out e)
+
+-- each by z minutes, as 22 asks
+pub done-shift-times : (z : ℤ) (xs out : List ℕ) {n : ℕ} → Bytes xs → answerIn (shiftResult z xs) out ≡ Done n → TimesShifted z xs (shiftOf z xs)
+done-shift-times z xs out w e = shift-times z xs w (shift-passed z xs out e) (shift-timed z xs out e)
 
 -- a replacement: one record, and chunk offsets
 pub done-replace-differs : (xs : List ℕ) (i : ℕ) (new out : List ℕ) {n : ℕ} → Bytes xs → Bytes new → answerIn (replaceResult xs i new) out ≡ Done n → Replaces xs i new (replaceOf xs i new)
