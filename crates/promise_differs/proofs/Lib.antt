@@ -5,4 +5,6 @@ pub mod Tracking
 pub mod Replacing
 pub mod OneTrack
 pub mod Edits
+pub mod Header
+pub mod Written
 pub mod Done

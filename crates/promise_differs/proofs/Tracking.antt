@@ -9,25 +9,22 @@ use Rattle.boxes.specs.Boxes.{boxes}
 use Rattle.boxes.specs.Containers.{FILE, DEPTH, parent, kindIn}
 use Rattle.boxes.specs.Seek.{nth, find}
 use Rattle.boxes.specs.Kin.{Leaf, Kin}
-use Rattle.boxes.proofs.Kin.{kin-refl, kin-find, kin-child}
+use Rattle.boxes.specs.Kin.All2.{nil}
+use Rattle.boxes.proofs.Kin.{kin-find, kin-child}
 use Rattle.movie.specs.Ways.{follow}
 use Rattle.movie.specs.Movie.{track, sampleTable}
 use Rattle.promise_kept.proofs.Tracking.{kin-track}
 use Rattle.promise_differs.specs.Differs.{TRACK, OnlyOffsets}
-use Rattle.promise_differs.proofs.Bodies.{but-refl}
 
 -- related files have related tracks
-pub track-kin : (G : Leaf) → ((k c : ℕ) (b : List ℕ) → G k c b b) → (xs ys : List ℕ) → Kin G DEPTH FILE xs ys → (u : ℕ) → Kin G TRACK TRAK (track xs u) (track ys u)
+pub track-kin : (G : Leaf) (xs ys : List ℕ) → Kin G DEPTH FILE xs ys → (u : ℕ) → Kin G TRACK TRAK (track xs u) (track ys u)
 unfolding track kindIn parent ifEq boxes nth
-track-kin G same xs ys a u =
-    let none : Kin G TRACK TRAK [] [] = kin-refl G same TRACK TRAK [] in
+track-kin G xs ys a u =
+    let none : Kin G TRACK TRAK [] [] = (nil, refl) in
     kin-child G 5 FILE xs ys a MOOV (λ z. omega arith) (λ b b′. Kin G TRACK TRAK (nth TRAK u (boxes b)) (nth TRAK u (boxes b′))) none (λ z. omega arith)
     (λ b b′ r. kin-child G 4 MOOV b b′ r TRAK (λ z. omega arith) (Kin G TRACK TRAK) none (λ z. omega arith) (λ b b′ q. q) u) 0
 
 -- ---- where only chunk offsets differ
-
-pub offsets-refl : (k c : ℕ) (b : List ℕ) → OnlyOffsets k c b b
-offsets-refl k c b = record { offsets = λ o. but-refl 8 _ b; rest = λ n. refl }
 
 -- a track has the same sample entries
 pub same-stsd : (xs ys : List ℕ) → Kin OnlyOffsets DEPTH FILE xs ys → (t : ℕ) → sampleTable STSD (track xs t) ≡ sampleTable STSD (track ys t)

@@ -5,6 +5,7 @@ use mathlib.Core.Path.{_≡_}
 use mathlib.Core.Bool.{true, false}
 use mathlib.Core.List.{List}
 use mathlib.Core.Logic.{_⊎_}
+use lib.IntN.{ℤ}
 use lib.ListN.{length, take, drop}
 use Rattle.codes.specs.Codes.{TRAK, STBL, STSD, STCO}
 use Rattle.boxes.specs.Boxes.{HEAD, FRONT, boxes}
@@ -21,6 +22,7 @@ use Rattle.edit_move.specs.Moving.{moovSecond}
 use Rattle.edit_replace.specs.Replace.{kindAt}
 use Rattle.edit_shift.specs.Shift.{CREATION, timed}
 use Rattle.promise_kept.specs.Edits.{Edit, shift, replace, move}
+use Rattle.promise_differs.specs.Times.{TimesShifted}
 
 -- two bodies of the same length, with the same bytes before place `from` and the same from place `to` on
 pub record But (from to : ℕ) (b b′ : List ℕ) : Type 0 where
@@ -66,6 +68,11 @@ pub record OnlyTimes (k c : ℕ) (b b′ : List ℕ) : Type 0 where
   pub times : timed k c ≡ true → ButTimes b b′
   pub rest : timed k c ≡ false → b ≡ b′
 
+-- ys is xs with other times, each by z minutes
+pub record Shifts (z : ℤ) (xs ys : List ℕ) : Type 0 where
+  pub differs : Kin OnlyTimes DEPTH FILE xs ys
+  pub times : TimesShifted z xs ys
+
 -- ---- a replacement
 
 -- an `stsd` with another record behind the first `keep` bytes of the payload of its entry n, from 0
@@ -99,6 +106,6 @@ pub record Replaces (xs : List ℕ) (i : ℕ) (new ys : List ℕ) : Type 0 where
 -- ---- any edit
 
 abbrev pub Differs : Edit → List ℕ → List ℕ → Type 0
-Differs (shift z) xs ys = Kin OnlyTimes DEPTH FILE xs ys
+Differs (shift z) xs ys = Shifts z xs ys
 Differs (replace i new) xs ys = Replaces xs i new ys
 Differs move xs ys = Moves xs ys
