@@ -28,7 +28,7 @@ use Rattle.edit_move.specs.Moving.{moveOf}
 use Rattle.edit_replace.specs.Replace.{kindAt, recordAt, recordReplaced, replaceOf}
 use Rattle.edit_replace.proofs.Taking.{record-first}
 use Rattle.edit_replace.proofs.Written.{past-none}
-use Rattle.edit_shift.specs.Shift.{timed, shiftOf}
+use Rattle.edit_shift.specs.Shift.{hasTimes, shiftOf}
 use Rattle.promise_kept.proofs.Named.{entry-in}
 use Rattle.promise_kept.proofs.Second.{second}
 use Rattle.promise_differs.specs.Differs.{OnlyOffsets, OnlyTimes, OnlyRecord, keptOf, Replaces}
@@ -75,7 +75,7 @@ pub move-mdats : (xs : List ℕ) → Bytes xs → Meets xs → mdats (boxes (mov
 move-mdats xs w m = sym (kin-mdats OnlyOffsets 5 _ (moveOf xs) (λ b c r. r .rest (λ o. omega (arith, o .0))) (move-differs xs w m)) ∙ ap mdats (move-order xs w m) ∙ second .payloads (boxes xs)
 
 pub shift-mdats : (z : ℤ) (xs : List ℕ) → Bytes xs → Meets xs → mdats (boxes (shiftOf z xs)) ≡ mdats (boxes xs)
-unfolding timed either every isEq
+unfolding hasTimes either every isEq
 shift-mdats z xs w m = sym (kin-mdats OnlyTimes 5 xs (shiftOf z xs) (λ b c r. r .rest refl) (shift-differs z xs w m))
 
 pub replace-mdats : (xs : List ℕ) (i : ℕ) (new ys : List ℕ) → Replaces xs i new ys → mdats (boxes ys) ≡ mdats (boxes xs)

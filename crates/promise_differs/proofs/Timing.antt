@@ -15,7 +15,7 @@ use Rattle.boxes.proofs.Kin.{Made, kin-edit, kin-less}
 use Rattle.clocks.specs.Clocks.{shiftTime}
 use Rattle.judge.specs.Acceptance.{Meets}
 use Rattle.edit_offsets.proofs.Settled.{settled-same}
-use Rattle.edit_shift.specs.Shift.{timed, timesLeaf, allTimesBy, shiftOf}
+use Rattle.edit_shift.specs.Shift.{hasTimes, timesLeaf, allTimesBy, shiftOf}
 use Rattle.edit_shift.proofs.Passing.{all-length, all-bytes, all-alike}
 use Rattle.promise_differs.specs.Differs.{OnlyTimes}
 use Rattle.promise_differs.proofs.Bodies.{but-refl, but-reword}
@@ -23,9 +23,9 @@ use Rattle.promise_differs.proofs.Bodies.{but-refl, but-reword}
 -- an opaque box, its times by any function
 only-times : (f : ℕ → ℕ) (k c : ℕ) (b b′ : List ℕ) → Made (timesLeaf f) k c b b′ → OnlyTimes k c b b′
 unfolding timesLeaf
-only-times f k c b b′ r = subst (OnlyTimes k c b) (sym (r .0)) (go (timed k c) refl)
+only-times f k c b b′ r = subst (OnlyTimes k c b) (sym (r .0)) (go (hasTimes k c) refl)
   where
-    go : (t : Bool) → timed k c ≡ t → OnlyTimes k c b (pick t (reword f 4 8 b) b)
+    go : (t : Bool) → hasTimes k c ≡ t → OnlyTimes k c b (pick t (reword f 4 8 b) b)
     go true e = record { times = λ t. but-reword f 4 8 b; rest = λ n. let z : true ≡ false = sym e ∙ n in absurd (let o : _≡_ {A = ℕ} 0 1 = cc in omega arith) }
     go false e = record { times = λ t. but-refl 4 12 b; rest = λ n. refl }
 

@@ -27,7 +27,7 @@ use Rattle.rule_headers.specs.Forms.{headForm, ifBox, form}
 use Rattle.rule_headers.specs.Four.{fourRule}
 use Rattle.judge.specs.Acceptance.{Meets}
 use Rattle.judge.proofs.Tables.{file-met}
-use Rattle.edit_shift.specs.Shift.{timed, timesLeaf, trackTimes, allTimes, shiftOf}
+use Rattle.edit_shift.specs.Shift.{hasTimes, timesLeaf, trackTimes, allTimes, shiftOf}
 use Rattle.promise_kept.proofs.Edits.{keeps-shift}
 use Rattle.promise_differs.specs.Times.{TimesShifted}
 use Rattle.promise_differs.proofs.Timing.{shift-kin}
@@ -61,17 +61,17 @@ module _ (f : ℕ → ℕ) where
   empty = reword-past f 4 8 [] (omega arith)
 
   mvhd-written : (xs ys : List ℕ) → Kin leaf DEPTH FILE xs ys → Reworded (find MVHD (movie xs)) (find MVHD (movie ys))
-  unfolding kindIn parent ifEq boxes nth timesLeaf timed either every isEq
+  unfolding kindIn parent ifEq boxes nth timesLeaf hasTimes either every isEq
   mvhd-written xs ys a =
       kin-child leaf 5 FILE xs ys a MOOV (λ z. omega arith) (In MVHD Reworded) empty (λ z. omega arith)
       (λ b b′ r. kin-find leaf 4 MOOV b b′ r MVHD (λ z. omega arith) Reworded empty refl (λ b b′ r. r .0) 0) 0
 
   tkhd-written : (b b′ : List ℕ) → Kin leaf 4 TRAK b b′ → Reworded (find TKHD (boxes b)) (find TKHD (boxes b′))
-  unfolding kindIn parent ifEq timesLeaf timed either every isEq
+  unfolding kindIn parent ifEq timesLeaf hasTimes either every isEq
   tkhd-written b b′ a = kin-find leaf 3 TRAK b b′ a TKHD (λ z. omega arith) Reworded empty refl (λ b b′ r. r .0) 0
 
   mdhd-written : (b b′ : List ℕ) → Kin leaf 4 TRAK b b′ → Reworded (find MDHD (mdia b)) (find MDHD (mdia b′))
-  unfolding kindIn parent ifEq boxes nth timesLeaf timed either every isEq
+  unfolding kindIn parent ifEq boxes nth timesLeaf hasTimes either every isEq
   mdhd-written b b′ a =
       kin-child leaf 3 TRAK b b′ a MDIA (λ z. omega arith) (In MDHD Reworded) empty (λ z. omega arith)
       (λ b b′ r. kin-find leaf 2 MDIA b b′ r MDHD (λ z. omega arith) Reworded empty refl (λ b b′ r. r .0) 0) 0
@@ -82,7 +82,7 @@ pub shift-times : (z : ℤ) (xs : List ℕ) → Bytes xs → Meets xs → allTim
 unfolding allTimes trackTimes
 shift-times z xs w m h =
     record {
-      same = keeps-shift z xs w m .tracks;
+      same = keeps-shift z xs w m .kept .tracks;
       mvhd = head-shifted z 100 _ _ (omega arith) (mvhd-form met) (clause 0 _ h) (mvhd-written (shiftTime z) xs _ (shift-kin z xs w m));
       tkhd = λ t k. head-shifted z 84 _ _ (omega arith) (tkhd-form (in-track met t k)) (clause 0 _ (each t k)) (tkhd-written (shiftTime z) _ _ (inside t));
       mdhd = λ t k. head-shifted z 24 _ _ (omega arith) (mdhd-form (in-track met t k)) (clause 1 _ (each t k)) (mdhd-written (shiftTime z) _ _ (inside t));

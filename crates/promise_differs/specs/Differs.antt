@@ -20,7 +20,7 @@ use Rattle.movie.specs.Named.{spotIn}
 use Rattle.entry_heads.specs.Heads.{headSize}
 use Rattle.edit_move.specs.Moving.{moovSecond}
 use Rattle.edit_replace.specs.Replace.{kindAt}
-use Rattle.edit_shift.specs.Shift.{CREATION, timed}
+use Rattle.edit_shift.specs.Shift.{CREATION, hasTimes}
 use Rattle.promise_kept.specs.Edits.{Edit, shift, replace, move}
 use Rattle.promise_differs.specs.Times.{TimesShifted}
 
@@ -65,8 +65,8 @@ pub record Moves (xs ys : List ℕ) : Type 0 where
 
 -- times; every other opaque box is the same, and so are chunk offsets, since nothing moves
 pub record OnlyTimes (k c : ℕ) (b b′ : List ℕ) : Type 0 where
-  pub times : timed k c ≡ true → ButTimes b b′
-  pub rest : timed k c ≡ false → b ≡ b′
+  pub times : hasTimes k c ≡ true → ButTimes b b′
+  pub rest : hasTimes k c ≡ false → b ≡ b′
 
 -- ys is xs with other times, each by z minutes
 pub record Shifts (z : ℤ) (xs ys : List ℕ) : Type 0 where
