@@ -15,9 +15,10 @@ use Rattle.edit_replace.specs.Replace.{replaceOf, replaceResult}
 use Rattle.edit_shift.specs.Shift.{shiftOf, shiftResult}
 use Rattle.promise_kept.proofs.Done.{move-passed, shift-passed, replace-passed}
 use Rattle.promise_differs.specs.Differs.{OnlyOffsets, OnlyTimes, Replaces}
+use Rattle.promise_differs.specs.OneEntry.{OneEntry}
 use Rattle.promise_differs.proofs.Moving.{move-order, move-differs}
 use Rattle.promise_differs.proofs.Timing.{shift-differs}
-use Rattle.promise_differs.proofs.Edits.{replace-differs}
+use Rattle.promise_differs.proofs.Edits.{replace-differs, replace-entry}
 
 -- a move: the boxes in their new order, and then chunk offsets
 pub done-move-differs : (xs out : List ℕ) {n : ℕ} → Bytes xs → answerIn (moveResult xs) out ≡ Done n → (boxes (write (moovSecond (boxes xs))) ≡ moovSecond (boxes xs)) × Kin OnlyOffsets DEPTH FILE (write (moovSecond (boxes xs))) (moveOf xs)
@@ -30,3 +31,8 @@ done-shift-differs z xs out w e = shift-differs z xs w (shift-passed z xs out e)
 -- a replacement: one record, and chunk offsets
 pub done-replace-differs : (xs : List ℕ) (i : ℕ) (new out : List ℕ) {n : ℕ} → Bytes xs → Bytes new → answerIn (replaceResult xs i new) out ≡ Done n → Replaces xs i new (replaceOf xs i new)
 done-replace-differs xs i new out w v e = let p = replace-passed xs i new out e in replace-differs xs i new w v (p .0) (p .1) (p .2)
+
+-- of entry i, and every other entry has its bytes
+pub done-replace-entry : (xs : List ℕ) (i : ℕ) (new out : List ℕ) {n : ℕ} → Bytes xs → Bytes new → answerIn (replaceResult xs i new) out ≡ Done n
+    → OneEntry xs i new (replaceOf xs i new)
+done-replace-entry xs i new out w v e = let p = replace-passed xs i new out e in replace-entry xs i new w v (p .0) (p .1) (p .2)

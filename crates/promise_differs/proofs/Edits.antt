@@ -32,10 +32,12 @@ use Rattle.edit_shift.specs.Shift.{timed, shiftOf}
 use Rattle.promise_kept.proofs.Named.{entry-in}
 use Rattle.promise_kept.proofs.Second.{second}
 use Rattle.promise_differs.specs.Differs.{OnlyOffsets, OnlyTimes, OnlyRecord, keptOf, Replaces}
+use Rattle.promise_differs.specs.OneEntry.{OneEntry}
 use Rattle.promise_differs.proofs.Moving.{move-order, move-differs}
 use Rattle.promise_differs.proofs.Timing.{shift-differs}
 use Rattle.promise_differs.proofs.Replacing.{record-differs}
 use Rattle.promise_differs.proofs.OneTrack.{record-there, record-elsewhere}
+use Rattle.promise_differs.proofs.OneEntry.{replaces-one}
 
 -- ---- a replacement
 
@@ -68,6 +70,12 @@ replace-differs xs i new w v m r h = go (spotIn (stsds xs) (i - 1)) refl (rw set
           elsewhere = record-elsewhere t n (keptOf xs i) new xs v w s;
         }
     go Past e k = absurd (past-none xs i new (nowhere-past (stsds xs) (i - 1) e) refl r)
+
+-- so entry i has the given record, and every other entry has its bytes
+pub replace-entry : (xs : List ℕ) (i : ℕ) (new : List ℕ) → Bytes xs → Bytes new → Meets xs → recordRule (kindAt xs i) FRAMES new ≡ true
+    → length (replaceOf xs i new) ≤ LONGEST → OneEntry xs i new (replaceOf xs i new)
+replace-entry xs i new w v m r h =
+    replaces-one xs i new (replaceOf xs i new) w (record-first xs i FRAMES (kindAt xs i) new refl r) (omega arith) (replace-differs xs i new w v m r h)
 
 -- ---- every `mdat` has its bytes
 

@@ -1,1 +1,2 @@
 pub mod Differs
+pub mod OneEntry
