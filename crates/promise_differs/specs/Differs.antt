@@ -23,6 +23,7 @@ use Rattle.edit_replace.specs.Replace.{kindAt}
 use Rattle.edit_shift.specs.Shift.{CREATION, hasTimes}
 use Rattle.promise_kept.specs.Edits.{Edit, shift, replace, move}
 use Rattle.promise_differs.specs.Times.{TimesShifted}
+use Rattle.promise_differs.specs.OneEntry.{OneEntry}
 
 -- two bodies of the same length, with the same bytes before place `from` and the same from place `to` on
 pub record But (from to : ℕ) (b b′ : List ℕ) : Type 0 where
@@ -103,9 +104,14 @@ pub record Replaces (xs : List ℕ) (i : ℕ) (new ys : List ℕ) : Type 0 where
   pub there : sampleTable STSD (track ys t) ≡ withRecord n (keptOf xs i) new (sampleTable STSD (track xs t))
   pub elsewhere : (u : ℕ) → (u ≡ t → ⊥) → Kin OnlyOffsets TRACK TRAK (track xs u) (track ys u)
 
+-- and so, by the sheet's list, entry i alone
+pub record Replaced (xs : List ℕ) (i : ℕ) (new ys : List ℕ) : Type 0 where
+  pub differs : Replaces xs i new ys
+  pub entry : OneEntry xs i new ys
+
 -- ---- any edit
 
 abbrev pub Differs : Edit → List ℕ → List ℕ → Type 0
 Differs (shift z) xs ys = Shifts z xs ys
-Differs (replace i new) xs ys = Replaces xs i new ys
+Differs (replace i new) xs ys = Replaced xs i new ys
 Differs move xs ys = Moves xs ys
