@@ -19,7 +19,7 @@ use Rattle.boxes.specs.Rewrite.{Leaves, editIn}
 use Rattle.boxes.specs.Words.{reword, rewordLeaf}
 use Rattle.boxes.proofs.Editing.{edit-length, edit-edit}
 use Rattle.boxes.proofs.Wording.{leaf-length}
-use Rattle.edit_shift.specs.Shift.{timed, timesLeaf, allTimesBy}
+use Rattle.edit_shift.specs.Shift.{hasTimes, timesLeaf, allTimesBy}
 use Rattle.edit_shift.specs.Amount.{timesOf, timesBy}
 
 -- ---- one opaque box
@@ -53,7 +53,7 @@ module _ (h : List ℕ → List ℕ) (b : List ℕ) where
 
 leaf-three : (f : ℕ → ℕ) (k c : ℕ) (b : List ℕ)
     → rewordLeaf (timesOf MDIA MDHD) f k c (rewordLeaf (timesOf TRAK TKHD) f k c (rewordLeaf (timesOf MOOV MVHD) f k c b)) ≡ timesLeaf f k c b
-unfolding timesLeaf timed
+unfolding timesLeaf hasTimes
 leaf-three f k c b =
     rw (leaf-is f MOOV MVHD k c b, leaf-is f TRAK TKHD k c _, leaf-is f MDIA MDHD k c _)
     (three (reword f 4 8) b (of MOOV MVHD k c) (of TRAK TKHD k c) (of MDIA MDHD k c) (one-kind _ _ _ _ k c (λ z. omega arith)) (one-kind _ _ _ _ k c (λ z. omega arith)) (one-kind _ _ _ _ k c (λ z. omega arith)))

@@ -17,7 +17,7 @@ use Rattle.boxes.proofs.Rewriting.{boxes-over, length-over}
 use Rattle.boxes.proofs.Wording.{reword-length, reword-bytes}
 use Rattle.mdat.specs.Relocate.{Alike}
 use Rattle.mdat.proofs.Staying.{alike-over}
-use Rattle.edit_shift.specs.Shift.{timed, timesLeaf, allTimesBy}
+use Rattle.edit_shift.specs.Shift.{hasTimes, timesLeaf, allTimesBy}
 
 -- ---- one opaque box
 
@@ -25,7 +25,7 @@ module _ (f : ℕ → ℕ) (k c : ℕ) (b : List ℕ) where
   -- what holds of its body, and with the times rewritten, holds
   leaf-by : (P : List ℕ → Type 0) → P b → P (reword f 4 8 b) → P (timesLeaf f k c b)
   unfolding timesLeaf
-  leaf-by P p q = by (timed k c)
+  leaf-by P p q = by (hasTimes k c)
     where
       by : (t : Bool) → P (pick t (reword f 4 8 b) b)
       by true = q

@@ -24,8 +24,8 @@ use Rattle.edit_offsets.specs.Settle.{settled}
 -- ---- its meaning
 
 -- the opaque boxes with times, by the container's kind k and the code c
-unfoldable pub timed : ℕ → ℕ → Bool
-timed k c =
+unfoldable pub hasTimes : ℕ → ℕ → Bool
+hasTimes k c =
     either
     (every (isEq k MOOV ∷ isEq c MVHD ∷ [])
     ∷ every (isEq k TRAK ∷ isEq c TKHD ∷ [])
@@ -41,7 +41,7 @@ MODIFICATION = 8
 
 -- both times of such a box by f
 unfoldable pub timesLeaf : (ℕ → ℕ) → Leaves
-timesLeaf f k c b = pick (timed k c) (reword f CREATION 8 b) b
+timesLeaf f k c b = pick (hasTimes k c) (reword f CREATION 8 b) b
 
 unfoldable pub allTimesBy : (ℕ → ℕ) → List ℕ → List ℕ
 allTimesBy f xs = editIn (timesLeaf f) DEPTH FILE xs

@@ -16,7 +16,7 @@ use Rattle.sample_tables.specs.Chunks.{offsetAt}
 use Rattle.mdat.specs.Relocate.{relocate, Relocated}
 
 -- number k of a list, rewritten
-each-at : (f : ℕ → ℕ) (k : ℕ) (xs : List ℕ) → 4 * k + 4 ≤ length xs → f (word 4 xs (4 * k)) < 4294967296 → word 4 (eachWord f xs) (4 * k) ≡ f (word 4 xs (4 * k))
+pub each-at : (f : ℕ → ℕ) (k : ℕ) (xs : List ℕ) → 4 * k + 4 ≤ length xs → f (word 4 xs (4 * k)) < 4294967296 → word 4 (eachWord f xs) (4 * k) ≡ f (word 4 xs (4 * k))
 each-at f zero xs h b = rw (word-next f xs (omega arith)) (word-bytes 4 (f (word 4 xs 0)) (eachWord f (drop 4 xs)) b)
 each-at f (suc k) xs h b =
     let n : 4 * suc k ≡ 4 + 4 * k = omega arith in

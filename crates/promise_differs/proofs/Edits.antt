@@ -28,14 +28,15 @@ use Rattle.edit_move.specs.Moving.{moveOf}
 use Rattle.edit_replace.specs.Replace.{kindAt, recordAt, recordReplaced, replaceOf}
 use Rattle.edit_replace.proofs.Taking.{record-first}
 use Rattle.edit_replace.proofs.Written.{past-none}
-use Rattle.edit_shift.specs.Shift.{timed, shiftOf}
+use Rattle.edit_shift.specs.Shift.{hasTimes, shiftOf}
 use Rattle.promise_kept.proofs.Named.{entry-in}
 use Rattle.promise_kept.proofs.Second.{second}
-use Rattle.promise_differs.specs.Differs.{OnlyOffsets, OnlyTimes, OnlyRecord, keptOf, Replaces}
+use Rattle.promise_differs.specs.Differs.{OnlyOffsets, OnlyTimes, OnlyRecord, keptOf, Replaces, Replaced}
 use Rattle.promise_differs.proofs.Moving.{move-order, move-differs}
 use Rattle.promise_differs.proofs.Timing.{shift-differs}
 use Rattle.promise_differs.proofs.Replacing.{record-differs}
 use Rattle.promise_differs.proofs.OneTrack.{record-there, record-elsewhere}
+use Rattle.promise_differs.proofs.OneEntry.{replaces-one}
 
 -- ---- a replacement
 
@@ -69,13 +70,20 @@ replace-differs xs i new w v m r h = go (spotIn (stsds xs) (i - 1)) refl (rw set
         }
     go Past e k = absurd (past-none xs i new (nowhere-past (stsds xs) (i - 1) e) refl r)
 
+-- so entry i has the given record, and every other entry has its bytes
+pub replaced : (xs : List ℕ) (i : ℕ) (new : List ℕ) → Bytes xs → Bytes new → Meets xs → recordRule (kindAt xs i) FRAMES new ≡ true → length (replaceOf xs i new) ≤ LONGEST
+    → Replaced xs i new (replaceOf xs i new)
+replaced xs i new w v m r h =
+    let d = replace-differs xs i new w v m r h in
+    record { differs = d; entry = replaces-one xs i new (replaceOf xs i new) w (record-first xs i FRAMES (kindAt xs i) new refl r) (omega arith) d }
+
 -- ---- every `mdat` has its bytes
 
 pub move-mdats : (xs : List ℕ) → Bytes xs → Meets xs → mdats (boxes (moveOf xs)) ≡ mdats (boxes xs)
 move-mdats xs w m = sym (kin-mdats OnlyOffsets 5 _ (moveOf xs) (λ b c r. r .rest (λ o. omega (arith, o .0))) (move-differs xs w m)) ∙ ap mdats (move-order xs w m) ∙ second .payloads (boxes xs)
 
 pub shift-mdats : (z : ℤ) (xs : List ℕ) → Bytes xs → Meets xs → mdats (boxes (shiftOf z xs)) ≡ mdats (boxes xs)
-unfolding timed either every isEq
+unfolding hasTimes either every isEq
 shift-mdats z xs w m = sym (kin-mdats OnlyTimes 5 xs (shiftOf z xs) (λ b c r. r .rest refl) (shift-differs z xs w m))
 
 pub replace-mdats : (xs : List ℕ) (i : ℕ) (new ys : List ℕ) → Replaces xs i new ys → mdats (boxes ys) ≡ mdats (boxes xs)

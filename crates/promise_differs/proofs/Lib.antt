@@ -4,5 +4,10 @@ pub mod Timing
 pub mod Tracking
 pub mod Replacing
 pub mod OneTrack
+pub mod OneOfEntries
+pub mod OneStsd
+pub mod OneEntry
 pub mod Edits
+pub mod Header
+pub mod Written
 pub mod Done

@@ -25,7 +25,7 @@ use Rattle.edit_replace.specs.Replace.{turn, recordAt}
 use Rattle.edit_replace.proofs.Changing.{stsd-end, by-stsd, stsdWay, toEntry, down-stsd}
 use Rattle.promise_differs.specs.Differs.{TRACK, OnlyOffsets, withRecord}
 use Rattle.promise_differs.proofs.Replacing.{follows}
-use Rattle.promise_differs.proofs.Tracking.{track-kin, offsets-refl, same-stsd}
+use Rattle.promise_differs.proofs.Tracking.{track-kin, same-stsd}
 
 module _ (t n keep : ℕ) (new xs : List ℕ) (w : Bytes new) (v : Bytes xs) (s : length (recordAt (In t n) keep new xs) < 4294967296) where
   abbrev zs : List ℕ
@@ -70,4 +70,4 @@ module _ (t n keep : ℕ) (new xs : List ℕ) (w : Bytes new) (v : Bytes xs) (s 
 
   -- has no other record
   pub record-elsewhere : (u : ℕ) → (u ≡ t → ⊥) → Kin OnlyOffsets TRACK TRAK (track xs u) (track (settled xs (recordAt (In t n) keep new xs)) u)
-  record-elsewhere u z = rw (track-same u z) (track-kin OnlyOffsets offsets-refl zs _ settles u)
+  record-elsewhere u z = rw (track-same u z) (track-kin OnlyOffsets zs _ settles u)

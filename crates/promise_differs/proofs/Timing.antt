@@ -9,34 +9,37 @@ use lib.ListN.{length}
 use Rattle.wire.specs.Tests.{pick}
 use Rattle.wire.specs.Numbers.{Bytes}
 use Rattle.boxes.specs.Containers.{FILE, DEPTH}
-use Rattle.boxes.specs.Words.{moved, reword}
+use Rattle.boxes.specs.Words.{reword}
 use Rattle.boxes.specs.Kin.{Kin}
 use Rattle.boxes.proofs.Kin.{Made, kin-edit, kin-less}
-use Rattle.clocks.specs.Clocks.{zoneOf}
+use Rattle.clocks.specs.Clocks.{shiftTime}
 use Rattle.judge.specs.Acceptance.{Meets}
-use Rattle.edit_shift.specs.Shift.{timed, timesLeaf, allTimesBy, shiftOf}
-use Rattle.edit_shift.specs.Amount.{byZone, zoneText}
-use Rattle.edit_shift.proofs.Passing.{all-length}
-use Rattle.edit_shift.proofs.Meaning.{shift-text}
+use Rattle.edit_offsets.proofs.Settled.{settled-same}
+use Rattle.edit_shift.specs.Shift.{hasTimes, timesLeaf, allTimesBy, shiftOf}
+use Rattle.edit_shift.proofs.Passing.{all-length, all-bytes, all-alike}
 use Rattle.promise_differs.specs.Differs.{OnlyTimes}
 use Rattle.promise_differs.proofs.Bodies.{but-refl, but-reword}
 
 -- an opaque box, its times by any function
 only-times : (f : ℕ → ℕ) (k c : ℕ) (b b′ : List ℕ) → Made (timesLeaf f) k c b b′ → OnlyTimes k c b b′
 unfolding timesLeaf
-only-times f k c b b′ r = subst (OnlyTimes k c b) (sym (r .0)) (go (timed k c) refl)
+only-times f k c b b′ r = subst (OnlyTimes k c b) (sym (r .0)) (go (hasTimes k c) refl)
   where
-    go : (t : Bool) → timed k c ≡ t → OnlyTimes k c b (pick t (reword f 4 8 b) b)
+    go : (t : Bool) → hasTimes k c ≡ t → OnlyTimes k c b (pick t (reword f 4 8 b) b)
     go true e = record { times = λ t. but-reword f 4 8 b; rest = λ n. let z : true ≡ false = sym e ∙ n in absurd (let o : _≡_ {A = ℕ} 0 1 = cc in omega arith) }
     go false e = record { times = λ t. but-refl 4 12 b; rest = λ n. refl }
 
-all-differ : (f : ℕ → ℕ) (xs : List ℕ) → Bytes xs → length xs < 4294967296 → Kin OnlyTimes DEPTH FILE xs (allTimesBy f xs)
-unfolding allTimesBy
-all-differ f xs w n = kin-less (Made (timesLeaf f)) OnlyTimes (only-times f) DEPTH FILE xs _ (kin-edit (timesLeaf f) DEPTH FILE xs w (omega (arith, all-length f xs)))
+module _ (z : ℤ) (xs : List ℕ) (w : Bytes xs) (m : Meets xs) where
+  -- nothing moves, so no chunk offset follows
+  stays : shiftOf z xs ≡ allTimesBy (shiftTime z) xs
+  unfolding shiftOf
+  stays = settled-same xs (allTimesBy (shiftTime z) xs) (all-alike (shiftTime z) xs w (omega (arith, m .most))) (all-bytes (shiftTime z) xs w)
 
--- "Shift times by z minutes"
-pub shift-differs : (z : ℤ) (xs : List ℕ) → Bytes xs → Meets xs → Kin OnlyTimes DEPTH FILE xs (shiftOf z xs)
-unfolding zoneText
-shift-differs z xs w m =
-    let n : length xs < 4294967296 = omega (arith, m .most) in
-    subst (Kin OnlyTimes DEPTH FILE xs) (shift-text z xs w n) (all-differ (moved (byZone (zoneOf z))) xs w n)
+  -- box by box, the times of headers by the shift
+  pub shift-kin : Kin (Made (timesLeaf (shiftTime z))) DEPTH FILE xs (shiftOf z xs)
+  unfolding allTimesBy
+  shift-kin = rw stays (kin-edit (timesLeaf (shiftTime z)) DEPTH FILE xs w (omega (arith, m .most, all-length (shiftTime z) xs)))
+
+  -- "Shift times by z minutes"
+  pub shift-differs : Kin OnlyTimes DEPTH FILE xs (shiftOf z xs)
+  shift-differs = kin-less (Made (timesLeaf (shiftTime z))) OnlyTimes (only-times (shiftTime z)) DEPTH FILE xs _ shift-kin

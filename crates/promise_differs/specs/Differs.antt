@@ -5,6 +5,7 @@ use mathlib.Core.Path.{_≡_}
 use mathlib.Core.Bool.{true, false}
 use mathlib.Core.List.{List}
 use mathlib.Core.Logic.{_⊎_}
+use lib.IntN.{ℤ}
 use lib.ListN.{length, take, drop}
 use Rattle.codes.specs.Codes.{TRAK, STBL, STSD, STCO}
 use Rattle.boxes.specs.Boxes.{HEAD, FRONT, boxes}
@@ -19,8 +20,10 @@ use Rattle.movie.specs.Named.{spotIn}
 use Rattle.entry_heads.specs.Heads.{headSize}
 use Rattle.edit_move.specs.Moving.{moovSecond}
 use Rattle.edit_replace.specs.Replace.{kindAt}
-use Rattle.edit_shift.specs.Shift.{CREATION, timed}
+use Rattle.edit_shift.specs.Shift.{CREATION, hasTimes}
 use Rattle.promise_kept.specs.Edits.{Edit, shift, replace, move}
+use Rattle.promise_differs.specs.Times.{TimesShifted}
+use Rattle.promise_differs.specs.OneEntry.{OneEntry}
 
 -- two bodies of the same length, with the same bytes before place `from` and the same from place `to` on
 pub record But (from to : ℕ) (b b′ : List ℕ) : Type 0 where
@@ -63,8 +66,13 @@ pub record Moves (xs ys : List ℕ) : Type 0 where
 
 -- times; every other opaque box is the same, and so are chunk offsets, since nothing moves
 pub record OnlyTimes (k c : ℕ) (b b′ : List ℕ) : Type 0 where
-  pub times : timed k c ≡ true → ButTimes b b′
-  pub rest : timed k c ≡ false → b ≡ b′
+  pub times : hasTimes k c ≡ true → ButTimes b b′
+  pub rest : hasTimes k c ≡ false → b ≡ b′
+
+-- ys is xs with other times, each by z minutes
+pub record Shifts (z : ℤ) (xs ys : List ℕ) : Type 0 where
+  pub differs : Kin OnlyTimes DEPTH FILE xs ys
+  pub times : TimesShifted z xs ys
 
 -- ---- a replacement
 
@@ -96,9 +104,14 @@ pub record Replaces (xs : List ℕ) (i : ℕ) (new ys : List ℕ) : Type 0 where
   pub there : sampleTable STSD (track ys t) ≡ withRecord n (keptOf xs i) new (sampleTable STSD (track xs t))
   pub elsewhere : (u : ℕ) → (u ≡ t → ⊥) → Kin OnlyOffsets TRACK TRAK (track xs u) (track ys u)
 
+-- and so, by the sheet's list, entry i alone
+pub record Replaced (xs : List ℕ) (i : ℕ) (new ys : List ℕ) : Type 0 where
+  pub differs : Replaces xs i new ys
+  pub entry : OneEntry xs i new ys
+
 -- ---- any edit
 
 abbrev pub Differs : Edit → List ℕ → List ℕ → Type 0
-Differs (shift z) xs ys = Kin OnlyTimes DEPTH FILE xs ys
-Differs (replace i new) xs ys = Replaces xs i new ys
+Differs (shift z) xs ys = Shifts z xs ys
+Differs (replace i new) xs ys = Replaced xs i new ys
 Differs move xs ys = Moves xs ys

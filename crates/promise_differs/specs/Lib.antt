@@ -1,1 +1,3 @@
 pub mod Differs
+pub mod Times
+pub mod OneEntry

@@ -8,7 +8,7 @@ use Rattle.wire.specs.Clauses.{isEq, every, either}
 use Rattle.wire.specs.Numbers.{word}
 use Rattle.codes.specs.Codes.{DINF, DREF, STBL, STSD, STTS, STSC, STSZ, STCO}
 use Rattle.rule_headers.specs.Forms.{brandsForm, headForm, handlerForm, form}
-use Rattle.edit_shift.specs.Shift.{timed}
+use Rattle.edit_shift.specs.Shift.{hasTimes}
 use Rattle.promise_kept.proofs.Sound.{Sound}
 
 -- length, version and the number at 12 are kept, and of a box that has no times all is
@@ -16,7 +16,7 @@ pub record Clocked (k c : ℕ) (b b′ : List ℕ) : Type 0 where
   pub long : length b ≡ length b′
   pub version : getD b 0 0 ≡ getD b′ 0 0
   pub number : word 4 b 12 ≡ word 4 b′ 12
-  pub rest : timed k c ≡ false → b ≡ b′
+  pub rest : hasTimes k c ≡ false → b ≡ b′
 
 -- a body and itself
 pub clocked-same : (k c : ℕ) (b : List ℕ) → Clocked k c b b
@@ -29,16 +29,16 @@ clocked-form k c b b′ r = rw (r .long, r .version, r .number)
 
 -- no box of these containers has times
 pub in-stbl : (c : ℕ) (b b′ : List ℕ) → Clocked STBL c b b′ → b ≡ b′
-unfolding timed either every isEq
+unfolding hasTimes either every isEq
 in-stbl c b b′ r = r .rest refl
 
 in-dinf : (c : ℕ) (b b′ : List ℕ) → Clocked DINF c b b′ → b ≡ b′
-unfolding timed either every isEq
+unfolding hasTimes either every isEq
 in-dinf c b b′ r = r .rest refl
 
 -- an edit of times alone is sound
 pub clocked-sound : Sound Clocked
-unfolding timed either every isEq
+unfolding hasTimes either every isEq
 clocked-sound =
     record {
       mdat = λ b b′ r. r .rest refl;

@@ -8,13 +8,14 @@ use lib.ListN.{length, take}
 use Rattle.wire.specs.Numbers.{Bytes}
 use Rattle.wire.proofs.Clauses.{le-is, clause}
 use Rattle.boxes.specs.Containers.{LONGEST}
+use Rattle.clocks.specs.Clocks.{mayShift}
 use Rattle.entry_rules.specs.Entries.{FRAMES}
 use Rattle.entry_rules.specs.Decoders.{recordRule}
 use Rattle.rule.specs.declared.Answer.the-variants.{Done}
 use Rattle.rule.specs.Results.{answerIn, leftIn}
 use Rattle.judge.specs.Acceptance.{Meets}
 use Rattle.judge.proofs.Calls.{result-done}
-use Rattle.edit_shift.specs.Shift.{shiftOf, shiftResult}
+use Rattle.edit_shift.specs.Shift.{allTimes, shiftOf, shiftable, shiftResult}
 use Rattle.edit_replace.specs.Replace.{kindAt, replaceOf, replaceResult}
 use Rattle.edit_move.specs.Moving.{moveOf, moveResult}
 use Rattle.promise_kept.specs.Kept.{Keeps}
@@ -27,6 +28,11 @@ module _ (z : ℤ) (xs out : List ℕ) {n : ℕ} (e : answerIn (shiftResult z xs
   pub shift-passed : Meets xs
   unfolding shiftResult
   shift-passed = result-done xs _ _ out n e .meets
+
+  -- 22: each time may be shifted
+  pub shift-timed : allTimes (mayShift z) xs ≡ true
+  unfolding shiftResult shiftable
+  shift-timed = clause 1 _ (clause 0 _ (result-done xs _ _ out n e .tests))
 
   pub shift-left : (n ≡ length (shiftOf z xs)) × (take n (leftIn (shiftResult z xs) out) ≡ shiftOf z xs)
   unfolding shiftResult

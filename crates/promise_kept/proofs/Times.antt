@@ -12,7 +12,7 @@ use Rattle.boxes.specs.Containers.{FILE, DEPTH, LONGEST}
 use Rattle.boxes.specs.Words.{reword}
 use Rattle.boxes.proofs.Kin.{Made, kin-edit}
 use Rattle.boxes.proofs.Wording.{reword-length}
-use Rattle.edit_shift.specs.Shift.{timed, timesLeaf, allTimesBy}
+use Rattle.edit_shift.specs.Shift.{hasTimes, timesLeaf, allTimesBy}
 use Rattle.edit_shift.proofs.Passing.{all-length, all-bytes}
 use Rattle.promise_kept.proofs.Words.{byte-before, word-behind}
 use Rattle.promise_kept.proofs.Sound.{sound-less}
@@ -22,9 +22,9 @@ use Rattle.promise_kept.proofs.Clocked.{Clocked, clocked-same, in-stbl,
 -- what no rule reads of a box, its times by any function
 clocked-made : (f : ℕ → ℕ) (k c : ℕ) (b : List ℕ) → Clocked k c b (timesLeaf f k c b)
 unfolding timesLeaf
-clocked-made f k c b = go (timed k c) refl
+clocked-made f k c b = go (hasTimes k c) refl
   where
-    go : (t : Bool) → timed k c ≡ t → Clocked k c b (pick t (reword f 4 8 b) b)
+    go : (t : Bool) → hasTimes k c ≡ t → Clocked k c b (pick t (reword f 4 8 b) b)
     go true e =
         record {
           long = sym (reword-length f 4 8 b);
