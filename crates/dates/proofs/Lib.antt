@@ -1,0 +1,4 @@
+pub mod Spans
+pub mod Years
+pub mod Dates
+pub mod Examples
