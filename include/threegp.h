@@ -37,36 +37,41 @@ uint64_t threegp_brand(const uint8_t *file, size_t length, uint32_t code);
 /* The chunk offsets of a track (from 1) in order. Value: how many. 20: no such track; 25: the list is shorter. */
 uint64_t threegp_offsets(const uint8_t *file, size_t length, uint64_t track, uint32_t *list, size_t room);
 
-/* The sheet of the file's sample entries. Value: its length. 25: out is shorter. */
+/* The sheet of the file's sample entries. Byte 0 is 1, byte 1 the count of entries, bytes 2 and 3 are 0; then eight slots of 12 bytes, one
+   for each entry in file order: its kind (0 other, 1 mp4v, 2 mp4a, 3 samr, 4 sawb, 5 s263, 6 avc1), its track from 1, two zeros, its place in the
+   file (4 bytes) and its length (4); unused slots are zero. From byte 100 on the entries, whole boxes in slot order. Value: its length.
+   25: out is shorter; a room of 100 bytes and the file's length suffices. */
 uint64_t threegp_sheet(const uint8_t *file, size_t length, uint8_t *out, size_t room);
 
-/* The `stsd` box of a track (from 1) of a sheet. Value: its length. 30: the sheet is malformed; 20: no such track; 24: over
-   1,048,576 bytes; 25: out is shorter. */
+/* The `stsd` box of a track (from 1) of a sheet: 16 bytes, and then that track's entries. Value: its length. 30: the sheet is malformed; 20: no
+   such track; 24: over 1,048,576 bytes; 25: out is shorter; a room of the sheet's length suffices. */
 uint64_t threegp_table(const uint8_t *sheet, size_t length, uint64_t track, uint8_t *out, size_t room);
 
 /* The fields of a `samr`, `sawb` or `s263` entry. For the first two 8 numbers: kind (3, 4), data reference, TimeScale, vendor, decoder
    version, mode_set, mode_change_period, frames_per_sample. For `s263` 11: kind (5), data reference, width, height, vendor,
    decoder version, level, profile, 1 where a `bitr` follows and else 0, average rate, maximum rate. Value: 8 or 11. 21: not such an
-   entry, or its rule is broken; 25: out is shorter. */
+   entry, or its rule is broken; 25: out is shorter; 11 numbers suffice. */
 uint64_t threegp_record_read(const uint8_t *entry, size_t length, uint64_t *out, size_t room);
 
 /* The entry of such fields. Value: its length. 21: another count of fields, a number that doesn't fit, or the rule is broken; 25:
-   out is shorter. */
+   out is shorter; 117 bytes suffice. */
 uint64_t threegp_record_write(const uint64_t *fields, size_t count, uint8_t *out, size_t room);
 
-/* The printed listing of a file; a refused one has a listing of one line, so that only 25 is refused. Value: the text's length. */
+/* The printed listing of a file; a refused one has a listing of one line, so that only 25 is refused. Value: the text's length; 4,096
+   bytes suffice. */
 uint64_t threegp_listing(const uint8_t *file, size_t length, uint8_t *out, size_t room);
 
 /* The file with 60 times the minutes taken from each of its times that is not 0. Value: the length of the result. 22: minutes
-   outside -840 to 840, or a time would leave 1 to 4,294,967,295; 23: a file that no edit takes; 25: out is shorter. */
+   outside -840 to 840, or a time would leave 1 to 4,294,967,295; 23: a file that no edit takes, since it has a `moof`, `mfra`, `sidx` or
+   `meta` at the top, a `meta` in `moov` or `trak`, or a `co64` or `saio` in an `stbl`; 25: out is shorter; the file's length suffices. */
 uint64_t threegp_shift(const uint8_t *file, size_t length, int64_t minutes, uint8_t *out, size_t room);
 
 /* The file with the decoder record of an entry (from 1, in file order) replaced by the given `damr` or `d263`. Value: the length of
    the result. 20: no such entry, one that has no such record, or a given one of another code; 21: the given one breaks its rule;
-   23; 24: the result would pass 1,048,576 bytes; 25. */
+   23; 24: the result would pass 1,048,576 bytes; 25: out is shorter; 16 bytes more than the file's length suffice. */
 uint64_t threegp_replace(const uint8_t *file, size_t length, uint64_t entry, const uint8_t *record, size_t size, uint8_t *out, size_t room);
 
-/* The file with `moov` right after `ftyp`. Value: the length of the result. 23; 25. */
+/* The file with `moov` right after `ftyp`. Value: the length of the result, which is the file's. 23; 25. */
 uint64_t threegp_move(const uint8_t *file, size_t length, uint8_t *out, size_t room);
 
 /* Which of two files is newer, each with its clock's minutes ahead of universal time. out[0] says whether the first is earlier (0),
