@@ -13,7 +13,7 @@ use Rattle.promise_kept.proofs.Done.{move-passed, shift-passed, shift-timed, re
 use Rattle.promise_differs.specs.Differs.{Moves, Differs}
 use Rattle.promise_differs.proofs.Moving.{move-order, move-differs}
 use Rattle.promise_differs.proofs.Timing.{shift-differs}
-use Rattle.promise_differs.proofs.Edits.{replaced}
+use Rattle.promise_differs.proofs.Edits.{replace-entry}
 use Rattle.promise_differs.proofs.Written.{shift-times}
 
 -- the boxes in their new order, and then chunk offsets
@@ -22,5 +22,5 @@ moves xs w m = record { mid = write (moovSecond (boxes xs)); order = move-order 
 
 pub done-differs : (e : Edit) → Given e → (xs out : List ℕ) {n : ℕ} → Bytes xs → answer e xs out ≡ Done n → Differs e xs (meaning e xs)
 done-differs (shift z) g xs out w d = let m = shift-passed z xs out d in record { differs = shift-differs z xs w m; times = shift-times z xs w m (shift-timed z xs out d) }
-done-differs (replace i new) g xs out w d = let p = replace-passed xs i new out d in replaced xs i new w g (p .0) (p .1) (p .2)
+done-differs (replace i new) g xs out w d = let p = replace-passed xs i new out d in replace-entry xs i new w g (p .0) (p .1) (p .2)
 done-differs move g xs out w d = moves xs w (move-passed xs out d)

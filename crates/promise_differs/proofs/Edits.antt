@@ -31,7 +31,7 @@ use Rattle.edit_replace.proofs.Written.{past-none}
 use Rattle.edit_shift.specs.Shift.{hasTimes, shiftOf}
 use Rattle.promise_kept.proofs.Named.{entry-in}
 use Rattle.promise_kept.proofs.Second.{second}
-use Rattle.promise_differs.specs.Differs.{OnlyOffsets, OnlyTimes, OnlyRecord, keptOf, Replaces, Replaced}
+use Rattle.promise_differs.specs.Differs.{OnlyOffsets, OnlyTimes, OnlyRecord, keptOf, Replaces, EntryReplaced}
 use Rattle.promise_differs.proofs.Moving.{move-order, move-differs}
 use Rattle.promise_differs.proofs.Timing.{shift-differs}
 use Rattle.promise_differs.proofs.Replacing.{record-differs}
@@ -71,9 +71,9 @@ replace-differs xs i new w v m r h = go (spotIn (stsds xs) (i - 1)) refl (rw set
     go Past e k = absurd (past-none xs i new (nowhere-past (stsds xs) (i - 1) e) refl r)
 
 -- so entry i has the given record, and every other entry has its bytes
-pub replaced : (xs : List ℕ) (i : ℕ) (new : List ℕ) → Bytes xs → Bytes new → Meets xs → recordRule (kindAt xs i) FRAMES new ≡ true → length (replaceOf xs i new) ≤ LONGEST
-    → Replaced xs i new (replaceOf xs i new)
-replaced xs i new w v m r h =
+pub replace-entry : (xs : List ℕ) (i : ℕ) (new : List ℕ) → Bytes xs → Bytes new → Meets xs → recordRule (kindAt xs i) FRAMES new ≡ true → length (replaceOf xs i new) ≤ LONGEST
+    → EntryReplaced xs i new (replaceOf xs i new)
+replace-entry xs i new w v m r h =
     let d = replace-differs xs i new w v m r h in
     record { differs = d; entry = replaces-one xs i new (replaceOf xs i new) w (record-first xs i FRAMES (kindAt xs i) new refl r) (omega arith) d }
 

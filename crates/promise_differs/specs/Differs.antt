@@ -105,7 +105,7 @@ pub record Replaces (xs : List ℕ) (i : ℕ) (new ys : List ℕ) : Type 0 where
   pub elsewhere : (u : ℕ) → (u ≡ t → ⊥) → Kin OnlyOffsets TRACK TRAK (track xs u) (track ys u)
 
 -- and so, by the sheet's list, entry i alone
-pub record Replaced (xs : List ℕ) (i : ℕ) (new ys : List ℕ) : Type 0 where
+pub record EntryReplaced (xs : List ℕ) (i : ℕ) (new ys : List ℕ) : Type 0 where
   pub differs : Replaces xs i new ys
   pub entry : OneEntry xs i new ys
 
@@ -113,5 +113,5 @@ pub record Replaced (xs : List ℕ) (i : ℕ) (new ys : List ℕ) : Type 0 where
 
 abbrev pub Differs : Edit → List ℕ → List ℕ → Type 0
 Differs (shift z) xs ys = Shifts z xs ys
-Differs (replace i new) xs ys = Replaced xs i new ys
+Differs (replace i new) xs ys = EntryReplaced xs i new ys
 Differs move xs ys = Moves xs ys

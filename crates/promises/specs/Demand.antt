@@ -11,7 +11,7 @@ use Rattle.promise_kept.specs.Follows.{AllFollow}
 use Rattle.promise_kept.specs.Kept.{Kept}
 use Rattle.promise_kept.specs.Edits.{Edit, meaning}
 use Rattle.promise_differs.specs.Differs.{Differs}
-use Rattle.promises.specs.Runs.{Lent, answerOf, next, run}
+use Rattle.promises.specs.Runs.{Lent, answerOf, goesOn, run}
 
 -- an edit e made ys of xs
 pub record Edited (e : Edit) (xs ys : List ℕ) : Type 0 where
@@ -27,7 +27,7 @@ Step (Done n) e xs ys = (n ≡ length ys) × Edited e xs ys
 
 unfoldable pub EveryStep : List Lent → List ℕ → Type 0
 EveryStep [] xs = Unit
-EveryStep (l ∷ ls) xs = Step (answerOf l xs) (l .edit) xs (next l xs) × EveryStep ls (next l xs)
+EveryStep (l ∷ ls) xs = Step (answerOf l xs) (l .edit) xs (goesOn l xs) × EveryStep ls (goesOn l xs)
 
 -- of every step, and of the last file against the first
 pub record Demand (ls : List Lent) (xs : List ℕ) : Type 0 where

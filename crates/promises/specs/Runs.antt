@@ -20,12 +20,12 @@ abbrev pub goOn : Answer → List ℕ → List ℕ → List ℕ
 goOn (Done n) xs out = take n out
 goOn (Refused n p) xs out = xs
 
-abbrev pub next : Lent → List ℕ → List ℕ
-next l xs = goOn (answerOf l xs) xs (left (l .edit) xs (l .out))
+abbrev pub goesOn : Lent → List ℕ → List ℕ
+goesOn l xs = goOn (answerOf l xs) xs (left (l .edit) xs (l .out))
 
 unfoldable pub run : List Lent → List ℕ → List ℕ
 run [] xs = xs
-run (l ∷ ls) xs = run ls (next l xs)
+run (l ∷ ls) xs = run ls (goesOn l xs)
 
 -- what is given to each are bytes
 pub data AllGiven : List Lent → Type 0 where

@@ -7,7 +7,7 @@ use Rattle.boxes.specs.Box.{Box, write}
 use Rattle.rule.specs.declared.Answer.{Answer}
 use Rattle.promise_kept.specs.Edits.{Edit, shift, replace, move}
 use Rattle.promises.specs.Example.{plainBox, zeros, ftypBox, moovBox, mdatBox, fileAt, visual}
-use Rattle.promises.specs.Runs.{Lent, answerOf, next}
+use Rattle.promises.specs.Runs.{Lent, answerOf, goesOn}
 
 -- a record of 15 bytes, and one of 31
 abbrev pub small : Box
@@ -30,11 +30,11 @@ edits = map lent (move ∷ shift (pos 60) ∷ replace 1 (write (large ∷ [])) �
 -- the answers on the way, and the files
 abbrev pub answers : List Lent → List ℕ → List Answer
 answers [] xs = []
-answers (l ∷ ls) xs = answerOf l xs ∷ answers ls (next l xs)
+answers (l ∷ ls) xs = answerOf l xs ∷ answers ls (goesOn l xs)
 
 abbrev pub files : List Lent → List ℕ → List (List ℕ)
 files [] xs = []
-files (l ∷ ls) xs = next l xs ∷ files ls (next l xs)
+files (l ∷ ls) xs = goesOn l xs ∷ files ls (goesOn l xs)
 
 -- what they should be: `moov` before `mdat`, an hour less, the entry 16 bytes longer, and as before
 abbrev pub expected : List (List ℕ)
