@@ -1,0 +1,246 @@
+/* How long the library's functions take, and how much stack: tables in Markdown over the files of shapes.h, each at three lengths.
+
+     bench          the time of each call, its ratio to one memcpy of the file, its growth from the next smaller length; the stack
+     bench worst    one judgement of the slowest file that we know: minutes
+
+   A time is the processor's for one call: the shortest of five rounds, each of so many calls that it takes 20 ms or more. After a
+   second no further round begins; the time then has a star. */
+#define _GNU_SOURCE
+#include <stdio.h>
+#include <string.h>
+#include <time.h>
+#include <ucontext.h>
+
+#include "shapes.h"
+#include "threegp.h"
+
+/* A file is shorter by the rates that a `d263` can have, so that the longest can grow by them, too. */
+enum { LENGTHS = 3, RATES = 16 };
+static const size_t lengths[LENGTHS] = {4096 - RATES, 65536 - RATES, LONGEST - RATES};
+
+/* ---- Calls */
+
+static uint8_t out[LONGEST], sheet[LONGEST];
+static uint32_t list[LONGEST / 4];
+static uint64_t numbers[16];
+static size_t sheet_length;
+static bool grows; /* a replacement makes the file longer */
+
+static const uint8_t damr[17] = "\0\0\0\021damrABCD\0\x81\xFF\0\1";
+static const uint8_t d263[31] = "\0\0\0\037d263ABCD\0\012\0\0\0\0\020bitr\0\0\xFA\0\0\0\xFA\0";
+static const uint64_t fields[11] = {5, 1, 176, 144, 0x41424344, 0, 10, 0, 1, 64000, 64000};
+
+static uint64_t call_nothing(void) { return 0; }
+static uint64_t call_memcpy(void) { return memcpy(out, file, length) == NULL; }
+static uint64_t call_judge(void) { return threegp_judge(file, length); }
+static uint64_t call_tracks(void) { return threegp_tracks(file, length); }
+static uint64_t call_track(void) { return threegp_track(file, length, 1, numbers, 16); }
+static uint64_t call_brand(void) { return threegp_brand(file, length, 0x33677034); }
+static uint64_t call_offsets(void) { return threegp_offsets(file, length, 1, list, LONGEST / 4); }
+static uint64_t call_listing(void) { return threegp_listing(file, length, out, LONGEST); }
+static uint64_t call_sheet(void) { return threegp_sheet(file, length, sheet, LONGEST); }
+static uint64_t call_newer(void) { return threegp_newer(file, length, 60, file, length, 0, 1, numbers, 16); }
+static uint64_t call_shift(void) { return threegp_shift(file, length, 60, out, LONGEST); }
+static uint64_t call_move(void) { return threegp_move(file, length, out, LONGEST); }
+static uint64_t call_table(void) { return threegp_table(sheet, sheet_length, 1, out, LONGEST); }
+static uint64_t call_record_read(void) { return threegp_record_read(sheet + 100, 53, numbers, 16); }
+static uint64_t call_record_write(void) { return threegp_record_write(fields, 11, out, LONGEST); }
+
+static uint64_t call_replace(void)
+{
+    return grows ? threegp_replace(file, length, 2, d263, sizeof d263, out, LONGEST)
+                 : threegp_replace(file, length, 1, damr, sizeof damr, out, LONGEST);
+}
+
+/* The first TIMED take a file and are timed; the stack is measured of all but memcpy. */
+static const struct call {
+    const char *name;
+    uint64_t (*make)(void);
+} calls[] = {
+    {"`memcpy`", call_memcpy}, {"judge", call_judge}, {"tracks", call_tracks}, {"track", call_track}, {"brand", call_brand},
+    {"offsets", call_offsets}, {"listing", call_listing}, {"sheet", call_sheet}, {"newer", call_newer}, {"shift", call_shift},
+    {"replace", call_replace}, {"move", call_move}, {"table", call_table}, {"record_read", call_record_read},
+    {"record_write", call_record_write},
+};
+enum { CALLS = sizeof calls / sizeof *calls, TIMED = CALLS - 3 };
+
+static void check(const char *name, uint64_t answer)
+{
+    if (threegp_number(answer) == 0)
+        return;
+    fprintf(stderr, "bench: %s: refused by %u at %u\n", name, threegp_number(answer), threegp_value(answer));
+    exit(1);
+}
+
+/* The file has to be accepted, and every call done. */
+static void check_calls(const struct shape *shape)
+{
+    check(shape->name, call_judge());
+    grows = shape->plan.tracks > 1;
+    sheet_length = threegp_value(call_sheet());
+    for (size_t k = 0; k < CALLS; k++)
+        check(calls[k].name, calls[k].make());
+}
+
+/* ---- Times, in nanoseconds */
+
+enum { ROUNDS = 5, ROUND = 20000000, SECOND = 1000000000 };
+
+/* Of one call; few where not all rounds were made. */
+struct time {
+    double shortest;
+    bool few;
+};
+
+static double now(void)
+{
+    struct timespec time;
+    clock_gettime(CLOCK_PROCESS_CPUTIME_ID, &time);
+    return (double)time.tv_sec * SECOND + (double)time.tv_nsec;
+}
+
+static double time_round(uint64_t (*make)(void), size_t count)
+{
+    double start = now();
+    for (size_t k = 0; k < count; k++)
+        make();
+    return now() - start;
+}
+
+static struct time time_call(uint64_t (*make)(void))
+{
+    double start = now(), shortest;
+    size_t count = 1, rounds = 1;
+    while ((shortest = time_round(make, count)) < ROUND)
+        count *= 2;
+    for (; rounds < ROUNDS && now() - start < SECOND; rounds++) {
+        double round = time_round(make, count);
+        shortest = round < shortest ? round : shortest;
+    }
+    return (struct time){shortest / (double)count, rounds < ROUNDS};
+}
+
+/* ---- Stack, in bytes */
+
+enum { WORDS = 1 << 20 };
+static const uint64_t UNTOUCHED = 0xA55AC33C0FF0965A;
+static uint64_t stack[WORDS];
+static uint64_t (*made_there)(void);
+static size_t most[CALLS];
+
+static void make_there(void)
+{
+    made_there();
+}
+
+/* How much a call touches of a stack of its own. */
+static size_t touched(uint64_t (*make)(void))
+{
+    ucontext_t here, there;
+    for (size_t k = 0; k < WORDS; k++)
+        stack[k] = UNTOUCHED;
+    getcontext(&there);
+    there.uc_stack = (stack_t){.ss_sp = stack, .ss_size = sizeof stack};
+    there.uc_link = &here;
+    made_there = make;
+    makecontext(&there, make_there, 0);
+    swapcontext(&here, &there);
+    size_t left = 0;
+    while (left < WORDS && stack[left] == UNTOUCHED)
+        left++;
+    return (WORDS - left) * sizeof *stack;
+}
+
+static void measure_stack(void)
+{
+    size_t without = touched(call_nothing);
+    for (size_t k = 1; k < CALLS; k++) {
+        size_t taken = touched(calls[k].make) - without;
+        most[k] = taken > most[k] ? taken : most[k];
+    }
+}
+
+/* ---- Tables */
+
+static void print_number(double number)
+{
+    printf("%.*f", number < 9.995 ? 2 : number < 99.95 ? 1 : 0, number);
+}
+
+static void print_time(struct time time)
+{
+    static const char *const units[] = {"ns", "µs", "ms", "s"};
+    size_t unit = 0;
+    for (; unit < 3 && time.shortest >= 999.5; unit++)
+        time.shortest /= 1000;
+    print_number(time.shortest);
+    printf(" %s%s", units[unit], time.few ? "*" : "");
+}
+
+static void print_row(const char *name, const struct time *times, const struct time *copies)
+{
+    printf("| %s", name);
+    for (size_t k = 0; k < LENGTHS; k++) {
+        printf(" | ");
+        print_time(times[k]);
+        printf(" | ");
+        print_number(times[k].shortest / copies[k].shortest);
+        if (k == 0)
+            continue;
+        printf(" | ");
+        print_number(times[k].shortest / times[k - 1].shortest);
+    }
+    printf(" |\n");
+}
+
+static void measure_shape(const struct shape *shape)
+{
+    struct time times[TIMED][LENGTHS];
+    printf("\n**%s**:", shape->name);
+    for (size_t k = 0; k < LENGTHS; k++) {
+        printf("%s %zu", k == 0 ? "" : k == 1 ? "," : " and", build_fitting(shape, lengths[k]));
+        check_calls(shape);
+        for (size_t call = 0; call < TIMED; call++)
+            times[call][k] = time_call(calls[call].make);
+        measure_stack();
+    }
+    printf(" %s\n\n| call | 4 KiB | ratio | 64 KiB | ratio | growth | 1 MiB | ratio | growth |\n", shape->counted);
+    printf("|---|--:|--:|--:|--:|--:|--:|--:|--:|\n");
+    for (size_t call = 0; call < TIMED; call++)
+        print_row(calls[call].name, times[call], times[0]);
+    fflush(stdout);
+}
+
+static void print_stack(void)
+{
+    printf("\n**Stack**: the most bytes over all these files\n\n| call | bytes |\n|---|--:|\n");
+    for (size_t k = 1; k < CALLS; k++)
+        printf("| %s | %zu |\n", calls[k].name, most[k]);
+}
+
+static void measure_worst(void)
+{
+    size_t boxes = build_fitting(&worst, LONGEST), chunks = worst.plan.tracks * worst.plan.chunks;
+    double start = now();
+    check(worst.name, call_judge());
+    struct time taken = {now() - start, false};
+    printf("\n**%s**: %zu chunks, each looked up behind %zu empty boxes: judge takes ", worst.name, chunks, boxes);
+    print_time(taken);
+    printf("\n");
+}
+
+int main(int count, char **words)
+{
+    if (count == 2 && strcmp(words[1], "worst") == 0) {
+        measure_worst();
+        return 0;
+    }
+    if (count != 1) {
+        fprintf(stderr, "bench, or bench worst\n");
+        return 1;
+    }
+    for (size_t k = 0; k < SHAPES; k++)
+        measure_shape(&shapes[k]);
+    print_stack();
+    return 0;
+}
