@@ -5,6 +5,7 @@ use crate::edit;
 use crate::edit::Job;
 use crate::help;
 use crate::list;
+use crate::minutes;
 use crate::parse;
 use crate::record;
 use crate::shift;
@@ -38,23 +39,23 @@ fn table_arguments() -> usize {
 }
 
 fn shift_arguments() -> usize {
-    let minutes = parse::minutes_argument(2);
-    if minutes.fault != parse::NOTHING {
+    let z = minutes::argument(2);
+    if z.fault != parse::NOTHING {
         return tell::FAILED;
     }
     let mut from = io::buffer();
     let n = os::arg(3, &mut from);
     let mut to = io::buffer();
     let m = os::arg(4, &mut to);
-    shift::run(minutes.value, &from[..n], &to[..m])
+    shift::run(z.value, &from[..n], &to[..m])
 }
 
 fn newer_arguments() -> usize {
-    let y = parse::minutes_argument(3);
+    let y = minutes::argument(3);
     if y.fault != parse::NOTHING {
         return tell::FAILED;
     }
-    let z = parse::minutes_argument(5);
+    let z = minutes::argument(5);
     if z.fault != parse::NOTHING {
         return tell::FAILED;
     }

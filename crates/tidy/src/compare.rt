@@ -8,6 +8,7 @@ use clocks::Order;
 use clocks::Zone;
 use clocks::Zoned;
 use newer::Outcome;
+use wire::compare::same;
 use wire::lend;
 ghost use Prim.Native.Nat.{_<_, _^_};
 
@@ -101,6 +102,9 @@ fn with_second(first: &[u8], y: i64, name: &[u8], z: i64) -> usize {
 }
 
 pub fn run(first: &[u8], y: i64, second: &[u8], z: i64) -> usize {
+    if same(first, b"-") == 1 && same(second, b"-") == 1 {
+        return tell::wrong(b"only one of the files is standard input", b"");
+    }
     let mut room = input::room();
     let n = input::read(first, &mut room);
     if n == input::FAILED {

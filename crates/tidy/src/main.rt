@@ -9,6 +9,7 @@ mod help;
 mod input;
 mod line;
 mod list;
+mod minutes;
 mod output;
 mod parse;
 mod record;

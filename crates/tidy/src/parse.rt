@@ -1,8 +1,7 @@
-// Numbers in arguments: decimal, or hexadecimal behind 0x; minutes may have a minus.
+// Numbers in arguments: decimal, or hexadecimal behind 0x.
 use crate::tell;
 use wire::lend;
 use wire::number;
-ghost use Prim.Native.Nat.{_<_};
 
 // What is wrong with a number.
 pub const NOTHING: usize = 0;
@@ -17,11 +16,6 @@ const NO_DIGIT: u64 = 16;
 pub struct Number {
     pub fault: usize,
     pub value: u64,
-}
-
-pub struct Minutes {
-    pub fault: usize,
-    pub value: i64,
 }
 
 fn fault(fault: usize) -> Number {
@@ -119,59 +113,6 @@ pub fn unsigned(text: &[u8]) -> Number {
     digits(text, 10)
 }
 
-fn positive(n: Number) -> Minutes {
-    if n.fault != NOTHING {
-        return Minutes {
-            fault: n.fault,
-            value: 0,
-        };
-    }
-    if 9223372036854775807 < n.value {
-        return Minutes {
-            fault: TOO_LARGE,
-            value: 0,
-        };
-    }
-    Minutes {
-        fault: NOTHING,
-        value: n.value as i64,
-    }
-}
-
-// A number below 2 ^ 63 with a minus.
-fn below_zero(n: u64) -> i64
-    requires { ⌜ n < 9223372036854775808 ⌝ }
-{
-    let value = n as i64;
-    -value
-}
-
-fn negative(n: Number) -> Minutes {
-    if n.fault != NOTHING {
-        return Minutes {
-            fault: n.fault,
-            value: 0,
-        };
-    }
-    if 9223372036854775807 < n.value {
-        return Minutes {
-            fault: TOO_LARGE,
-            value: 0,
-        };
-    }
-    Minutes {
-        fault: NOTHING,
-        value: below_zero(n.value),
-    }
-}
-
-fn signed(text: &[u8]) -> Minutes {
-    if number::byte(text, 0) == 45 {
-        return negative(unsigned(lend::rest(text, 1)));
-    }
-    positive(unsigned(text))
-}
-
 // Says what is wrong with a number.
 pub fn tell(fault: usize, text: &[u8]) {
     if fault == NO_NUMBER {
@@ -187,15 +128,6 @@ pub fn argument(i: usize) -> Number {
     let mut text = io::buffer();
     let n = os::arg(i, &mut text);
     let r = unsigned(&text[..n]);
-    tell(r.fault, &text[..n]);
-    r
-}
-
-// The minutes that an argument is.
-pub fn minutes_argument(i: usize) -> Minutes {
-    let mut text = io::buffer();
-    let n = os::arg(i, &mut text);
-    let r = signed(&text[..n]);
     tell(r.fault, &text[..n]);
     r
 }

@@ -5,8 +5,8 @@ use lib.IntN.{pos, negsuc, _-ℤ_, +ℤ-idl}
 use mir.Syntax.{w64}
 use mir.Val.{SFits, toZ}
 use mir.Facts.{toZ-pos}
-use Rattle.tidy.proofs.parse.below_zero.Statement.{statement}
-use Rattle.tidy.proofs.parse.below_zero.Tie as tie
+use Rattle.tidy.proofs.minutes.below_zero.Statement.{statement}
+use Rattle.tidy.proofs.minutes.below_zero.Tie as tie
 
 -- a number below 2 ^ 63 may be taken from 0
 under-zero : (n : ℕ) → n < 2 ^ 63 → SFits w64 (pos 0 -ℤ pos n)
