@@ -1,0 +1,21 @@
+use borrow.Author.Needs.{needs}
+use Prim.Native.Nat.{_-_, _≤_}
+use lib.ListN.{length}
+use Rattle.tidy.proofs.field.find.Statement.{statement}
+use Rattle.tidy.proofs.field.find.Tie as tie
+
+abbrev Inv : tie.InvT-loop
+Inv text byte at₀ at = at ≤ length text
+
+abbrev μ : tie.MeasureT-loop
+μ text byte at₀ at = length text - at
+
+pub find-spec : {M : Type 1} → statement M
+find-spec = tie.close (tie.spec Inv μ
+    (λ c. search needs)
+    (λ c κs. search needs)
+    (λ c. search needs)
+    (λ c. search needs)
+    (λ c. search needs)
+    (λ c. search needs)
+    (λ c. search needs))

@@ -1,0 +1,71 @@
+// A line of text, piece by piece. Each answers the place past its piece.
+use crate::dates;
+use decimal;
+use wire::pen;
+ghost use Prim.Native.Nat.{_<_};
+
+// No line is longer.
+const LONGEST: usize = 4096;
+
+pub fn add(out: &mut [u8], at: usize, text: &[u8]) -> usize {
+    if LONGEST < at {
+        return at;
+    }
+    if LONGEST < text.len() {
+        return at;
+    }
+    pen::put_part(out, at, text)
+}
+
+pub fn add_number(out: &mut [u8], at: usize, n: usize) -> usize {
+    if LONGEST < at {
+        return at;
+    }
+    decimal::put_decimal(out, at, n)
+}
+
+// A time in words, in brackets.
+pub fn add_date(out: &mut [u8], at: usize, time: usize) -> usize {
+    let a = add(out, at, b" (");
+    if LONGEST < a {
+        return a;
+    }
+    let b = dates::put_time(out, a, time);
+    add(out, b, b")")
+}
+
+// A time as a number and in words.
+pub fn add_time(out: &mut [u8], at: usize, time: usize) -> usize {
+    let a = add_number(out, at, time);
+    add_date(out, a, time)
+}
+
+// The last four hexadecimal digits of a number.
+fn add_four(out: &mut [u8], at: usize, n: usize) -> usize {
+    if LONGEST < at {
+        return at;
+    }
+    let a = pen::put_byte(out, at, glyph(n / 4096 % 16));
+    let b = pen::put_byte(out, a, glyph(n / 256 % 16));
+    let c = pen::put_byte(out, b, glyph(n / 16 % 16));
+    pen::put_byte(out, c, glyph(n % 16))
+}
+
+fn glyph(digit: usize) -> u8
+    requires { ⌜ digit < 16 ⌝ }
+{
+    if digit < 10 {
+        return (48 + digit) as u8;
+    }
+    (55 + digit) as u8
+}
+
+// A number of 16 or 32 bits in hexadecimal.
+pub fn add_hex(out: &mut [u8], at: usize, n: usize) -> usize {
+    let a = add(out, at, b"0x");
+    if n < 65536 {
+        return add_four(out, a, n);
+    }
+    let b = add_four(out, a, n / 65536);
+    add_four(out, b, n % 65536)
+}

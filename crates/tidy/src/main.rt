@@ -1,0 +1,36 @@
+// Lists, shifts, moves, changes and compares 3GP files, as its first argument says.
+mod change;
+mod command;
+mod compare;
+mod dates;
+mod edit;
+mod field;
+mod help;
+mod input;
+mod line;
+mod list;
+mod minutes;
+mod output;
+mod parse;
+mod record;
+mod refusal_words;
+mod shift;
+mod tell;
+mod time;
+
+// How it went, as one digit to whoever opened descriptor 3: 0 done, 1 refused, 2 wrong use, input or output.
+fn end(status: usize) {
+    if status == tell::DONE {
+        io::write_all(3, b"0");
+        return;
+    }
+    if status == tell::REFUSED {
+        io::write_all(3, b"1");
+        return;
+    }
+    io::write_all(3, b"2");
+}
+
+fn main() {
+    end(command::run());
+}

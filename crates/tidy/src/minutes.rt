@@ -1,0 +1,70 @@
+// Minutes in arguments: a number that may have a minus.
+use crate::parse;
+use crate::parse::Number;
+use wire::lend;
+use wire::number;
+ghost use Prim.Native.Nat.{_<_};
+
+// The most that a signed number holds.
+const MOST: u64 = 9223372036854775807;
+
+const MINUS: usize = 45;
+
+pub struct Minutes {
+    pub fault: usize,
+    pub value: i64,
+}
+
+fn fault(fault: usize) -> Minutes {
+    Minutes { fault, value: 0 }
+}
+
+fn positive(n: Number) -> Minutes {
+    if n.fault != parse::NOTHING {
+        return fault(n.fault);
+    }
+    if MOST < n.value {
+        return fault(parse::TOO_LARGE);
+    }
+    Minutes {
+        fault: parse::NOTHING,
+        value: n.value as i64,
+    }
+}
+
+// A number below 2 ^ 63 with a minus.
+fn below_zero(n: u64) -> i64
+    requires { ⌜ n < 9223372036854775808 ⌝ }
+{
+    let value = n as i64;
+    -value
+}
+
+fn negative(n: Number) -> Minutes {
+    if n.fault != parse::NOTHING {
+        return fault(n.fault);
+    }
+    if MOST < n.value {
+        return fault(parse::TOO_LARGE);
+    }
+    Minutes {
+        fault: parse::NOTHING,
+        value: below_zero(n.value),
+    }
+}
+
+fn signed(text: &[u8]) -> Minutes {
+    if number::byte(text, 0) == MINUS {
+        return negative(parse::unsigned(lend::rest(text, 1)));
+    }
+    positive(parse::unsigned(text))
+}
+
+// The minutes that an argument is.
+pub fn argument(i: usize) -> Minutes {
+    let mut text = io::buffer();
+    let n = os::arg(i, &mut text);
+    let r = signed(&text[..n]);
+    parse::tell(r.fault, &text[..n]);
+    r
+}
