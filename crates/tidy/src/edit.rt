@@ -43,8 +43,8 @@ pub fn run_table(track: usize, from: &[u8], to: &[u8]) -> usize {
     if n == input::FAILED {
         return tell::FAILED;
     }
-    if input::LONGEST < n {
-        return tell::wrong(b"a sheet longer than 1048576 bytes: ", from);
+    if input::ROOM <= n {
+        return tell::wrong(b"longer than any sheet: ", from);
     }
     make(Job::Table(track), lend::front(&room, n), to)
 }

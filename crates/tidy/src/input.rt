@@ -8,9 +8,11 @@ pub const LONGEST: usize = 1048576;
 // What is answered in place of a length where a read fails.
 pub const FAILED: usize = 2000000;
 
-// One byte more than the longest file has tells a longer one.
-pub fn room() -> [u8; 1048577] {
-    [0; 1048577]
+// Room for the longest file and, since a sheet is at most 100 bytes longer than its file, for its sheet; what fills it is longer than either.
+pub const ROOM: usize = 1048704;
+
+pub fn room() -> [u8; ROOM] {
+    [0; ROOM]
 }
 
 // One read: how many bytes came, and none at the end.

@@ -1,11 +1,13 @@
 // A line of text, piece by piece. Each answers the place past its piece.
-use crate::dates;
 use decimal;
 use wire::pen;
 ghost use Prim.Native.Nat.{_<_};
 
 // No line is longer.
 const LONGEST: usize = 4096;
+
+// The last time that a file can hold.
+const LATEST: usize = 4294967295;
 
 pub fn add(out: &mut [u8], at: usize, text: &[u8]) -> usize {
     if LONGEST < at {
@@ -24,13 +26,16 @@ pub fn add_number(out: &mut [u8], at: usize, n: usize) -> usize {
     decimal::put_decimal(out, at, n)
 }
 
-// A time in words, in brackets.
+// A time in words, in brackets. What no file can hold has no date here.
 pub fn add_date(out: &mut [u8], at: usize, time: usize) -> usize {
+    if LATEST < time {
+        return add(out, at, b" (past 2040-02-06 06:28:15)");
+    }
     let a = add(out, at, b" (");
     if LONGEST < a {
         return a;
     }
-    let b = dates::put_time(out, a, time);
+    let b = dates::put_time(out, a, time as u32);
     add(out, b, b")")
 }
 

@@ -2,7 +2,6 @@
 mod change;
 mod command;
 mod compare;
-mod dates;
 mod edit;
 mod field;
 mod help;
@@ -13,7 +12,6 @@ mod minutes;
 mod output;
 mod parse;
 mod record;
-mod refusal_words;
 mod shift;
 mod tell;
 mod time;

@@ -1,5 +1,4 @@
 // What is said on standard error, and how it went.
-use crate::refusal_words;
 use wire::lend;
 
 pub const DONE: usize = 0;
