@@ -37,7 +37,7 @@ pub record OneOf (f : List ℕ → List ℕ) (i : ℕ) (es ds : List Entry) : Ty
   pub one : Entry
   pub past : List Entry
   pub was : bare es ≡ before ++ one ∷ past
-  pub now : bare ds ≡ before ++ record { track = one .track; place = one .place; bytes = f (one .bytes) } ∷ past
+  pub made : bare ds ≡ before ++ record { track = one .track; place = one .place; bytes = f (one .bytes) } ∷ past
   pub nth : length before ≡ i
 
 module _ {f : List ℕ → List ℕ} {i : ℕ} (a b : List Entry) (e : bare b ≡ bare a) {es ds : List Entry} (r : OneOf f i es ds) where
@@ -49,7 +49,7 @@ module _ {f : List ℕ → List ℕ} {i : ℕ} (a b : List Entry) (e : bare b �
         one = r .one;
         past = r .past;
         was = rw (map-append, r .was) (sym (append-assoc (bare a) (r .before) _));
-        now = rw (map-append, r .now, e) (sym (append-assoc (bare a) (r .before) _));
+        made = rw (map-append, r .made, e) (sym (append-assoc (bare a) (r .before) _));
         nth = rw (length-append, length-map) (omega (arith, r .nth));
       }
 
@@ -61,7 +61,7 @@ module _ {f : List ℕ → List ℕ} {i : ℕ} (a b : List Entry) (e : bare b �
         one = r .one;
         past = r .past ++ bare a;
         was = rw (map-append, r .was) (append-assoc (r .before) (_ ∷ r .past) (bare a));
-        now = rw (map-append, r .now, e) (append-assoc (r .before) (_ ∷ r .past) (bare a));
+        made = rw (map-append, r .made, e) (append-assoc (r .before) (_ ∷ r .past) (bare a));
         nth = r .nth;
       }
 
@@ -81,16 +81,16 @@ length-one es a x l e = sym (length-map es unplaced) ∙ ap length e ∙ length-
 pub one-entry : (xs : List ℕ) (i : ℕ) (new ys : List ℕ) → 1 ≤ i → OneOf (entryWith (kindAt xs i) new) (i - 1) (entries xs) (entries ys) → OneEntry xs i new ys
 one-entry xs i new ys h r =
     let was = length-one (entries xs) (r .before) (r .one) (r .past) (r .was) in
-    let now = length-one (entries ys) (r .before) _ (r .past) (r .now) in
+    let made = length-one (entries ys) (r .before) _ (r .past) (r .made) in
     let here : (x : Entry) → bytesAt (i - 1) (r .before ++ x ∷ r .past) ≡ x .bytes =
     λ x. bytes-at (i - 1) _ (drop-at (r .before) (x ∷ r .past) (i - 1) (r .nth)) in
     record {
       first = h;
       last = omega (arith, r .nth);
       same = omega arith;
-      there = rw (← bare-bytes (i - 1) (entries ys), ← bare-bytes (i - 1) (entries xs), r .was, r .now, here (r .one)) (here _);
+      there = rw (← bare-bytes (i - 1) (entries ys), ← bare-bytes (i - 1) (entries xs), r .was, r .made, here (r .one)) (here _);
       others = λ j z.
-          rw (← bare-bytes j (entries ys), ← bare-bytes j (entries xs), r .was, r .now)
+          rw (← bare-bytes j (entries ys), ← bare-bytes j (entries xs), r .was, r .made)
           (other-at (r .before) _ (r .one) (r .past) j (λ q. z (omega (arith, r .nth))));
-      tracks = rw (← bare-tracks (entries ys), ← bare-tracks (entries xs), r .was, r .now) (simp map-append);
+      tracks = rw (← bare-tracks (entries ys), ← bare-tracks (entries xs), r .was, r .made) (simp map-append);
     }

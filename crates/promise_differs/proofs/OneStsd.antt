@@ -77,7 +77,7 @@ pub stsd-one : (xs : List ℕ) (i : ℕ) (new : List ℕ) (t n : ℕ) → EntryI
 stsd-one xs i new t n k s r e f g small =
     let by = tailBy (keptOf xs i) new in
     let them : List Box → List Entry = map (boxed (s .track)) in
-    let now : boxes (drop FRONT (r .body)) ≡ k .before ++ remade (k .box) (by (k .box .body)) ∷ k .past =
+    let made : boxes (drop FRONT (r .body)) ≡ k .before ++ remade (k .box) (by (k .box .body)) ∷ k .past =
     rw (g, with-boxes n (keptOf xs i) new (sampleTable STSD (track xs t)) (k .room) (k .filled) (rw g at small), k .list)
     (nth-by ANY by n (k .before) (k .box) (k .past) (k .nth) (sym (meant-any ANY (k .box .code) refl))) in
     let entryOf : List ℕ → Entry = λ b. record { track = s .track; place = 0; bytes = b } in
@@ -87,6 +87,6 @@ stsd-one xs i new t n k s r e f g small =
       one = boxed (s .track) (k .box);
       past = them (k .past);
       was = rw (bare-of s, f, k .list) (map-append (boxed (s .track)) (k .before) _);
-      now = rw (bare-of r, e, now, map-append) (ap (λ (b : List ℕ). them (k .before) ++ entryOf b ∷ them (k .past)) body);
+      made = rw (bare-of r, e, made, map-append) (ap (λ (b : List ℕ). them (k .before) ++ entryOf b ∷ them (k .past)) body);
       nth = rw length-map (sym (count-any (k .before)) ∙ k .nth);
     }
