@@ -10,7 +10,7 @@ use Rattle.boxes.specs.Box.{Box}
 use Rattle.boxes.specs.Rewrite.{Bodies, over}
 use Rattle.boxes.specs.Kin.{All2}
 use Rattle.boxes.specs.Kin.All2.{nil, cons}
-use Rattle.boxes.proofs.Pairs.{all2-refl, all2-then, all2-map}
+use Rattle.boxes.proofs.Pairs.{all2-refl, all2-map}
 use Rattle.mdat.specs.Payloads.{Spot, nowhere, spot, resolve, placeOf}
 use Rattle.mdat.specs.Relocate.{putAt, relocate, Relocated, Alike}
 use Rattle.mdat.proofs.Resolving.{resolved}
@@ -19,9 +19,6 @@ use Rattle.mdat.proofs.Resolving.{resolved}
 
 pub alike-refl : (l : List Box) → All2 Alike l l
 alike-refl = all2-refl (λ x. record { head = refl; code = refl; long = refl })
-
-pub alike-then : {l m n : List Box} → All2 Alike l m → All2 Alike m n → All2 Alike l n
-alike-then = all2-then (λ x y z r s. record { head = r .head ∙ s .head; code = r .code ∙ s .code; long = r .long ∙ s .long })
 
 -- bodies of the same length leave the layout
 pub alike-over : (f : Bodies) → ((c : ℕ) (b : List ℕ) → length (f c b) ≡ length b) → (l : List Box) → All2 Alike l (map (over f) l)

@@ -14,10 +14,6 @@ use Rattle.promise_differs.specs.Differs.{But}
 pub but-refl : (from to : ℕ) (b : List ℕ) → But from to b b
 but-refl from to b = record { long = refl; before = refl; behind = refl }
 
--- one after the other
-pub but-then : {from to : ℕ} {b b′ b″ : List ℕ} → But from to b b′ → But from to b′ b″ → But from to b b″
-but-then r s = record { long = r .long ∙ s .long; before = r .before ∙ s .before; behind = r .behind ∙ s .behind }
-
 -- ---- a stretch of numbers was rewritten
 
 module _ (f : ℕ → ℕ) (from span : ℕ) (b : List ℕ) where

@@ -2,18 +2,14 @@
 -- differ". That of a move is `move-order` and `move-differs`, that of a shift `shift-differs`. Assumes nothing.
 use Prim.Native.Nat.{ℕ, _-_, _≤_, _<_}
 use native.Mathlib.Omega.{arith}
-use mathlib.Core.Path.{_≡_, refl, sym, ap, _∙_}
+use mathlib.Core.Path.{_≡_, refl, _∙_}
 use mathlib.Core.Bool.{true}
 use mathlib.Core.List.{List, [], _∷_}
-use lib.IntN.{ℤ}
 use lib.ListN.{length, length-append}
-use Rattle.wire.specs.Clauses.{isEq, every, either}
+use Rattle.wire.specs.Clauses.{every}
 use Rattle.wire.specs.Numbers.{Bytes}
 use Rattle.wire.proofs.Tests.{lt-yea, lt-nay, lt-or}
-use Rattle.boxes.specs.Boxes.{boxes}
 use Rattle.boxes.specs.Containers.{LONGEST}
-use Rattle.mdat.specs.Payloads.{mdats}
-use Rattle.mdat.proofs.Mdats.{kin-mdats}
 use Rattle.movie.specs.declared.entry.Spot.{Spot}
 use Rattle.movie.specs.declared.entry.Spot.the-variants.{In, Past}
 use Rattle.movie.specs.Stsds.{Stsd, stsds}
@@ -24,16 +20,11 @@ use Rattle.entry_rules.specs.Decoders.{recordRule}
 use Rattle.judge.specs.Acceptance.{Meets}
 use Rattle.edit_offsets.specs.Settle.{settled}
 use Rattle.edit_offsets.proofs.Settled.{settled-length}
-use Rattle.edit_move.specs.Moving.{moveOf}
 use Rattle.edit_replace.specs.Replace.{kindAt, recordAt, recordReplaced, replaceOf}
 use Rattle.edit_replace.proofs.Taking.{record-first}
 use Rattle.edit_replace.proofs.Written.{past-none}
-use Rattle.edit_shift.specs.Shift.{hasTimes, shiftOf}
 use Rattle.promise_kept.proofs.Named.{entry-in}
-use Rattle.promise_kept.proofs.Second.{second}
-use Rattle.promise_differs.specs.Differs.{OnlyOffsets, OnlyTimes, OnlyRecord, keptOf, Replaces, EntryReplaced}
-use Rattle.promise_differs.proofs.Moving.{move-order, move-differs}
-use Rattle.promise_differs.proofs.Timing.{shift-differs}
+use Rattle.promise_differs.specs.Differs.{keptOf, Replaces, EntryReplaced}
 use Rattle.promise_differs.proofs.Replacing.{record-differs}
 use Rattle.promise_differs.proofs.OneTrack.{record-there, record-elsewhere}
 use Rattle.promise_differs.proofs.OneEntry.{replaces-one}
@@ -76,15 +67,3 @@ pub replace-entry : (xs : List ℕ) (i : ℕ) (new : List ℕ) → Bytes xs → 
 replace-entry xs i new w v m r h =
     let d = replace-differs xs i new w v m r h in
     record { differs = d; entry = replaces-one xs i new (replaceOf xs i new) w (record-first xs i FRAMES (kindAt xs i) new refl r) (omega arith) d }
-
--- ---- every `mdat` has its bytes
-
-pub move-mdats : (xs : List ℕ) → Bytes xs → Meets xs → mdats (boxes (moveOf xs)) ≡ mdats (boxes xs)
-move-mdats xs w m = sym (kin-mdats OnlyOffsets 5 _ (moveOf xs) (λ b c r. r .rest (λ o. omega (arith, o .0))) (move-differs xs w m)) ∙ ap mdats (move-order xs w m) ∙ second .payloads (boxes xs)
-
-pub shift-mdats : (z : ℤ) (xs : List ℕ) → Bytes xs → Meets xs → mdats (boxes (shiftOf z xs)) ≡ mdats (boxes xs)
-unfolding hasTimes either every isEq
-shift-mdats z xs w m = sym (kin-mdats OnlyTimes 5 xs (shiftOf z xs) (λ b c r. r .rest refl) (shift-differs z xs w m))
-
-pub replace-mdats : (xs : List ℕ) (i : ℕ) (new ys : List ℕ) → Replaces xs i new ys → mdats (boxes ys) ≡ mdats (boxes xs)
-replace-mdats xs i new ys h = sym (kin-mdats (OnlyRecord (h .n) _ new) 5 xs ys (λ b c r. r .rest (λ o. omega (arith, o .0)) (λ o. omega (arith, o .0))) (h .differs))

@@ -1,14 +1,14 @@
 -- An edit of a file's content: boxes are rewritten where they stand, before chunk offsets follow. Assumes nothing.
 use Prim.Native.Nat.{ℕ, _≤_}
-use mathlib.Core.Path.{_≡_, refl, _∙_}
+use mathlib.Core.Path.{_≡_, refl}
 use mathlib.Core.List.{List}
 use lib.ListN.{length}
 use Rattle.wire.specs.Numbers.{Bytes}
 use Rattle.codes.specs.Codes.{STBL, STCO}
 use Rattle.boxes.specs.Containers.{FILE, DEPTH, LONGEST}
 use Rattle.boxes.specs.Kin.{Leaf, Kin}
-use Rattle.boxes.proofs.Kin.{Then, kin-refl, kin-then}
-use Rattle.promise_kept.proofs.Sound.{Sound, sound-then}
+use Rattle.boxes.proofs.Kin.{kin-refl}
+use Rattle.promise_kept.proofs.Sound.{Sound}
 
 -- the content of xs was edited to ys
 pub record Content (xs ys : List ℕ) : Type 1 where
@@ -41,15 +41,3 @@ equal-sound =
 -- a file is a content of itself
 pub content-same : (xs : List ℕ) → Bytes xs → length xs ≤ LONGEST → Content xs xs
 content-same xs w n = record { leaf = Equal; kin = kin-refl Equal (λ k c b. refl) DEPTH FILE xs; sound = equal-sound; stco = λ b b′ r. r; bytes = w; small = n }
-
--- two edits of the content in a row are one
-pub content-then : (xs ys zs : List ℕ) → Content xs ys → Content ys zs → Content xs zs
-content-then xs ys zs c d =
-    record {
-      leaf = Then (c .leaf) (d .leaf);
-      kin = kin-then (c .leaf) (d .leaf) DEPTH FILE xs ys zs (c .kin) (d .kin);
-      sound = sound-then (c .sound) (d .sound);
-      stco = λ b b″ r. c .stco b (r .0) (r .1) ∙ d .stco (r .0) b″ (r .2);
-      bytes = d .bytes;
-      small = d .small;
-    }

@@ -79,10 +79,6 @@ module _ {A : List Box → List Box} (a : Arranges A) (xs ys : List ℕ) (w : By
   pub keeps : Keeps xs (settled xs (write (A (boxes ys))))
   keeps = subst (Keeps xs) (sym (settled-is a xs ys w m c)) (record { kept = kept; follow = edit-follows a xs ys w m c })
 
-  -- as long as its content
-  pub keeps-length : length (settled xs (write (A (boxes ys)))) ≡ length ys
-  keeps-length = rw (settled-is a xs ys w m c) (long ∙ new-length a xs ys w m c)
-
 -- the same of an edit that leaves the boxes in their order
 pub keeps-stay : (xs ys : List ℕ) → Bytes xs → Meets xs → Content xs ys → Keeps xs (settled xs ys)
 keeps-stay xs ys w m c = subst (λ (zs : List ℕ). Keeps xs (settled xs zs)) (tiled ys (c .bytes) (ys-tiled stay xs ys w m c)) (keeps stay xs ys w m c)

@@ -1,14 +1,11 @@
 -- The tick of a sample, from the item that counts it. Assumes nothing.
 use Prim.Native.Nat.{ℕ, _+_, _-_, _*_, _≤_, _<_}
 use native.Mathlib.Omega.{arith}
-use native.Mathlib.Nat.{mul-le-mul-right}
 use mathlib.Core.Path.{_≡_, refl, ap, _∙_}
 use mathlib.Core.List.{List}
-use Rattle.wire.specs.Numbers.{Bytes}
-use Rattle.wire.proofs.Sums.{sum-same, sum-mono, sum-flat, sum-le, sum-scaled}
-use Rattle.wire.proofs.Numbers.{word-most}
+use Rattle.wire.proofs.Sums.{sum-same, sum-mono, sum-flat}
 use Rattle.sample_tables.specs.Tables.{items}
-use Rattle.sample_tables.specs.Times.{counted, delta, timedTo, ticksTo, timed, mediaTicks, countedOf, ticksOf, tickAt}
+use Rattle.sample_tables.specs.Times.{counted, delta, timedTo, ticksTo, countedOf, ticksOf, tickAt}
 use Rattle.sample_tables.proofs.Times.{timed-more, tick-more}
 
 module _ (stts : List ℕ) where
@@ -44,22 +41,3 @@ module _ (stts : List ℕ) where
     -- past the last item
     pub tick-end : timedTo stts (items stts) ≤ s → tickAt stts s ≡ ticksTo stts (items stts)
     tick-end h = whole (items stts) h
-
-  -- ---- how large it is
-
-  -- a later sample starts no earlier
-  pub tick-mono : (s t : ℕ) → s ≤ t → tickAt stts s ≤ tickAt stts t
-  unfolding ticksOf
-  tick-mono s t h =
-      sum-le (λ j. countedOf stts s j * delta stts j) (λ j. countedOf stts t j * delta stts j) (items stts) (λ j. mul-le-mul-right (delta stts j) (omega arith))
-
-  -- and none past the track's length
-  pub tick-within : (s : ℕ) → tickAt stts s ≤ mediaTicks stts
-  unfolding ticksOf ticksTo
-  tick-within s =
-      sum-le (λ j. countedOf stts s j * delta stts j) (λ j. counted stts j * delta stts j) (items stts) (λ j. mul-le-mul-right (delta stts j) (omega arith))
-
-  -- with at most 65,536 samples that stays below 2^48
-  pub media-fits : Bytes stts → timed stts ≤ 65536 → mediaTicks stts ≤ 65536 * 4294967295
-  unfolding timedTo ticksTo
-  media-fits b few = omega (arith, few, sum-scaled (counted stts) (delta stts) 4294967295 (items stts) (λ k. word-most _ _ b))

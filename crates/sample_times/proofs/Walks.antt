@@ -5,7 +5,7 @@ use mathlib.Core.Path.{_≡_, refl, sym, ap, _∙_}
 use mathlib.Core.List.{List}
 use Rattle.wire.proofs.Tests.{lt-yea, lt-nay}
 use Rattle.sample_tables.specs.Tables.{items}
-use Rattle.sample_tables.specs.Times.{timedTo, timed, mediaTicks, tickAt}
+use Rattle.sample_tables.specs.Times.{timedTo, timed}
 use Rattle.sample_tables.specs.Chunks.{firstSample, walkAt, stepOf}
 use Rattle.sample_tables.specs.Rules.{Six, Seven}
 use Rattle.sample_tables.specs.declared.chunk.Chunk.{Chunk}
@@ -21,7 +21,6 @@ use Rattle.sample_times.specs.declared.walk.TimedWalk.{TimedWalk}
 use Rattle.sample_times.specs.declared.walk.TimedStep.the-variants.{Found, Ticking, End}
 use Rattle.sample_times.specs.Clocks.{clockAt, turnOf}
 use Rattle.sample_times.specs.Walks.{Playable, timedStart, timedAt, Timed, timedStep}
-use Rattle.sample_times.proofs.Ticks.{tick-end}
 use Rattle.sample_times.proofs.Clocks.{clock-start, clock-item, turned-at, turned-behind}
 
 -- rules 6 and 7 give what the walk asks
@@ -44,10 +43,6 @@ module _ (stts stsc stco : List ℕ) (a : Playable stts stsc stco) where
   -- its chunk's first sample is one of the track's, or the end
   pub first-timed : (k : ℕ) → k < items stco → firstSample stsc k ≤ timed stts
   first-timed k h = omega (arith, a .total, first-mono stsc k (items stco) (omega arith))
-
-  -- and past the last chunk the track has ended
-  pub tick-total : tickAt stts (firstSample stsc (items stco)) ≡ mediaTicks stts
-  tick-total = tick-end stts (firstSample stsc (items stco)) (omega (arith, a .total))
 
   -- ---- a step of a walk
   module _ (w : TimedWalk) (h : Timed stts stsc w) where
