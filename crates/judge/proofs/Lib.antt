@@ -8,3 +8,4 @@ pub mod Places
 pub mod Calls
 pub mod Edits
 pub mod Tables
+pub mod AtOnce

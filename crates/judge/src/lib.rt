@@ -26,7 +26,7 @@ fn verdict_of(n: usize, file: &[u8]) -> Verdict
     rules::judge_in(n, file, file, 0, 0, containers::FILE, containers::DEPTH)
 }
 
-// The lowest number whose rule is broken, with the place of the first box in file order that breaks it.
+// The lowest number whose rule is broken, with the place of the first box in file order that breaks it. All rules are asked at once first.
 pub fn judge(file: &[u8]) -> Judgement
     ensures { λ r. ⌜ r ≡ judged (now (file .entry)) ⌝ }
 {
@@ -35,6 +35,9 @@ pub fn judge(file: &[u8]) -> Judgement
     }
     if containers::LONGEST < file.len() {
         return Judgement::Refused(1, 0);
+    }
+    if rule_all::all_hold(file) != 0 {
+        return Judgement::Accepted;
     }
     let mut n = 2;
     while n < 11 {

@@ -28,7 +28,7 @@ use Rattle.rule.proofs.Places.{sooner-fine, unless-fine}
 use Rattle.rule_entries.specs.Ten.{aroundOf, entryFine, entriesJudged, entriesFine, stsdsJudged, stsdsFine, tenAt, tenIn, ten, tenRule}
 use Rattle.rule_entries.proofs.Entry.{entryAt, noEnd}
 
-entries-fine : (a : Around) (xs : List ℕ) (p : ℕ) → isFine (entriesJudged a xs p) ≡ entriesFine a xs
+pub entries-fine : (a : Around) (xs : List ℕ) (p : ℕ) → isFine (entriesJudged a xs p) ≡ entriesFine a xs
 unfolding entriesJudged entriesFine
 entries-fine a xs p = list-fine (entryAt a) noEnd (entryFine a) true (λ x q. unless-fine (entryFine a x) q) (λ q. refl) (boxes xs) p
 

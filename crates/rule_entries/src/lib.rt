@@ -43,7 +43,7 @@ fn entry_at(list: &[u8], b: BoxAt, base: usize, around: Around) -> Verdict
 }
 
 // The first entry of a list that breaks its rule.
-fn entries_from(list: &[u8], base: usize, around: Around) -> Verdict
+pub fn entries_from(list: &[u8], base: usize, around: Around) -> Verdict
     requires { ⌜ base + length (now list) < 2 ^ 63 ⌝ }
     ensures { λ r. ⌜ r ≡ entriesJudged around (now (list .entry)) base ⌝ }
 {

@@ -62,7 +62,7 @@ fn one_each(k: usize, part: &[u8]) -> usize
 }
 
 // The code of the first box, and 0 where there is none.
-fn first_code(part: &[u8]) -> usize
+pub fn first_code(part: &[u8]) -> usize
     ensures { λ r. ⌜ r ≡ first (boxes (now (part .entry))) ⌝ }
 {
     let w = Walk { at: 0 };

@@ -3,6 +3,7 @@ use borrow.Author.Needs.{needs}
 use Prim.Native.Nat.{_-_, _≤_}
 use Rattle.boxes.specs.Containers.{LONGEST}
 use Rattle.judge.proofs.Order.{Passed, passed-none, passed-more, passed-bad, passed-all, too-short, too-long}
+use Rattle.judge.proofs.AtOnce.{sure-accepted}
 use lib.ListN.{length}
 use native.Mathlib.Omega.{arith}
 use Rattle.judge.proofs.judge.Statement.{statement}
@@ -18,6 +19,8 @@ pub judge-spec : {M : Type 1} → statement M
 judge-spec = tie.close (tie.spec Inv μ
     (λ c. too-short _ (omega arith))
     (λ c. too-long _ (omega arith))
+    (λ c κs. omega arith)
+    (λ c. sure-accepted _ (omega arith) (omega arith) (c .before .all-hold .ensures) (c .if3 .taken))
     (λ c. (passed-none _ (omega arith) (omega arith), omega arith))
     (λ c κs. search needs)
     (λ c. search needs)

@@ -1,0 +1,82 @@
+-- The movie from what was gathered of the file and of its `moov`. Assumes nothing.
+use Prim.Native.Nat.{ℕ, _-_, _<_}
+use native.Mathlib.Omega.{arith}
+use mathlib.Core.Path.{_≡_, refl, sym, ap, subst, _∙_}
+use mathlib.Core.List.{List}
+use lib.ListN.{length, take}
+use lib.Seq.{take-length}
+use Rattle.wire.specs.Clauses.{isEq, oneIf}
+use Rattle.wire.proofs.Tests.{eq-yea, eq-nay, eq-or}
+use Rattle.wire.proofs.Clauses.{eq-is, was-yea}
+use Rattle.codes.specs.Codes.{FTYP, MOOV, MVHD, TRAK}
+use Rattle.boxes.specs.Boxes.{boxes}
+use Rattle.boxes.specs.Containers.{FILE}
+use Rattle.boxes.specs.Seek.{count, find, nth}
+use Rattle.movie.specs.Movie.{movie, tracks, track}
+use Rattle.rule_shape.specs.Three.{first}
+use Rattle.layout.specs.declared.gather.Slot.{Slot}
+use Rattle.layout.specs.declared.gather.Want.{Want}
+use Rattle.layout.specs.declared.gather.Five.{Five}
+use Rattle.layout.specs.declared.tracks.Movie.{Movie}
+use Rattle.layout.specs.Slots.{slotIn, firstOf, Stands, Gathered, Alone, Both}
+use Rattle.layout.specs.Track.{At, Has}
+use Rattle.layout.specs.Tracks.{wholeOf, trackSlot, Peopled, Framed, LaidOut}
+use Rattle.layout.proofs.Shaped.{moov-shape, file-shape, one-of, gathered-has}
+use Rattle.layout.proofs.Laying.{at-in}
+
+pub whole-is : (xs : List ℕ) → slotIn xs (wholeOf xs) ≡ xs
+whole-is xs = let z : length xs - 0 ≡ length xs = omega arith in rw z (take-length xs)
+
+abbrev wanted : ℕ → Want
+wanted i = record { code = TRAK; nth = i }
+
+module _ {xs : List ℕ} {s : Slot} (e : s ≡ wholeOf xs) {f m : Five} (gf : Gathered xs (slotIn xs s) (firstOf FTYP) (firstOf MOOV) (firstOf MOOV) (firstOf MOOV) (firstOf MOOV) f)
+    (gm : Gathered xs (slotIn xs (f .b)) (firstOf MVHD) (wanted 0) (wanted 1) (wanted 2) (wanted 3) m) where
+  all-is : slotIn xs s ≡ xs
+  all-is = ap (slotIn xs) e ∙ whole-is xs
+
+  moov-at : At xs (find MOOV (boxes xs)) (f .b)
+  moov-at = at-in (gf .second) all-is
+
+  track-at : {i : ℕ} {s : Slot} → Stands xs (slotIn xs (f .b)) (wanted i) s → At xs (track xs i) s
+  unfolding track
+  track-at {i} k = record { lies = k .lies; is = k .is ∙ ap (λ (ys : List ℕ). nth TRAK i (boxes ys)) (moov-at .is) }
+
+  module _ {r q u v w : ℕ} (lf : r ≡ oneIf (isEq (first (boxes xs)) FTYP)) (of : Alone q f) (bu : Both r q u) (pm : Peopled v m) (bw : Both u v w) where
+    framed : (w ≡ 0 → ⊥) → Framed xs
+    framed z =
+        let y = bw .first z in
+        let x = bw .second z in
+        record {
+          file = subst (Has FILE) all-is
+              (gathered-has gf of (bu .second y) FILE (λ a b c d e. file-shape _ a b (rw all-is (eq-is _ _ (was-yea _ _ (bu .first y) lf)))));
+          moov = subst (Has MOOV) (moov-at .is) (record {
+            two = was-yea _ _ (pm .tiled x) (gm .tiled);
+            three = moov-shape _ (one-of (gm .first) (pm .header x)) (rw (← gm .second .counted) (pm .some x)) (rw (← gm .second .counted) (pm .few x));
+          });
+        }
+
+    pub laid-out : LaidOut xs (record { shaped = w; tracks = m .b .n; ftyp = f .a; moov = f .b; mvhd = m .a; one = m .b; two = m .c; three = m .d; four = m .e })
+    laid-out =
+        record {
+          shaped = framed;
+          tracks = gm .second .counted ∙ ap (λ (ys : List ℕ). count TRAK (boxes ys)) (moov-at .is);
+          ftyp = at-in (gf .first) all-is;
+          moov = moov-at;
+          mvhd = at-in (gm .first) (moov-at .is);
+          one = track-at (gm .second);
+          two = track-at (gm .third);
+          three = track-at (gm .fourth);
+          four = track-at (gm .fifth);
+        }
+
+-- ---- a track by its number
+
+pub slot-at : {xs : List ℕ} {m : Movie} → LaidOut xs m → (i : ℕ) → i < 4 → At xs (track xs i) (trackSlot m i)
+unfolding trackSlot
+slot-at {xs} {m} l i h =
+    eq-or i 0 (λ e. rw e (subst (At xs (track xs 0)) (eq-yea _ _ _ _ _ refl refl) (l .one)))
+    (λ a. eq-or i 1 (λ e. rw e (subst (At xs (track xs 1)) (eq-nay _ _ _ _ _ (λ z. omega arith) (eq-yea _ _ _ _ _ refl refl)) (l .two)))
+    (λ b. eq-or i 2 (λ e. rw e (subst (At xs (track xs 2)) (eq-nay _ _ _ _ _ (λ z. omega arith) (eq-nay _ _ _ _ _ (λ z. omega arith) (eq-yea _ _ _ _ _ refl refl))) (l .three)))
+    (λ c. let e : i ≡ 3 = omega arith in
+    rw e (subst (At xs (track xs 3)) (eq-nay _ _ _ _ _ (λ z. omega arith) (eq-nay _ _ _ _ _ (λ z. omega arith) (eq-nay _ _ _ _ _ (λ z. omega arith) refl))) (l .four)))))

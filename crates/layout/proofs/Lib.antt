@@ -1,0 +1,4 @@
+pub mod Slots
+pub mod Shaped
+pub mod Laying
+pub mod LayingOut

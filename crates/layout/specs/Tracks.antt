@@ -1,0 +1,46 @@
+-- Where the tracks of a file stand, and that the file and its `moov` have the boxes of rules 2 and 3.
+use Prim.Native.Nat.{ℕ, _≤_}
+use mathlib.Core.Path.{_≡_}
+use mathlib.Core.List.{List}
+use lib.ListN.{length}
+use Rattle.wire.specs.Tests.{ifEq}
+use Rattle.codes.specs.Codes.{FTYP, MOOV, MVHD}
+use Rattle.boxes.specs.Boxes.{boxes}
+use Rattle.boxes.specs.Containers.{FILE}
+use Rattle.boxes.specs.Seek.{find}
+use Rattle.movie.specs.Movie.{movie, tracks as tracksOf, track}
+use Rattle.layout.specs.declared.gather.Slot.{Slot}
+use Rattle.layout.specs.declared.gather.Five.{Five}
+use Rattle.layout.specs.declared.tracks.Movie.{Movie}
+use Rattle.layout.specs.Track.{At, Has}
+
+-- the file as a slot
+abbrev pub wholeOf : List ℕ → Slot
+wholeOf xs = record { n = 1; from = 0; to = length xs }
+
+-- the slot of track i, from 0
+unfoldable pub trackSlot : Movie → ℕ → Slot
+trackSlot m i = ifEq i 0 (m .one) (ifEq i 1 (m .two) (ifEq i 2 (m .three) (m .four)))
+
+-- an answer other than 0 says that boxes tile a `moov`, and that it has one `mvhd` and 1 to 4 tracks
+pub record Peopled (r : ℕ) (g : Five) : Type 0 where
+  pub tiled : (r ≡ 0 → ⊥) → g .tiled ≡ 0 → ⊥
+  pub header : (r ≡ 0 → ⊥) → g .a .n ≡ 1
+  pub some : (r ≡ 0 → ⊥) → 1 ≤ g .b .n
+  pub few : (r ≡ 0 → ⊥) → g .b .n ≤ 4
+
+-- rules 2 and 3 of the file and of its `moov`, of these two alone
+pub record Framed (xs : List ℕ) : Type 0 where
+  pub file : Has FILE xs
+  pub moov : Has MOOV (find MOOV (boxes xs))
+
+pub record LaidOut (xs : List ℕ) (m : Movie) : Type 0 where
+  pub shaped : (m .shaped ≡ 0 → ⊥) → Framed xs
+  pub tracks : m .tracks ≡ tracksOf xs
+  pub ftyp : At xs (find FTYP (boxes xs)) (m .ftyp)
+  pub moov : At xs (find MOOV (boxes xs)) (m .moov)
+  pub mvhd : At xs (find MVHD (movie xs)) (m .mvhd)
+  pub one : At xs (track xs 0) (m .one)
+  pub two : At xs (track xs 1) (m .two)
+  pub three : At xs (track xs 2) (m .three)
+  pub four : At xs (track xs 3) (m .four)

@@ -1,0 +1,172 @@
+// One walk over the boxes of a container, for five of them.
+use boxes::walk::BoxAt;
+use boxes::walk::Step;
+use boxes::walk::Walk;
+ghost use mathlib.Core.Path.{_≡_};
+ghost use Prim.Native.Nat.{_+_, _^_, _≤_, _<_};
+ghost use lib.ListN.{length};
+ghost use Rattle.layout.specs.Slots.{slotIn, nowhere, firstOf, noteOf, Lies, Gathered, Alone, Both};
+
+// How many boxes have a code, and where in the file the payload of one of them stands.
+pub struct Slot {
+    pub n: usize,
+    pub from: usize,
+    pub to: usize,
+}
+
+// A box by its code and its number, from 0.
+pub struct Want {
+    pub code: usize,
+    pub nth: usize,
+}
+
+// What there is of five, and whether boxes tile the container: 1 or 0.
+pub struct Five {
+    pub a: Slot,
+    pub b: Slot,
+    pub c: Slot,
+    pub d: Slot,
+    pub e: Slot,
+    pub tiled: usize,
+}
+
+// Nothing, which stands nowhere.
+fn none() -> Slot
+    ensures { λ r. ⌜ r ≡ nowhere ⌝ }
+{
+    Slot {
+        n: 0,
+        from: 0,
+        to: 0,
+    }
+}
+
+// The bytes of a slot.
+pub fn bytes(file: &[u8], s: Slot) -> &[u8]
+    requires { ⌜ Lies (now file) s ⌝ }
+    ensures { λ r. ⌜ now r ≡ slotIn (now (file .entry)) s ⌝ }
+{
+    let from = s.from;
+    let to = s.to;
+    &file[from..to]
+}
+
+// The slot of a wanted box, past one more box of a part that starts at base.
+fn note(s: Slot, want: Want, b: BoxAt, base: usize) -> Slot
+    requires { ⌜ (s .n < 2 ^ 63) × (b .head ≤ b .span) × (base + (b .at + b .span) < 2 ^ 63) ⌝ }
+    ensures { λ r. ⌜ r ≡ noteOf s want b base ⌝ }
+{
+    if b.code != want.code {
+        return s;
+    }
+    if s.n != want.nth {
+        return Slot {
+            n: s.n + 1,
+            from: s.from,
+            to: s.to,
+        };
+    }
+    Slot {
+        n: s.n + 1,
+        from: base + (b.at + b.head),
+        to: base + (b.at + b.span),
+    }
+}
+
+// What a container, which is a slot of the file, has of five wanted boxes.
+pub fn gather(file: &[u8], whole: Slot, a: Want, b: Want, c: Want, d: Want, e: Want) -> Five
+    requires { ⌜ Lies (now file) whole × (0 < a .code) × (0 < b .code) × (0 < c .code) × (0 < d .code) × (0 < e .code) ⌝ }
+    ensures { λ r. ⌜ Gathered (now (file .entry)) (slotIn (now (file .entry)) whole) a b c d e r ⌝ }
+{
+    let part = bytes(file, whole);
+    let none = none();
+    let mut i = none;
+    let mut j = none;
+    let mut k = none;
+    let mut l = none;
+    let mut m = none;
+    let mut w = Walk { at: 0 };
+    loop {
+        match w.step(part) {
+            Step::Found(x, next) => {
+                i = note(i, a, x, whole.from);
+                j = note(j, b, x, whole.from);
+                k = note(k, c, x, whole.from);
+                l = note(l, d, x, whole.from);
+                m = note(m, e, x, whole.from);
+                w = next;
+            }
+            Step::End => {
+                return Five {
+                    a: i,
+                    b: j,
+                    c: k,
+                    d: l,
+                    e: m,
+                    tiled: 1,
+                };
+            }
+            Step::Broken(_) => {
+                return Five {
+                    a: i,
+                    b: j,
+                    c: k,
+                    d: l,
+                    e: m,
+                    tiled: 0,
+                };
+            }
+        }
+    }
+}
+
+// The same of the first boxes of five codes.
+pub fn firsts(file: &[u8], whole: Slot, a: usize, b: usize, c: usize, d: usize, e: usize) -> Five
+    requires { ⌜ Lies (now file) whole × (0 < a) × (0 < b) × (0 < c) × (0 < d) × (0 < e) ⌝ }
+    ensures { λ r. ⌜ Gathered (now (file .entry)) (slotIn (now (file .entry)) whole) (firstOf a) (firstOf b) (firstOf c) (firstOf d) (firstOf e) r ⌝ }
+{
+    gather(
+        file,
+        whole,
+        Want { code: a, nth: 0 },
+        Want { code: b, nth: 0 },
+        Want { code: c, nth: 0 },
+        Want { code: d, nth: 0 },
+        Want { code: e, nth: 0 },
+    )
+}
+
+// Whether boxes tile the container, and each of five codes has one box: 1 or 0.
+pub fn alone(g: Five) -> usize
+    ensures { λ r. ⌜ Alone r g ⌝ }
+{
+    if g.tiled == 0 {
+        return 0;
+    }
+    if g.a.n != 1 {
+        return 0;
+    }
+    if g.b.n != 1 {
+        return 0;
+    }
+    if g.c.n != 1 {
+        return 0;
+    }
+    if g.d.n != 1 {
+        return 0;
+    }
+    if g.e.n != 1 {
+        return 0;
+    }
+    1
+}
+
+// An answer that is not 0 where neither of two is.
+pub fn both(r: usize, s: usize) -> usize
+    ensures { λ t. ⌜ Both r s t ⌝ }
+{
+    if r == 0 {
+        return 0;
+    }
+    s
+}

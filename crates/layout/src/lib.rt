@@ -1,0 +1,4 @@
+// Where the boxes of a file stand: one walk over a container finds all that is asked of it.
+pub mod gather;
+pub mod track;
+pub mod tracks;

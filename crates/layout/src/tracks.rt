@@ -1,0 +1,139 @@
+// Where the tracks of a file stand, by one walk over its boxes and one over those of `moov`.
+use crate::gather;
+use crate::gather::Five;
+use crate::gather::Slot;
+use crate::gather::Want;
+ghost use mathlib.Core.Path.{_≡_};
+ghost use Rattle.wire.specs.Clauses.{isEq, oneIf};
+ghost use Rattle.codes.specs.Codes.{FTYP};
+ghost use Rattle.boxes.specs.Boxes.{boxes};
+ghost use Rattle.rule_shape.specs.Three.{first};
+ghost use Rattle.layout.specs.Slots.{Lies};
+ghost use Rattle.layout.specs.Tracks.{wholeOf, trackSlot, Peopled, LaidOut};
+
+// The boxes that rule 3 names, the first four tracks, how many there are, and whether all is as rules 2 and 3 want it: 1 or 0.
+pub struct Movie {
+    pub shaped: usize,
+    pub tracks: usize,
+    pub ftyp: Slot,
+    pub moov: Slot,
+    pub mvhd: Slot,
+    pub one: Slot,
+    pub two: Slot,
+    pub three: Slot,
+    pub four: Slot,
+}
+
+// The file as a slot.
+fn whole(file: &[u8]) -> Slot
+    ensures { λ r. ⌜ (r ≡ wholeOf (now (file .entry))) × Lies (now (file .entry)) r ⌝ }
+{
+    Slot {
+        n: 1,
+        from: 0,
+        to: file.len(),
+    }
+}
+
+// Whether boxes tile a `moov`, and it has one `mvhd` and 1 to 4 tracks: 1 or 0.
+fn peopled(m: Five) -> usize
+    ensures { λ r. ⌜ Peopled r m ⌝ }
+{
+    if m.tiled == 0 {
+        return 0;
+    }
+    if m.a.n != 1 {
+        return 0;
+    }
+    if m.b.n < 1 {
+        return 0;
+    }
+    if 4 < m.b.n {
+        return 0;
+    }
+    1
+}
+
+// Whether a file starts with `ftyp`: 1 or 0.
+fn led(file: &[u8]) -> usize
+    ensures { λ r. ⌜ r ≡ oneIf (isEq (first (boxes (now (file .entry)))) FTYP) ⌝ }
+{
+    if rule_shape::first_code(file) != codes::FTYP {
+        return 0;
+    }
+    1
+}
+
+// Those of a file.
+pub fn lay(file: &[u8]) -> Movie
+    ensures { λ r. ⌜ LaidOut (now (file .entry)) r ⌝ }
+{
+    let f = gather::firsts(
+        file,
+        whole(file),
+        codes::FTYP,
+        codes::MOOV,
+        codes::MOOV,
+        codes::MOOV,
+        codes::MOOV,
+    );
+    let moov = f.b;
+    let m = gather::gather(
+        file,
+        moov,
+        Want {
+            code: codes::MVHD,
+            nth: 0,
+        },
+        Want {
+            code: codes::TRAK,
+            nth: 0,
+        },
+        Want {
+            code: codes::TRAK,
+            nth: 1,
+        },
+        Want {
+            code: codes::TRAK,
+            nth: 2,
+        },
+        Want {
+            code: codes::TRAK,
+            nth: 3,
+        },
+    );
+    let ftyp = f.a;
+    let mvhd = m.a;
+    let one = m.b;
+    let two = m.c;
+    let three = m.d;
+    let four = m.e;
+    let upper = gather::both(led(file), gather::alone(f));
+    Movie {
+        shaped: gather::both(upper, peopled(m)),
+        tracks: m.b.n,
+        ftyp,
+        moov,
+        mvhd,
+        one,
+        two,
+        three,
+        four,
+    }
+}
+
+// The slot of track i, from 0.
+pub fn track_slot(m: Movie, i: usize) -> Slot
+    ensures { λ r. ⌜ r ≡ trackSlot m i ⌝ }
+{
+    if i == 0 {
+        return m.one;
+    }
+    if i == 1 {
+        return m.two;
+    }
+    if i == 2 {
+        return m.three;
+    }
+    m.four
+}

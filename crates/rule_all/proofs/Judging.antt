@@ -1,0 +1,57 @@
+-- A track meets all rules where the tests of its boxes, by where they stand, all hold. Assumes nothing.
+use Prim.Native.Nat.{ℕ}
+use mathlib.Core.Path.{_≡_}
+use mathlib.Core.Bool.{true}
+use mathlib.Core.List.{List}
+use lib.ListN.{drop}
+use Rattle.wire.proofs.Clauses.{clause}
+use Rattle.codes.specs.Codes.{TRAK}
+use Rattle.boxes.specs.Boxes.{FRONT, boxes}
+use Rattle.movie.specs.Ways.{toStsd, follow}
+use Rattle.movie.specs.Movie.{scale, handler, references}
+use Rattle.layout.specs.declared.track.Track.{Track}
+use Rattle.layout.specs.Track.{Laid}
+use Rattle.rule.specs.Rule.{allIn}
+use Rattle.rule_entries.specs.Ten.{aroundOf, entriesFine}
+use Rattle.rule_all.specs.All.{allRules}
+use Rattle.rule_all.specs.Track.{Inside, headsFine, listsFine, formsFine, tablesFine, AllFine, Good}
+use Rattle.rule_all.proofs.Containers.{dinf-all, stbl-all, minf-all, mdia-all, trak-all}
+
+module _ {xs b : List ℕ} {t : Track} (h : Laid xs b t) where
+  pub inside : Inside xs t
+  inside =
+      record {
+        tkhd = h .tkhd .lies;
+        mdhd = h .mdhd .lies;
+        hdlr = h .hdlr .lies;
+        dref = h .dref .lies;
+        stsd = h .stsd .lies;
+        stts = h .stts .lies;
+        stsc = h .stsc .lies;
+        stsz = h .stsz .lies;
+        stco = h .stco .lies;
+      }
+
+  module _ {r : ℕ} (f : AllFine xs t r) (z : r ≡ 0 → ⊥) where
+    all-rules : allIn (allRules (boxes xs)) 4 TRAK b ≡ true
+    unfolding headsFine listsFine formsFine tablesFine follow
+    all-rules =
+        let s = h .shaped (f .shaped z) in
+        let head = f .heads z in
+        let list = f .lists z in
+        let table = f .forms z in
+        let both = f .tables z in
+        trak-all (boxes xs) 3 (s .trak) (rw (h .tkhd .is) at (clause 0 _ head))
+        (mdia-all (boxes xs) 2 (s .mdia) (rw (h .mdhd .is) at (clause 1 _ head)) (rw (h .hdlr .is) at (clause 2 _ head))
+        (minf-all (boxes xs) 1 (s .minf)
+        (dinf-all (boxes xs) 0 (s .dinf) (rw (h .dref .is) at (clause 0 _ list)) (rw (h .dref .is) at (clause 1 _ list)))
+        (stbl-all (boxes xs) 0 (s .stbl) (rw (h .stsd .is) at (clause 2 _ list)) (rw (h .stts .is) at (clause 0 _ table)) (rw (h .stsc .is) at (clause 1 _ table))
+        (rw (h .stsz .is) at (clause 2 _ table)) (rw (h .stco .is) at (clause 3 _ table))
+        (rw (h .stts .is, h .stsc .is, h .stsz .is, h .stco .is, h .stsd .is) at (clause 0 _ both)) (rw (h .stsc .is, h .stsz .is, h .stco .is) at (clause 1 _ both)))))
+
+    all-entries : entriesFine (aroundOf b) (drop FRONT (follow toStsd b)) ≡ true
+    unfolding aroundOf scale handler references
+    all-entries = rw (h .mdhd .is, h .hdlr .is, h .dref .is, h .stsd .is) at (f .entries z)
+
+    pub good : Good (boxes xs) b
+    good = record { rules = all-rules; entries = all-entries }

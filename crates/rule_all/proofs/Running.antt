@@ -1,0 +1,88 @@
+-- The walk over the tracks: what holds of the first i of them, and of one more. Assumes nothing.
+use Prim.Native.Nat.{ℕ, _+_, _-_, _≤_, _<_}
+use native.Mathlib.Omega.{arith}
+use mathlib.Core.Path.{_≡_, refl, sym, ap, subst, _∙_}
+use mathlib.Core.Bool.{Bool, true, not}
+use mathlib.Core.List.{List}
+use Rattle.wire.specs.Clauses.{isEq}
+use Rattle.wire.specs.Sums.{sumTo, allTo}
+use Rattle.wire.proofs.Tests.{eq-or}
+use Rattle.wire.proofs.Clauses.{not-eq}
+use Rattle.wire.proofs.Sums.{sum-none, sum-more, all-none, all-more, all-of}
+use Rattle.boxes.specs.Boxes.{boxes}
+use Rattle.movie.specs.Movie.{movie, tracks, track}
+use Rattle.rule_headers.specs.Identities.{identity, fresh, different}
+use Rattle.rule_lists.specs.Five.{MOST}
+use Rattle.rule_all.specs.declared.TrackSays.{TrackSays}
+use Rattle.rule_all.specs.Track.{Good, Judged}
+use Rattle.rule_all.specs.Tracks.{entriesOf, Again, Tracked}
+
+-- the first i are good, their IDs differ, and the last three of those are at hand
+pub record Run (xs : List ℕ) (i total one two three : ℕ) : Type 0 where
+  pub most : i ≤ tracks xs
+  pub each : (j : ℕ) → j < i → Good (boxes xs) (track xs j)
+  pub fresh : allTo (λ j. fresh (movie xs) j j) i ≡ true
+  pub sum : total ≡ sumTo (entriesOf xs) i
+  pub few : total ≤ MOST
+  pub first : 1 ≤ i → one ≡ identity (movie xs) (i - 1)
+  pub second : 2 ≤ i → two ≡ identity (movie xs) (i - 2)
+  pub third : 3 ≤ i → three ≡ identity (movie xs) (i - 3)
+
+pub run-none : (xs : List ℕ) → Run xs 0 0 0 0 0
+run-none xs =
+    record {
+      most = omega arith;
+      each = λ j h. absurd (omega arith);
+      fresh = all-none _;
+      sum = sym (sum-none _);
+      few = omega arith;
+      first = λ h. absurd (omega arith);
+      second = λ h. absurd (omega arith);
+      third = λ h. absurd (omega arith);
+    }
+
+apart : (m n : ℕ) → (m ≡ n → ⊥) → not (isEq m n) ≡ true
+apart m n h = rw (not-eq m n h)
+
+module _ {xs : List ℕ} {i total one two three : ℕ} (k : Run xs i total one two three) where
+  module _ (h : i < tracks xs) (four : tracks xs ≤ 4) {t : TrackSays} (j : Judged (boxes xs) (track xs i) t) (z : t .fine ≡ 0 → ⊥) where
+    own : t .identity ≡ identity (movie xs) i
+    unfolding identity track
+    own = j .identity z
+
+    new : {r : ℕ} → Again r (t .identity) i one two three → r ≡ 0 → fresh (movie xs) i i ≡ true
+    unfolding fresh
+    new a q =
+        all-of _ i (λ n l. apart _ _ (λ e.
+        eq-or n (i - 1) (λ d. a .first q (omega arith) (own ∙ sym e ∙ ap (identity (movie xs)) d ∙ sym (k .first (omega arith))))
+        (λ d. eq-or n (i - 2) (λ f. a .second q (omega arith) (own ∙ sym e ∙ ap (identity (movie xs)) f ∙ sym (k .second (omega arith))))
+        (λ f. a .third q (omega arith) (own ∙ sym e ∙ ap (identity (movie xs)) (omega arith) ∙ sym (k .third (omega arith)))))))
+
+    pub run-more : {r : ℕ} → Again r (t .identity) i one two three → r ≡ 0 → total + t .entries ≤ MOST → Run xs (i + 1) (total + t .entries) (t .identity) one two
+    run-more a q m =
+        let p : i + 1 - 1 ≡ i = omega arith in
+        let s : i + 1 - 2 ≡ i - 1 = omega arith in
+        let u : i + 1 - 3 ≡ i - 2 = omega arith in
+        record {
+          most = omega arith;
+          each = λ n l. eq-or n i (λ e. rw e (j .good z)) (λ e. k .each n (omega arith));
+          fresh = all-more _ i (k .fresh) (new a q);
+          sum = omega (arith, k .sum, sum-more (entriesOf xs) i, j .entries z);
+          few = m;
+          first = λ l. rw p own;
+          second = λ l. rw s (k .first (omega arith));
+          third = λ l. rw u (k .second (omega arith));
+        }
+
+  pub run-end : tracks xs ≤ i → (r : ℕ) → Tracked xs r
+  unfolding different
+  run-end h r =
+      let e : i ≡ tracks xs = omega (arith, k .most) in
+      record {
+        each = λ z n l. k .each n (omega arith);
+        differ = λ z. subst (λ (n : ℕ). allTo (λ j. fresh (movie xs) j j) n ≡ true) e (k .fresh);
+        few = λ z. subst (λ (n : ℕ). sumTo (entriesOf xs) n ≤ MOST) e (omega (arith, k .sum, k .few));
+      }
+
+pub run-broken : (xs : List ℕ) → Tracked xs 0
+run-broken xs = record { each = λ z. absurd (z refl); differ = λ z. absurd (z refl); few = λ z. absurd (z refl) }

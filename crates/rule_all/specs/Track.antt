@@ -1,0 +1,87 @@
+-- What is asked of a track, by where its boxes stand.
+use Prim.Native.Nat.{ℕ, _^_, _<_}
+use mathlib.Core.Path.{_≡_}
+use mathlib.Core.Bool.{Bool, true}
+use mathlib.Core.List.{List, [], _∷_}
+use lib.ListN.{drop}
+use Rattle.wire.specs.Numbers.{word}
+use Rattle.wire.specs.Clauses.{every}
+use Rattle.codes.specs.Codes.{TRAK, TKHD, MDIA, MDHD, HDLR}
+use Rattle.boxes.specs.Box.{Box}
+use Rattle.boxes.specs.Boxes.{FRONT, boxes}
+use Rattle.boxes.specs.Seek.{find}
+use Rattle.movie.specs.Ways.{toStsd, follow}
+use Rattle.movie.specs.Movie.{storedCount}
+use Rattle.sample_tables.specs.Tables.{tableForm}
+use Rattle.sample_tables.specs.Sizes.{sizesForm}
+use Rattle.sample_tables.specs.Rules.{tablesAgree}
+use Rattle.mdat.specs.Rules.{chunksLie}
+use Rattle.entry_rules.specs.declared.entry.Around.{Around}
+use Rattle.entry_rules.specs.declared.entry.Around.the-variants as around
+use Rattle.layout.specs.declared.track.Track.{Track}
+use Rattle.layout.specs.Slots.{slotIn, Lies}
+use Rattle.rule.specs.Rule.{allIn}
+use Rattle.rule_headers.specs.Forms.{form}
+use Rattle.rule_lists.specs.Five.{listForm}
+use Rattle.rule_lists.specs.Nine.{allUrls}
+use Rattle.rule_entries.specs.Ten.{aroundOf, entriesFine}
+use Rattle.rule_all.specs.declared.TrackSays.{TrackSays}
+use Rattle.rule_all.specs.All.{allRules}
+
+-- each box that is asked lies in the file
+pub record Inside (xs : List ℕ) (t : Track) : Type 0 where
+  pub tkhd : Lies xs (t .tkhd)
+  pub mdhd : Lies xs (t .mdhd)
+  pub hdlr : Lies xs (t .hdlr)
+  pub dref : Lies xs (t .dref)
+  pub stsd : Lies xs (t .stsd)
+  pub stts : Lies xs (t .stts)
+  pub stsc : Lies xs (t .stsc)
+  pub stsz : Lies xs (t .stsz)
+  pub stco : Lies xs (t .stco)
+
+-- rule 4
+unfoldable pub headsFine : List ℕ → Track → Bool
+headsFine xs t = every (form TRAK TKHD (slotIn xs (t .tkhd)) ∷ form MDIA MDHD (slotIn xs (t .mdhd)) ∷ form MDIA HDLR (slotIn xs (t .hdlr)) ∷ [])
+
+-- rules 5 and 9
+unfoldable pub listsFine : List ℕ → Track → Bool
+listsFine xs t = every (listForm (slotIn xs (t .dref)) ∷ allUrls (slotIn xs (t .dref)) ∷ listForm (slotIn xs (t .stsd)) ∷ [])
+
+-- rule 6
+unfoldable pub formsFine : List ℕ → Track → Bool
+formsFine xs t =
+    every (tableForm 8 (slotIn xs (t .stts)) ∷ tableForm 12 (slotIn xs (t .stsc)) ∷ sizesForm (slotIn xs (t .stsz)) ∷ tableForm 4 (slotIn xs (t .stco)) ∷ [])
+
+-- rules 7 and 8, in a file with the boxes l
+unfoldable pub tablesFine : List Box → List ℕ → Track → Bool
+tablesFine l xs t =
+    every
+    (tablesAgree (slotIn xs (t .stts)) (slotIn xs (t .stsc)) (slotIn xs (t .stsz)) (slotIn xs (t .stco)) (word 4 (slotIn xs (t .stsd)) 4)
+    ∷ chunksLie l (slotIn xs (t .stsc)) (slotIn xs (t .stsz)) (slotIn xs (t .stco))
+    ∷ [])
+
+-- rule 10
+abbrev pub aroundIn : List ℕ → Track → Around
+aroundIn xs t = around.Track (word 4 (slotIn xs (t .mdhd)) 12) (word 4 (slotIn xs (t .hdlr)) 8) (word 4 (slotIn xs (t .dref)) 4)
+
+-- an answer other than 0 says that it meets all of them
+pub record AllFine (xs : List ℕ) (t : Track) (r : ℕ) : Type 0 where
+  pub shaped : (r ≡ 0 → ⊥) → t .shaped ≡ 0 → ⊥
+  pub heads : (r ≡ 0 → ⊥) → headsFine xs t ≡ true
+  pub lists : (r ≡ 0 → ⊥) → listsFine xs t ≡ true
+  pub forms : (r ≡ 0 → ⊥) → formsFine xs t ≡ true
+  pub tables : (r ≡ 0 → ⊥) → tablesFine (boxes xs) xs t ≡ true
+  pub entries : (r ≡ 0 → ⊥) → entriesFine (aroundIn xs t) (drop FRONT (slotIn xs (t .stsd))) ≡ true
+
+-- a track of payload b, in a file with the boxes l: all that its containers and boxes are asked, and its entries
+pub record Good (l : List Box) (b : List ℕ) : Type 0 where
+  pub rules : allIn (allRules l) 4 TRAK b ≡ true
+  pub entries : entriesFine (aroundOf b) (drop FRONT (follow toStsd b)) ≡ true
+
+-- what an answer says of it
+pub record Judged (l : List Box) (b : List ℕ) (t : TrackSays) : Type 0 where
+  pub good : (t .fine ≡ 0 → ⊥) → Good l b
+  pub identity : (t .fine ≡ 0 → ⊥) → t .identity ≡ word 4 (find TKHD (boxes b)) 12
+  pub entries : (t .fine ≡ 0 → ⊥) → t .entries ≡ storedCount (follow toStsd b)
+  pub small : t .entries < 2 ^ 32

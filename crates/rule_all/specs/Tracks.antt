@@ -1,0 +1,28 @@
+-- What is asked of all tracks of a file.
+use Prim.Native.Nat.{ℕ, _≤_, _<_}
+use mathlib.Core.Path.{_≡_}
+use mathlib.Core.Bool.{true}
+use mathlib.Core.List.{List}
+use Rattle.wire.specs.Sums.{sumTo}
+use Rattle.boxes.specs.Boxes.{boxes}
+use Rattle.movie.specs.Ways.{toStsd, follow}
+use Rattle.movie.specs.Movie.{movie, tracks, track, storedCount}
+use Rattle.rule_headers.specs.Identities.{different}
+use Rattle.rule_lists.specs.Five.{MOST}
+use Rattle.rule_all.specs.Track.{Good}
+
+-- how many sample entries the `stsd` of track i, from 0, counts
+abbrev pub entriesOf : List ℕ → ℕ → ℕ
+entriesOf xs i = storedCount (follow toStsd (track xs i))
+
+-- an answer of 0 says that an ID is none of the last three, as many as there are after i tracks
+pub record Again (r identity i one two three : ℕ) : Type 0 where
+  pub first : r ≡ 0 → 1 ≤ i → identity ≡ one → ⊥
+  pub second : r ≡ 0 → 2 ≤ i → identity ≡ two → ⊥
+  pub third : r ≡ 0 → 3 ≤ i → identity ≡ three → ⊥
+
+-- an answer other than 0 says that each track is good, that their IDs differ, and that they have at most 8 sample entries
+pub record Tracked (xs : List ℕ) (r : ℕ) : Type 0 where
+  pub each : (r ≡ 0 → ⊥) → (i : ℕ) → i < tracks xs → Good (boxes xs) (track xs i)
+  pub differ : (r ≡ 0 → ⊥) → different (movie xs) ≡ true
+  pub few : (r ≡ 0 → ⊥) → sumTo (entriesOf xs) (tracks xs) ≤ MOST

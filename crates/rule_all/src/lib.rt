@@ -1,0 +1,115 @@
+// Rules 2 to 10 at once: each container is walked once, and the rules go to its boxes directly. An answer other than 0 says that they hold.
+mod track;
+
+use boxes::containers;
+use layout::gather;
+use layout::tracks;
+use layout::tracks::Movie;
+use rule_headers::forms;
+use rule_lists::total;
+ghost use mathlib.Core.Path.{_≡_};
+ghost use mathlib.Core.List.{[], _∷_};
+ghost use Prim.Native.Nat.{_≤_};
+ghost use lib.ListN.{length};
+ghost use Rattle.wire.specs.Clauses.{every, oneIf};
+ghost use Rattle.codes.specs.Codes.{FTYP, MOOV, MVHD};
+ghost use Rattle.boxes.specs.Boxes.{boxes};
+ghost use Rattle.boxes.specs.Containers.{FILE, DEPTH, LONGEST};
+ghost use Rattle.movie.specs.Movie.{tracks};
+ghost use Rattle.layout.specs.Slots.{slotIn, Lies};
+ghost use Rattle.layout.specs.Tracks.{LaidOut};
+ghost use Rattle.rule.specs.Rule.{allIn};
+ghost use Rattle.rule_headers.specs.Forms.{form};
+ghost use Rattle.rule_all.specs.All.{allRules, Sure};
+ghost use Rattle.rule_all.specs.Tracks.{Again, Tracked};
+
+// What a track says: whether it is fine, its ID, and how many sample entries it has.
+pub struct TrackSays {
+    pub fine: usize,
+    pub identity: usize,
+    pub entries: usize,
+}
+
+// Whether `ftyp` and `mvhd` are as rule 4 wants them: 1 or 0.
+fn heads_fine(file: &[u8], m: Movie) -> usize
+    requires { ⌜ Lies (now file) (m .ftyp) × Lies (now file) (m .mvhd) ⌝ }
+    ensures { λ r. ⌜ r ≡ oneIf (every (form FILE FTYP (slotIn (now (file .entry)) (m .ftyp)) ∷ form MOOV MVHD (slotIn (now (file .entry)) (m .mvhd)) ∷ [])) ⌝ }
+{
+    let ftyp = m.ftyp;
+    if forms::form(containers::FILE, codes::FTYP, gather::bytes(file, ftyp)) == 0 {
+        return 0;
+    }
+    let mvhd = m.mvhd;
+    forms::form(codes::MOOV, codes::MVHD, gather::bytes(file, mvhd))
+}
+
+// Whether an ID is one of those of the last three tracks, as many as there are: 1 or 0.
+fn again(identity: usize, i: usize, one: usize, two: usize, three: usize) -> usize
+    ensures { λ r. ⌜ Again r identity i one two three ⌝ }
+{
+    if i < 1 {
+        return 0;
+    }
+    if identity == one {
+        return 1;
+    }
+    if i < 2 {
+        return 0;
+    }
+    if identity == two {
+        return 1;
+    }
+    if i < 3 {
+        return 0;
+    }
+    if identity == three {
+        return 1;
+    }
+    0
+}
+
+// Each track, that their IDs differ, and that they have at most 8 sample entries: 1 or 0.
+fn tracks_fine(file: &[u8], m: Movie) -> usize
+    requires { ⌜ LaidOut (now file) m × (tracks (now file) ≤ 4) × (length (now file) ≤ LONGEST) ⌝ }
+    ensures { λ r. ⌜ Tracked (now (file .entry)) r ⌝ }
+{
+    let n = m.tracks;
+    let mut i = 0;
+    let mut total = 0;
+    let mut one = 0;
+    let mut two = 0;
+    let mut three = 0;
+    while i < n {
+        let t = track::judge(file, tracks::track_slot(m, i));
+        if t.fine == 0 {
+            return 0;
+        }
+        if again(t.identity, i, one, two, three) != 0 {
+            return 0;
+        }
+        total += t.entries;
+        if total::MOST < total {
+            return 0;
+        }
+        three = two;
+        two = one;
+        one = t.identity;
+        i += 1;
+    }
+    1
+}
+
+// Whether a file meets rules 2 to 10.
+pub fn all_hold(file: &[u8]) -> usize
+    requires { ⌜ length (now file) ≤ LONGEST ⌝ }
+    ensures { λ r. ⌜ Sure r (allIn (allRules (boxes (now (file .entry)))) DEPTH FILE (now (file .entry))) ⌝ }
+{
+    let m = tracks::lay(file);
+    if m.shaped == 0 {
+        return 0;
+    }
+    if heads_fine(file, m) == 0 {
+        return 0;
+    }
+    tracks_fine(file, m)
+}

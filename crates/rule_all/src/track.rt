@@ -1,0 +1,177 @@
+// The rules of one track.
+use crate::TrackSays;
+use boxes::walk;
+use entry_rules::entry::Around;
+use layout::gather;
+use layout::gather::Slot;
+use layout::track;
+use layout::track::Track;
+use mdat::chunks;
+use rule::Verdict;
+use rule_headers::forms;
+use rule_lists::form;
+use rule_lists::url;
+use sample_tables::agree;
+use sample_tables::size;
+use sample_tables::table;
+use wire::lend;
+use wire::number;
+ghost use mathlib.Core.Path.{_≡_};
+ghost use mathlib.Core.Bool.{true};
+ghost use Prim.Native.Nat.{_≤_};
+ghost use lib.ListN.{length, drop};
+ghost use Rattle.wire.specs.Clauses.{oneIf};
+ghost use Rattle.boxes.specs.Boxes.{FRONT, boxes};
+ghost use Rattle.boxes.specs.Containers.{LONGEST};
+ghost use Rattle.layout.specs.Slots.{slotIn, Lies};
+ghost use Rattle.rule_lists.specs.Nine.{allUrls};
+ghost use Rattle.rule_entries.specs.Ten.{entriesFine};
+ghost use Rattle.rule_all.specs.Track.{Inside, headsFine, listsFine, formsFine, tablesFine, aroundIn, AllFine, Judged};
+
+// Rule 4: 1 or 0.
+fn heads_fine(file: &[u8], t: Track) -> usize
+    requires { ⌜ Inside (now file) t ⌝ }
+    ensures { λ r. ⌜ r ≡ oneIf (headsFine (now (file .entry)) t) ⌝ }
+{
+    let tkhd = t.tkhd;
+    if forms::form(codes::TRAK, codes::TKHD, gather::bytes(file, tkhd)) == 0 {
+        return 0;
+    }
+    let mdhd = t.mdhd;
+    if forms::form(codes::MDIA, codes::MDHD, gather::bytes(file, mdhd)) == 0 {
+        return 0;
+    }
+    let hdlr = t.hdlr;
+    forms::form(codes::MDIA, codes::HDLR, gather::bytes(file, hdlr))
+}
+
+// Rule 9 of a `dref`: 1 or 0.
+fn urls_fine(dref: &[u8]) -> usize
+    requires { ⌜ length (now dref) ≤ LONGEST ⌝ }
+    ensures { λ r. ⌜ r ≡ oneIf (allUrls (now (dref .entry))) ⌝ }
+{
+    match url::urls_in(codes::DINF, codes::DREF, dref, 0) {
+        Verdict::Fine => 1,
+        Verdict::Bad(_) => 0,
+    }
+}
+
+// Rules 5 and 9: 1 or 0.
+fn lists_fine(file: &[u8], t: Track) -> usize
+    requires { ⌜ Inside (now file) t × (length (now file) ≤ LONGEST) ⌝ }
+    ensures { λ r. ⌜ r ≡ oneIf (listsFine (now (file .entry)) t) ⌝ }
+{
+    let slot = t.dref;
+    let dref = gather::bytes(file, slot);
+    if form::list_form(dref) == 0 {
+        return 0;
+    }
+    if urls_fine(dref) == 0 {
+        return 0;
+    }
+    let stsd = t.stsd;
+    form::list_form(gather::bytes(file, stsd))
+}
+
+// Rule 6: 1 or 0.
+fn forms_fine(file: &[u8], t: Track) -> usize
+    requires { ⌜ Inside (now file) t ⌝ }
+    ensures { λ r. ⌜ r ≡ oneIf (formsFine (now (file .entry)) t) ⌝ }
+{
+    let stts = t.stts;
+    if table::table_form(gather::bytes(file, stts), 8) == 0 {
+        return 0;
+    }
+    let stsc = t.stsc;
+    if table::table_form(gather::bytes(file, stsc), 12) == 0 {
+        return 0;
+    }
+    let stsz = t.stsz;
+    if size::sizes_form(gather::bytes(file, stsz)) == 0 {
+        return 0;
+    }
+    let stco = t.stco;
+    table::table_form(gather::bytes(file, stco), 4)
+}
+
+// Rules 7 and 8 where rule 6 holds: 1 or 0.
+fn tables_fine(file: &[u8], t: Track) -> usize
+    requires { ⌜ Inside (now file) t × (formsFine (now file) t ≡ true) ⌝ }
+    ensures { λ r. ⌜ r ≡ oneIf (tablesFine (boxes (now (file .entry))) (now (file .entry)) t) ⌝ }
+{
+    let stts = t.stts;
+    let stsc = t.stsc;
+    let stsz = t.stsz;
+    let stco = t.stco;
+    let stsd = t.stsd;
+    let runs = gather::bytes(file, stsc);
+    let sizes = gather::bytes(file, stsz);
+    let offsets = gather::bytes(file, stco);
+    let entries = number::word32(gather::bytes(file, stsd), 4);
+    if agree::seven(gather::bytes(file, stts), runs, sizes, offsets, entries) == 0 {
+        return 0;
+    }
+    chunks::eight(file, runs, sizes, offsets)
+}
+
+// Rule 10: 1 or 0.
+fn entries_fine(file: &[u8], t: Track) -> usize
+    requires { ⌜ Inside (now file) t × (length (now file) ≤ LONGEST) ⌝ }
+    ensures { λ r. ⌜ r ≡ oneIf (entriesFine (aroundIn (now (file .entry)) t) (drop FRONT (slotIn (now (file .entry)) (t .stsd)))) ⌝ }
+{
+    let mdhd = t.mdhd;
+    let hdlr = t.hdlr;
+    let dref = t.dref;
+    let stsd = t.stsd;
+    let around = Around::Track {
+        scale: number::word32(gather::bytes(file, mdhd), 12),
+        handler: number::word32(gather::bytes(file, hdlr), 8),
+        references: number::word32(gather::bytes(file, dref), 4),
+    };
+    match rule_entries::entries_from(
+        lend::rest(gather::bytes(file, stsd), walk::FRONT),
+        0,
+        around,
+    ) {
+        Verdict::Fine => 1,
+        Verdict::Bad(_) => 0,
+    }
+}
+
+// Whether it meets all of them: 1 or 0.
+fn all_fine(file: &[u8], t: Track) -> usize
+    requires { ⌜ Inside (now file) t × (length (now file) ≤ LONGEST) ⌝ }
+    ensures { λ r. ⌜ AllFine (now (file .entry)) t r ⌝ }
+{
+    if t.shaped == 0 {
+        return 0;
+    }
+    if heads_fine(file, t) == 0 {
+        return 0;
+    }
+    if lists_fine(file, t) == 0 {
+        return 0;
+    }
+    if forms_fine(file, t) == 0 {
+        return 0;
+    }
+    if tables_fine(file, t) == 0 {
+        return 0;
+    }
+    entries_fine(file, t)
+}
+
+// The track whose payload is a slot of the file.
+pub fn judge(file: &[u8], trak: Slot) -> TrackSays
+    requires { ⌜ Lies (now file) trak × (length (now file) ≤ LONGEST) ⌝ }
+    ensures { λ r. ⌜ Judged (boxes (now (file .entry))) (slotIn (now (file .entry)) trak) r ⌝ }
+{
+    let t = track::lay(file, trak);
+    let tkhd = t.tkhd;
+    let stsd = t.stsd;
+    TrackSays {
+        fine: all_fine(file, t),
+        identity: number::word32(gather::bytes(file, tkhd), 12),
+        entries: number::word32(gather::bytes(file, stsd), 4),
+    }
+}
