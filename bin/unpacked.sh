@@ -20,7 +20,7 @@ here=${here%/*}
 case $here in
 *[:\;]*) fail "can't start from a folder with a colon or a semicolon in its name: $here" ;;
 esac
-machine=$(uname -m) || machine=x86_64
+machine=$(uname -m 2>/dev/null) || machine=x86_64
 [ -n "${TIDY_EMULATOR-}" ] || [ "$machine" = x86_64 ] || fail "made for x86-64, and this machine is $machine; TIDY_EMULATOR may name an emulator"
 . "$here/lib/start.sh"
 start "${TIDY_EMULATOR-}" "$here/lib" "$here/lib/tidy" "$@"
