@@ -6,7 +6,7 @@
 
    Every answer is number * 2^32 + value. Number 0: done, and the value is what the function says. Else the number is the refusal
    and the value its place in the file (0 for 20 to 30), and nothing was written. Each function names its refusals in the order in
-   which they are asked; the first is given:
+   which they are asked, and the first that applies is given:
       1  the length is not 8 to 1,048,576 bytes
       2  boxes do not tile the file or a container from here on
       3  a box that must be here is missing, or is here too often
