@@ -1,6 +1,7 @@
-# What host/test and host/bench share: where things are, the archive, a compiler for it, and how its programs are run.
+# What the tests share: where things are, the archive of the functions for C, a compiler for it, and how its programs are run.
 # A compiler is installed where it is missing; on Arm it is Debian's cross compiler, and the kit's emulator runs what it makes.
 home=$(cd "$(dirname "${BASH_SOURCE[0]}")/.." && pwd)
+. "$home/bin/build.sh"
 archive=$home/target/staticlib/libthreegp.a
 work=$home/target/host
 
@@ -11,9 +12,7 @@ fail() {
 
 # The archive, where it is missing or older than the code.
 make_archive() {
-    if [ -e "$archive" ] && [ -z "$(find "$home/crates" -path '*/src/*.rt' -newer "$archive")" ]; then
-        return
-    fi
+    outdated "$archive" || return 0
     echo 'host: the library is proved and built first, which takes some minutes' >&2
     said=$(cd "$home" && rt staticlib threegp 2>&1) || fail "the library could not be built: $said"
 }
@@ -23,8 +22,8 @@ find_compiler() {
     compiler=cc prefix='' packages=(gcc libc6-dev) run=()
     if [ "$(uname -m)" != x86_64 ]; then
         compiler=x86_64-linux-gnu-gcc prefix=x86_64-linux-gnu- packages=(gcc-x86-64-linux-gnu libc6-dev-amd64-cross)
-        kit=$(dirname "$(dirname "$(rt doc)")")
-        run=("$kit/on/$(uname -m)/toolchain/bin/qemu-x86_64")
+        find_kit
+        run=("$emulator")
     fi
     if ! command -v "$compiler" >/dev/null; then
         echo "host: the compiler is installed first: ${packages[*]}" >&2
