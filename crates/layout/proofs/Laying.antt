@@ -1,28 +1,53 @@
 -- A track from what was gathered of its containers, each found in the one before it. Assumes nothing.
-use Prim.Native.Nat.{ℕ}
+use Prim.Native.Nat.{ℕ, _+_, _<_}
+use native.Mathlib.Omega.{arith}
 use mathlib.Core.Path.{_≡_, refl, ap, subst, _∙_}
 use mathlib.Core.List.{List}
+use lib.ListN.{length}
 use Rattle.codes.specs.Codes.{TRAK, TKHD, MDIA, MDHD, HDLR, MINF, DINF, DREF, STBL, STSD, STTS, STSC, STSZ, STCO}
-use Rattle.boxes.specs.Boxes.{boxes}
-use Rattle.boxes.specs.Seek.{find}
-use Rattle.movie.specs.Ways.{follow}
+use Rattle.boxes.specs.Box.{Box}
+use Rattle.boxes.specs.Boxes.{HEAD, boxes}
+use Rattle.boxes.specs.Seek.{count, find, startIn, placeIn}
+use Rattle.boxes.proofs.Reading.{All, Headed, heads}
+use Rattle.boxes.proofs.Reading.All.{none, some}
+use Rattle.boxes.proofs.Meaning.{meant-or, place-hit, place-miss}
+use Rattle.boxes.proofs.Numbered.{nth-there, found-short}
+use Rattle.movie.specs.Ways.{follow, placeAlong}
 use Rattle.movie.specs.Movie.{mdia, minf}
 use Rattle.layout.specs.declared.gather.Slot.{Slot}
 use Rattle.layout.specs.declared.gather.Five.{Five}
 use Rattle.layout.specs.declared.track.Track.{Track}
 use Rattle.layout.specs.Slots.{slotIn, firstOf, Stands, Gathered, Alone, Both}
-use Rattle.layout.specs.Track.{At, Has, Shaped, Laid}
+use Rattle.layout.specs.Track.{At, Has, Shaped, Laid, Listed}
 use Rattle.layout.proofs.Shaped.{trak-shape, mdia-shape, minf-shape, dinf-shape, stbl-shape, gathered-has}
 
-pub at-in : {xs ys zs : List ℕ} {c : ℕ} {s : Slot} → Stands xs ys (firstOf c) s → ys ≡ zs → At xs (find c (boxes zs)) s
+pub at-in : {xs zs : List ℕ} {o : Slot} {c : ℕ} {s : Slot} → Stands xs o (firstOf c) s → slotIn xs o ≡ zs → At xs (find c (boxes zs)) s
 at-in {c = c} k e = record { lies = k .lies; is = k .is ∙ ap (λ (l : List ℕ). find c (boxes l)) e }
 
-module _ {xs b : List ℕ} {t m i d s : Five}
-    (gt : Gathered xs b (firstOf TKHD) (firstOf MDIA) (firstOf MDIA) (firstOf MDIA) (firstOf MDIA) t)
-    (gm : Gathered xs (slotIn xs (t .b)) (firstOf MDHD) (firstOf HDLR) (firstOf MINF) (firstOf MINF) (firstOf MINF) m)
-    (gi : Gathered xs (slotIn xs (m .c)) (firstOf DINF) (firstOf STBL) (firstOf STBL) (firstOf STBL) (firstOf STBL) i)
-    (gd : Gathered xs (slotIn xs (i .a)) (firstOf DREF) (firstOf DREF) (firstOf DREF) (firstOf DREF) (firstOf DREF) d)
-    (gs : Gathered xs (slotIn xs (i .b)) (firstOf STSD) (firstOf STTS) (firstOf STSC) (firstOf STSZ) (firstOf STCO) s) where
+-- the place of a box that is there
+pub place-in : {xs zs : List ℕ} {o : Slot} (c : ℕ) {s : Slot} → Stands xs o (firstOf c) s → slotIn xs o ≡ zs → 0 < length (find c (boxes zs)) → s .from ≡ o .from + startIn c 0 (boxes zs)
+place-in {zs = zs} {o} c k e h =
+    let n = nth-there c 0 (boxes zs) (λ q. let l = ap length q in omega arith) in
+    k .place (omega (arith, k .counted, ap (λ (l : List ℕ). count c (boxes l)) e)) ∙ ap (λ (l : List ℕ). o .from + startIn c 0 (boxes l)) e
+
+-- a payload starts past the header
+start-eight : (c : ℕ) {l : List Box} → All Headed l → 0 < count c l → startIn c 0 l ≡ placeIn c 0 l + HEAD
+unfolding count startIn placeIn
+start-eight c none h = absurd (omega arith)
+start-eight c (some {x} {l} e a) h =
+    meant-or c (x .code)
+    (λ m. rw (place-hit c x l m (λ y. y .head), place-hit c x l m (λ y. 0)) (omega arith))
+    (λ m. rw (place-miss c x l m (λ y. y .head) 0, place-miss c x l m (λ y. 0) 0) (omega (arith, start-eight c a (omega arith))))
+
+module _ {xs : List ℕ} {trak : Slot} {t m i d s : Five}
+    (gt : Gathered xs trak (firstOf TKHD) (firstOf MDIA) (firstOf MDIA) (firstOf MDIA) (firstOf MDIA) t)
+    (gm : Gathered xs (t .b) (firstOf MDHD) (firstOf HDLR) (firstOf MINF) (firstOf MINF) (firstOf MINF) m)
+    (gi : Gathered xs (m .c) (firstOf DINF) (firstOf STBL) (firstOf STBL) (firstOf STBL) (firstOf STBL) i)
+    (gd : Gathered xs (i .a) (firstOf DREF) (firstOf DREF) (firstOf DREF) (firstOf DREF) (firstOf DREF) d)
+    (gs : Gathered xs (i .b) (firstOf STSD) (firstOf STTS) (firstOf STSC) (firstOf STSZ) (firstOf STCO) s) where
+  abbrev b : List ℕ
+  b = slotIn xs trak
+
   mdia-is : slotIn xs (t .b) ≡ find MDIA (boxes b)
   mdia-is = gt .second .is
 
@@ -64,3 +89,15 @@ module _ {xs b : List ℕ} {t m i d s : Five}
           stsz = at-in (gs .fourth) stbl-is;
           stco = at-in (gs .fifth) stbl-is;
         }
+
+  pub listed : (q : ℕ) → Listed xs trak (record { shaped = q; tkhd = t .a; mdhd = m .a; hdlr = m .b; dref = d .a; stsd = s .a; stts = s .b; stsc = s .c; stsz = s .d; stco = s .e })
+  unfolding follow placeAlong
+  listed q =
+      record {
+        place = λ h.
+            let stbl = found-short STSD 0 (find STBL (minf b)) refl in
+            let in-minf = found-short STBL 0 (find MINF (mdia b)) refl in
+            let in-mdia = found-short MINF 0 (find MDIA (boxes b)) refl in
+            let n = nth-there STSD 0 (boxes (find STBL (minf b))) (λ q. let l = ap length q in omega arith) in
+            omega (arith, place-in MDIA (gt .second) refl (omega arith), place-in MINF (gm .third) mdia-is (omega arith), place-in STBL (gi .second) minf-is (omega arith), place-in STSD (gs .first) stbl-is h, start-eight STSD (heads (find STBL (minf b))) n);
+      }

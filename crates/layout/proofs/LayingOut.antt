@@ -1,17 +1,20 @@
 -- The movie from what was gathered of the file and of its `moov`. Assumes nothing.
-use Prim.Native.Nat.{ℕ, _-_, _<_}
+use Prim.Native.Nat.{ℕ, _+_, _-_, _<_}
 use native.Mathlib.Omega.{arith}
 use mathlib.Core.Path.{_≡_, refl, sym, ap, subst, _∙_}
-use mathlib.Core.List.{List}
+use mathlib.Core.List.{List, []}
 use lib.ListN.{length, take}
 use lib.Seq.{take-length}
+use Rattle.wire.specs.Tests.{ifEq}
 use Rattle.wire.specs.Clauses.{isEq, oneIf}
-use Rattle.wire.proofs.Tests.{eq-yea, eq-nay, eq-or}
+use Rattle.wire.proofs.Tests.{eq-yea, eq-nay, eq-or, lt-or}
 use Rattle.wire.proofs.Clauses.{eq-is, was-yea}
 use Rattle.codes.specs.Codes.{FTYP, MOOV, MVHD, TRAK}
 use Rattle.boxes.specs.Boxes.{boxes}
 use Rattle.boxes.specs.Containers.{FILE}
-use Rattle.boxes.specs.Seek.{count, find, nth}
+use Rattle.boxes.specs.Seek.{count, find, nth, startIn}
+use Rattle.boxes.proofs.Whole.{short-not}
+use Rattle.boxes.proofs.Reading.{boxes-stop}
 use Rattle.movie.specs.Movie.{movie, tracks, track}
 use Rattle.rule_shape.specs.Three.{first}
 use Rattle.layout.specs.declared.gather.Slot.{Slot}
@@ -20,9 +23,9 @@ use Rattle.layout.specs.declared.gather.Five.{Five}
 use Rattle.layout.specs.declared.tracks.Movie.{Movie}
 use Rattle.layout.specs.Slots.{slotIn, firstOf, Stands, Gathered, Alone, Both}
 use Rattle.layout.specs.Track.{At, Has}
-use Rattle.layout.specs.Tracks.{wholeOf, trackSlot, Peopled, Framed, LaidOut}
+use Rattle.layout.specs.Tracks.{wholeOf, trackSlot, Peopled, Framed, LaidOut, Spread}
 use Rattle.layout.proofs.Shaped.{moov-shape, file-shape, one-of, gathered-has}
-use Rattle.layout.proofs.Laying.{at-in}
+use Rattle.layout.proofs.Laying.{at-in, place-in}
 
 pub whole-is : (xs : List ℕ) → slotIn xs (wholeOf xs) ≡ xs
 whole-is xs = let z : length xs - 0 ≡ length xs = omega arith in rw z (take-length xs)
@@ -30,15 +33,33 @@ whole-is xs = let z : length xs - 0 ≡ length xs = omega arith in rw z (take-le
 abbrev wanted : ℕ → Want
 wanted i = record { code = TRAK; nth = i }
 
-module _ {xs : List ℕ} {s : Slot} (e : s ≡ wholeOf xs) {f m : Five} (gf : Gathered xs (slotIn xs s) (firstOf FTYP) (firstOf MOOV) (firstOf MOOV) (firstOf MOOV) (firstOf MOOV) f)
-    (gm : Gathered xs (slotIn xs (f .b)) (firstOf MVHD) (wanted 0) (wanted 1) (wanted 2) (wanted 3) m) where
+-- ---- a number below 4
+
+module _ (P : ℕ → Slot → Type 0) {a b c d : Slot} (one : P 0 a) (two : P 1 b) (three : P 2 c) (four : P 3 d) where
+  pub by-four : (i : ℕ) → i < 4 → P i (ifEq i 0 a (ifEq i 1 b (ifEq i 2 c d)))
+  by-four i h =
+      eq-or i 0 (λ e. rw e (subst (P 0) (eq-yea _ _ _ _ _ refl refl) one))
+      (λ o. eq-or i 1 (λ e. rw e (subst (P 1) (eq-nay _ _ _ _ _ (λ z. omega arith) (eq-yea _ _ _ _ _ refl refl)) two))
+      (λ p. eq-or i 2 (λ e. rw e (subst (P 2) (eq-nay _ _ _ _ _ (λ z. omega arith) (eq-nay _ _ _ _ _ (λ z. omega arith) (eq-yea _ _ _ _ _ refl refl))) three))
+      (λ q. let e : i ≡ 3 = omega arith in
+      rw e (subst (P 3) (eq-nay _ _ _ _ _ (λ z. omega arith) (eq-nay _ _ _ _ _ (λ z. omega arith) (eq-nay _ _ _ _ _ (λ z. omega arith) refl))) four))))
+
+pub no-boxes : (ys : List ℕ) → length ys ≡ 0 → boxes ys ≡ []
+no-boxes ys h = boxes-stop ys (short-not ys (omega arith))
+
+pub none-counted : (c : ℕ) → count c [] ≡ 0
+unfolding count
+none-counted c = refl
+
+module _ {xs : List ℕ} {s : Slot} (e : s ≡ wholeOf xs) {f m : Five} (gf : Gathered xs s (firstOf FTYP) (firstOf MOOV) (firstOf MOOV) (firstOf MOOV) (firstOf MOOV) f)
+    (gm : Gathered xs (f .b) (firstOf MVHD) (wanted 0) (wanted 1) (wanted 2) (wanted 3) m) where
   all-is : slotIn xs s ≡ xs
   all-is = ap (slotIn xs) e ∙ whole-is xs
 
   moov-at : At xs (find MOOV (boxes xs)) (f .b)
   moov-at = at-in (gf .second) all-is
 
-  track-at : {i : ℕ} {s : Slot} → Stands xs (slotIn xs (f .b)) (wanted i) s → At xs (track xs i) s
+  track-at : {i : ℕ} {s : Slot} → Stands xs (f .b) (wanted i) s → At xs (track xs i) s
   unfolding track
   track-at {i} k = record { lies = k .lies; is = k .is ∙ ap (λ (ys : List ℕ). nth TRAK i (boxes ys)) (moov-at .is) }
 
@@ -70,13 +91,30 @@ module _ {xs : List ℕ} {s : Slot} (e : s ≡ wholeOf xs) {f m : Five} (gf : Ga
           four = track-at (gm .fifth);
         }
 
+  -- ---- places
+
+  moov-place : 0 < tracks xs → f .b .from ≡ startIn MOOV 0 (boxes xs)
+  moov-place h =
+      let n : 0 < length (find MOOV (boxes xs)) =
+      lt-or 0 (length (find MOOV (boxes xs))) (λ k. k) (λ k. absurd (omega (arith, ap (count TRAK) (no-boxes (find MOOV (boxes xs)) (omega arith)), none-counted TRAK))) in
+      place-in MOOV (gf .second) all-is n ∙ ap (λ (p : ℕ). p + startIn MOOV 0 (boxes xs)) (ap (λ (w : Slot). w .from) e) ∙ omega arith
+
+  place-of : {i : ℕ} {w : Slot} → Stands xs (f .b) (wanted i) w → i < tracks xs → w .from ≡ startIn MOOV 0 (boxes xs) + startIn TRAK i (movie xs)
+  place-of {i} {w} k h =
+      let c = ap (λ (ys : List ℕ). count TRAK (boxes ys)) (moov-at .is) in
+      let p = ap (λ (ys : List ℕ). startIn TRAK i (boxes ys)) (moov-at .is) in
+      omega (arith, k .place (omega (arith, k .counted)), moov-place (omega arith))
+
+  pub spread : (w : ℕ) → Spread xs (record { shaped = w; tracks = m .b .n; ftyp = f .a; moov = f .b; mvhd = m .a; one = m .b; two = m .c; three = m .d; four = m .e })
+  unfolding trackSlot
+  spread w =
+      record {
+        place = λ i h k.
+            by-four (λ j s. j < tracks xs → s .from ≡ startIn MOOV 0 (boxes xs) + startIn TRAK j (movie xs)) (place-of (gm .second)) (place-of (gm .third)) (place-of (gm .fourth)) (place-of (gm .fifth)) i h k;
+      }
+
 -- ---- a track by its number
 
 pub slot-at : {xs : List ℕ} {m : Movie} → LaidOut xs m → (i : ℕ) → i < 4 → At xs (track xs i) (trackSlot m i)
 unfolding trackSlot
-slot-at {xs} {m} l i h =
-    eq-or i 0 (λ e. rw e (subst (At xs (track xs 0)) (eq-yea _ _ _ _ _ refl refl) (l .one)))
-    (λ a. eq-or i 1 (λ e. rw e (subst (At xs (track xs 1)) (eq-nay _ _ _ _ _ (λ z. omega arith) (eq-yea _ _ _ _ _ refl refl)) (l .two)))
-    (λ b. eq-or i 2 (λ e. rw e (subst (At xs (track xs 2)) (eq-nay _ _ _ _ _ (λ z. omega arith) (eq-nay _ _ _ _ _ (λ z. omega arith) (eq-yea _ _ _ _ _ refl refl))) (l .three)))
-    (λ c. let e : i ≡ 3 = omega arith in
-    rw e (subst (At xs (track xs 3)) (eq-nay _ _ _ _ _ (λ z. omega arith) (eq-nay _ _ _ _ _ (λ z. omega arith) (eq-nay _ _ _ _ _ (λ z. omega arith) refl))) (l .four)))))
+slot-at {xs} l i h = by-four (λ j s. At xs (track xs j) s) (l .one) (l .two) (l .three) (l .four) i h

@@ -16,7 +16,7 @@ use Rattle.rule_shape.specs.Three.{needed, exactly, first, besides, shape}
 use Rattle.layout.specs.declared.gather.Slot.{Slot}
 use Rattle.layout.specs.declared.gather.Want.{Want}
 use Rattle.layout.specs.declared.gather.Five.{Five}
-use Rattle.layout.specs.Slots.{Stands, Gathered, Alone}
+use Rattle.layout.specs.Slots.{slotIn, Stands, Gathered, Alone}
 use Rattle.layout.specs.Track.{Has}
 
 -- ---- each kind by its counts
@@ -52,16 +52,16 @@ module _ (l : List Box) where
 
 -- ---- what was gathered
 
-pub one-of : {xs ys : List ℕ} {w : Want} {s : Slot} → Stands xs ys w s → s .n ≡ 1 → count (w .code) (boxes ys) ≡ 1
+pub one-of : {xs : List ℕ} {o : Slot} {w : Want} {s : Slot} → Stands xs o w s → s .n ≡ 1 → count (w .code) (boxes (slotIn xs o)) ≡ 1
 one-of k e = sym (k .counted) ∙ e
 
-module _ {xs ys : List ℕ} {a b c d e : Want} {g : Five} (k : Gathered xs ys a b c d e g) {r : ℕ} (o : Alone r g) (z : r ≡ 0 → ⊥) where
-  pub gathered-two : tiles ys ≡ true
+module _ {xs : List ℕ} {w : Slot} {a b c d e : Want} {g : Five} (k : Gathered xs w a b c d e g) {r : ℕ} (o : Alone r g) (z : r ≡ 0 → ⊥) where
+  pub gathered-two : tiles (slotIn xs w) ≡ true
   gathered-two = was-yea _ _ (o .tiled z) (k .tiled)
 
   -- the kind is shaped where each code has one box
-  pub gathered-has : (i : ℕ) → (count (a .code) (boxes ys) ≡ 1 → count (b .code) (boxes ys) ≡ 1 → count (c .code) (boxes ys) ≡ 1
-      → count (d .code) (boxes ys) ≡ 1 → count (e .code) (boxes ys) ≡ 1 → shape i (boxes ys) ≡ true) → Has i ys
+  pub gathered-has : (i : ℕ) → (count (a .code) (boxes (slotIn xs w)) ≡ 1 → count (b .code) (boxes (slotIn xs w)) ≡ 1 → count (c .code) (boxes (slotIn xs w)) ≡ 1
+      → count (d .code) (boxes (slotIn xs w)) ≡ 1 → count (e .code) (boxes (slotIn xs w)) ≡ 1 → shape i (boxes (slotIn xs w)) ≡ true) → Has i (slotIn xs w)
   gathered-has i f =
       record {
         two = gathered-two;

@@ -1,3 +1,4 @@
 pub mod Slots
 pub mod Track
 pub mod Tracks
+pub mod Entries

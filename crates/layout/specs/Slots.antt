@@ -1,5 +1,5 @@
 -- What one walk over the boxes of a container finds: of each code how many boxes it has, and where in the file the payload of one of them stands.
-use Prim.Native.Nat.{ℕ, _+_, _-_, _≤_}
+use Prim.Native.Nat.{ℕ, _+_, _-_, _≤_, _<_}
 use mathlib.Core.Path.{_≡_}
 use mathlib.Core.List.{List}
 use lib.ListN.{length, take, drop}
@@ -7,7 +7,7 @@ use Rattle.wire.specs.Tests.{ifEq}
 use Rattle.wire.specs.Clauses.{oneIf}
 use Rattle.boxes.specs.declared.walk.BoxAt.{BoxAt}
 use Rattle.boxes.specs.Boxes.{boxes, tiles}
-use Rattle.boxes.specs.Seek.{count, nth}
+use Rattle.boxes.specs.Seek.{count, nth, startIn}
 use Rattle.layout.specs.declared.gather.Slot.{Slot}
 use Rattle.layout.specs.declared.gather.Want.{Want}
 use Rattle.layout.specs.declared.gather.Five.{Five}
@@ -21,11 +21,12 @@ pub record Lies (xs : List ℕ) (s : Slot) : Type 0 where
   pub order : s .from ≤ s .to
   pub inside : s .to ≤ length xs
 
--- of the part ys of the file: how many boxes it has of the code that is wanted, and the payload of the wanted one
-pub record Stands (xs ys : List ℕ) (w : Want) (s : Slot) : Type 0 where
+-- of the container o, which is a slot: how many boxes it has of the code that is wanted, the payload of the wanted one, and its place
+pub record Stands (xs : List ℕ) (o : Slot) (w : Want) (s : Slot) : Type 0 where
   pub lies : Lies xs s
-  pub counted : s .n ≡ count (w .code) (boxes ys)
-  pub is : slotIn xs s ≡ nth (w .code) (w .nth) (boxes ys)
+  pub counted : s .n ≡ count (w .code) (boxes (slotIn xs o))
+  pub is : slotIn xs s ≡ nth (w .code) (w .nth) (boxes (slotIn xs o))
+  pub place : w .nth < s .n → s .from ≡ o .from + startIn (w .code) (w .nth) (boxes (slotIn xs o))
 
 abbrev pub nowhere : Slot
 nowhere = record { n = 0; from = 0; to = 0 }
@@ -42,13 +43,13 @@ noteOf s w b p =
     (record { n = s .n + 1; from = s .from; to = s .to })) s
 
 -- of five wanted boxes
-pub record Gathered (xs ys : List ℕ) (a b c d e : Want) (g : Five) : Type 0 where
-  pub first : Stands xs ys a (g .a)
-  pub second : Stands xs ys b (g .b)
-  pub third : Stands xs ys c (g .c)
-  pub fourth : Stands xs ys d (g .d)
-  pub fifth : Stands xs ys e (g .e)
-  pub tiled : g .tiled ≡ oneIf (tiles ys)
+pub record Gathered (xs : List ℕ) (o : Slot) (a b c d e : Want) (g : Five) : Type 0 where
+  pub first : Stands xs o a (g .a)
+  pub second : Stands xs o b (g .b)
+  pub third : Stands xs o c (g .c)
+  pub fourth : Stands xs o d (g .d)
+  pub fifth : Stands xs o e (g .e)
+  pub tiled : g .tiled ≡ oneIf (tiles (slotIn xs o))
 
 -- an answer other than 0 says that boxes tile the container, and that each of five codes has one box
 pub record Alone (r : ℕ) (g : Five) : Type 0 where

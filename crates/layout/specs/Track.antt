@@ -1,12 +1,13 @@
 -- Where the boxes of a track stand, and that they are those of rules 2 and 3.
-use Prim.Native.Nat.{ℕ}
+use Prim.Native.Nat.{ℕ, _+_, _<_}
 use mathlib.Core.Path.{_≡_}
 use mathlib.Core.Bool.{true}
 use mathlib.Core.List.{List}
+use lib.ListN.{length}
 use Rattle.codes.specs.Codes.{TRAK, TKHD, MDIA, MDHD, HDLR, MINF, DINF, STBL, STSD, STTS, STSC, STSZ, STCO}
-use Rattle.boxes.specs.Boxes.{boxes, tiles}
+use Rattle.boxes.specs.Boxes.{HEAD, boxes, tiles}
 use Rattle.boxes.specs.Seek.{find}
-use Rattle.movie.specs.Ways.{toTable, toDref, follow}
+use Rattle.movie.specs.Ways.{toTable, toStsd, toDref, follow, placeAlong}
 use Rattle.movie.specs.Movie.{mdia as mdiaOf, minf as minfOf}
 use Rattle.rule_shape.specs.Three.{shape}
 use Rattle.layout.specs.declared.gather.Slot.{Slot}
@@ -42,3 +43,7 @@ pub record Laid (xs b : List ℕ) (t : Track) : Type 0 where
   pub stsc : At xs (follow (toTable STSC) b) (t .stsc)
   pub stsz : At xs (follow (toTable STSZ) b) (t .stsz)
   pub stco : At xs (follow (toTable STCO) b) (t .stco)
+
+-- and where its `stsd` starts in the file, of the track that is the slot o
+pub record Listed (xs : List ℕ) (o : Slot) (t : Track) : Type 0 where
+  pub place : 0 < length (follow toStsd (slotIn xs o)) → t .stsd .from ≡ o .from + placeAlong toStsd (slotIn xs o) + HEAD

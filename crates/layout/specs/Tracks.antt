@@ -1,13 +1,13 @@
 -- Where the tracks of a file stand, and that the file and its `moov` have the boxes of rules 2 and 3.
-use Prim.Native.Nat.{ℕ, _≤_}
+use Prim.Native.Nat.{ℕ, _+_, _≤_, _<_}
 use mathlib.Core.Path.{_≡_}
 use mathlib.Core.List.{List}
 use lib.ListN.{length}
 use Rattle.wire.specs.Tests.{ifEq}
-use Rattle.codes.specs.Codes.{FTYP, MOOV, MVHD}
+use Rattle.codes.specs.Codes.{FTYP, MOOV, MVHD, TRAK}
 use Rattle.boxes.specs.Boxes.{boxes}
 use Rattle.boxes.specs.Containers.{FILE}
-use Rattle.boxes.specs.Seek.{find}
+use Rattle.boxes.specs.Seek.{find, startIn}
 use Rattle.movie.specs.Movie.{movie, tracks as tracksOf, track}
 use Rattle.layout.specs.declared.gather.Slot.{Slot}
 use Rattle.layout.specs.declared.gather.Five.{Five}
@@ -44,3 +44,7 @@ pub record LaidOut (xs : List ℕ) (m : Movie) : Type 0 where
   pub two : At xs (track xs 1) (m .two)
   pub three : At xs (track xs 2) (m .three)
   pub four : At xs (track xs 3) (m .four)
+
+-- and where the payload of each track starts in the file
+pub record Spread (xs : List ℕ) (m : Movie) : Type 0 where
+  pub place : (i : ℕ) → i < 4 → i < tracksOf xs → trackSlot m i .from ≡ startIn MOOV 0 (boxes xs) + startIn TRAK i (movie xs)

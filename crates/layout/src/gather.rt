@@ -31,7 +31,7 @@ pub struct Five {
 }
 
 // Nothing, which stands nowhere.
-fn none() -> Slot
+pub fn none() -> Slot
     ensures { λ r. ⌜ r ≡ nowhere ⌝ }
 {
     Slot {
@@ -76,7 +76,7 @@ fn note(s: Slot, want: Want, b: BoxAt, base: usize) -> Slot
 // What a container, which is a slot of the file, has of five wanted boxes.
 pub fn gather(file: &[u8], whole: Slot, a: Want, b: Want, c: Want, d: Want, e: Want) -> Five
     requires { ⌜ Lies (now file) whole × (0 < a .code) × (0 < b .code) × (0 < c .code) × (0 < d .code) × (0 < e .code) ⌝ }
-    ensures { λ r. ⌜ Gathered (now (file .entry)) (slotIn (now (file .entry)) whole) a b c d e r ⌝ }
+    ensures { λ r. ⌜ Gathered (now (file .entry)) whole a b c d e r ⌝ }
 {
     let part = bytes(file, whole);
     let none = none();
@@ -123,7 +123,7 @@ pub fn gather(file: &[u8], whole: Slot, a: Want, b: Want, c: Want, d: Want, e: W
 // The same of the first boxes of five codes.
 pub fn firsts(file: &[u8], whole: Slot, a: usize, b: usize, c: usize, d: usize, e: usize) -> Five
     requires { ⌜ Lies (now file) whole × (0 < a) × (0 < b) × (0 < c) × (0 < d) × (0 < e) ⌝ }
-    ensures { λ r. ⌜ Gathered (now (file .entry)) (slotIn (now (file .entry)) whole) (firstOf a) (firstOf b) (firstOf c) (firstOf d) (firstOf e) r ⌝ }
+    ensures { λ r. ⌜ Gathered (now (file .entry)) whole (firstOf a) (firstOf b) (firstOf c) (firstOf d) (firstOf e) r ⌝ }
 {
     gather(
         file,

@@ -1,4 +1,5 @@
 // Where the boxes of a file stand: one walk over a container finds all that is asked of it.
+pub mod entries;
 pub mod gather;
 pub mod track;
 pub mod tracks;

@@ -9,7 +9,7 @@ ghost use Rattle.codes.specs.Codes.{FTYP};
 ghost use Rattle.boxes.specs.Boxes.{boxes};
 ghost use Rattle.rule_shape.specs.Three.{first};
 ghost use Rattle.layout.specs.Slots.{Lies};
-ghost use Rattle.layout.specs.Tracks.{wholeOf, trackSlot, Peopled, LaidOut};
+ghost use Rattle.layout.specs.Tracks.{wholeOf, trackSlot, Peopled, LaidOut, Spread};
 
 // The boxes that rule 3 names, the first four tracks, how many there are, and whether all is as rules 2 and 3 want it: 1 or 0.
 pub struct Movie {
@@ -66,7 +66,7 @@ fn led(file: &[u8]) -> usize
 
 // Those of a file.
 pub fn lay(file: &[u8]) -> Movie
-    ensures { λ r. ⌜ LaidOut (now (file .entry)) r ⌝ }
+    ensures { λ r. ⌜ LaidOut (now (file .entry)) r × Spread (now (file .entry)) r ⌝ }
 {
     let f = gather::firsts(
         file,

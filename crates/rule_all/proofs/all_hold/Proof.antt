@@ -11,12 +11,12 @@ pub all-hold-spec : {M : Type 1} → statement M
 all-hold-spec = tie.close (tie.spec
     (λ c κs. search needs)
     (λ c. sure-none _)
-    (λ c κs. let l = c .before .before .lay .ensures in
+    (λ c κs. let l = c .before .before .lay .ensures .0 in
     (l .ftyp .lies, l .mvhd .lies))
     (λ c. sure-none _)
-    (λ c κs. let l = c .before .before .before .before .lay .ensures in
+    (λ c κs. let l = c .before .before .before .before .lay .ensures .0 in
     (l, shape-tracks _ (l .shaped (c .before .before .if1 .left) .moov .three) .1, c .before .before .before .before .before .before .pre))
-    (λ c. let l = c .before .before .before .before .before .lay .ensures in
+    (λ c. let l = c .before .before .before .before .before .lay .ensures .0 in
     let t = c .tracks-fine .ensures in
     let h = was-yea _ _ (c .before .if2 .left) (c .before .before .heads-fine .ensures) in
     record {

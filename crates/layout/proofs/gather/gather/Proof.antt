@@ -13,7 +13,7 @@ use Rattle.layout.proofs.gather.gather.Tie as tie
 
 abbrev Inv : tie.InvT-loop
 Inv file whole a b c d e part i₀ j₀ k₀ l₀ m₀ w₀ i j k l m w =
-    Noted file part a (w .at) i × Noted file part b (w .at) j × Noted file part c (w .at) k × Noted file part d (w .at) l × Noted file part e (w .at) m
+    Noted file part (whole .from) a (w .at) i × Noted file part (whole .from) b (w .at) j × Noted file part (whole .from) c (w .at) k × Noted file part (whole .from) d (w .at) l × Noted file part (whole .from) e (w .at) m
     × (after part ≡ after (drop (w .at) part)) × (w .at ≤ length part) × (length file < 2 ^ 63)
 
 abbrev μ : tie.MeasureT-loop
@@ -25,7 +25,7 @@ gather-spec = tie.close (tie.spec Inv μ
     (λ c κs. search needs)
     (λ c. let p = c .before .before .before .pre in
     let n = c .none .ensures in
-    (noted-none _ _ _ (p .1) n, noted-none _ _ _ (p .2) n, noted-none _ _ _ (p .3) n, noted-none _ _ _ (p .4) n, noted-none _ _ _ (p .5) n, refl, omega arith, omega arith))
+    (noted-none _ _ _ _ (p .1) n, noted-none _ _ _ _ (p .2) n, noted-none _ _ _ _ (p .3) n, noted-none _ _ _ _ (p .4) n, noted-none _ _ _ _ (p .5) n, refl, omega arith, omega arith))
     (λ c κs. search needs)
     (λ c. search needs)
     (λ c κs. let t = c .before .before .before in
@@ -61,9 +61,9 @@ gather-spec = tie.close (tie.spec Inv μ
     (λ c. let t = c .before .before in
     let i = t .before .loop .inv in
     let o = ended _ _ _ (t .step .ensures) (c .enum-told .given .1) in
-    rw (← t .before .before .before .bytes .ensures) (record { first = stands (i .0) (o .0); second = stands (i .1) (o .0); third = stands (i .2) (o .0); fourth = stands (i .3) (o .0); fifth = stands (i .4) (o .0); tiled = tiled-yea (i .5) (o .0) (o .1) }))
+    (record { first = stands (t .before .before .before .bytes .ensures) (i .0) (o .0); second = stands (t .before .before .before .bytes .ensures) (i .1) (o .0); third = stands (t .before .before .before .bytes .ensures) (i .2) (o .0); fourth = stands (t .before .before .before .bytes .ensures) (i .3) (o .0); fifth = stands (t .before .before .before .bytes .ensures) (i .4) (o .0); tiled = rw (← t .before .before .before .bytes .ensures) (tiled-yea (i .5) (o .0) (o .1)) }))
     (λ c. search needs)
     (λ c. let t = c .before .before in
     let i = t .before .loop .inv in
     let o = broke _ _ _ _ (t .step .ensures) (c .enum-told2 .given .1) in
-    rw (← t .before .before .before .bytes .ensures) (record { first = stands (i .0) (o .0); second = stands (i .1) (o .0); third = stands (i .2) (o .0); fourth = stands (i .3) (o .0); fifth = stands (i .4) (o .0); tiled = tiled-nay (i .5) (o .0) (o .2) })))
+    (record { first = stands (t .before .before .before .bytes .ensures) (i .0) (o .0); second = stands (t .before .before .before .bytes .ensures) (i .1) (o .0); third = stands (t .before .before .before .bytes .ensures) (i .2) (o .0); fourth = stands (t .before .before .before .bytes .ensures) (i .3) (o .0); fifth = stands (t .before .before .before .bytes .ensures) (i .4) (o .0); tiled = rw (← t .before .before .before .bytes .ensures) (tiled-nay (i .5) (o .0) (o .2)) })))

@@ -1,6 +1,6 @@
 -- One walk over the file, one over the `moov` that it found.
 use borrow.Author.Needs.{needs}
-use Rattle.layout.proofs.LayingOut.{laid-out}
+use Rattle.layout.proofs.LayingOut.{laid-out, spread}
 use Rattle.layout.proofs.tracks.lay.Statement.{statement}
 use Rattle.layout.proofs.tracks.lay.Tie as tie
 
@@ -15,5 +15,6 @@ lay-spec = tie.close (tie.spec
     (λ c κs. search needs)
     (λ c κs. search needs)
     (λ c. let f = c .before .before .before .before .before .before .before .before .before .before .before in
-    laid-out (f .before .before .before .whole .ensures .0) (f .before .before .firsts .ensures) (f .gather .ensures)
-    (c .before .before .before .before .led .ensures) (c .before .before .before .alone .ensures) (c .before .before .both .ensures) (c .before .peopled .ensures) (c .both2 .ensures)))
+    (laid-out (f .before .before .before .whole .ensures .0) (f .before .before .firsts .ensures) (f .gather .ensures)
+    (c .before .before .before .before .led .ensures) (c .before .before .before .alone .ensures) (c .before .before .both .ensures) (c .before .peopled .ensures) (c .both2 .ensures),
+    spread (f .before .before .before .whole .ensures .0) (f .before .before .firsts .ensures) (f .gather .ensures) _)))

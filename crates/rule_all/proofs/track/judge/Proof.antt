@@ -8,12 +8,12 @@ use Rattle.rule_all.proofs.track.judge.Tie as tie
 pub judge-spec : {M : Type 1} → statement M
 judge-spec = tie.close (tie.spec
     (λ c κs. search needs)
-    (λ c κs. (inside (c .before .before .lay .ensures), c .before .before .before .before .pre .1))
+    (λ c κs. (inside (c .before .before .lay .ensures .0), c .before .before .before .before .pre .1))
     (λ c κs. search needs)
     (λ c κs. search needs)
     (λ c κs. search needs)
     (λ c κs. search needs)
-    (λ c. let h = c .before .before .before .before .before .before .before .lay .ensures in
+    (λ c. let h = c .before .before .before .before .before .before .before .lay .ensures .0 in
     record {
       good = good h (c .before .before .before .before .all-fine .ensures);
       identity = λ z. c .before .before .word32 .ensures .0 ∙ rw (c .before .before .before .bytes .ensures, h .tkhd .is);
