@@ -1,7 +1,9 @@
 // The sheet reader: the sheet of a file's own sample entries.
 use entry_heads::kind;
 use judge::Judgement;
-use movie::entry;
+use layout::entries;
+use layout::entries::Lists;
+use layout::tracks;
 use movie::entry::EntryAt;
 use movie::entry::Named;
 use rule::Answer;
@@ -15,6 +17,7 @@ ghost use Rattle.boxes.specs.Containers.{LONGEST};
 ghost use Rattle.rule.specs.Results.{Exact};
 ghost use Rattle.rule.specs.Results.Result.{gives};
 ghost use Rattle.movie.specs.Entries.{entries};
+ghost use Rattle.layout.specs.Entries.{ListsAt};
 ghost use Rattle.movie.specs.Named.{entryAs};
 ghost use Rattle.sheet.specs.Sheet.{slot as slotText, slotOf, slots as slotsText, bodies as bodiesText};
 ghost use Rattle.sheet.specs.Fits.{SheetFits};
@@ -57,25 +60,25 @@ fn put_slot_of(out: &mut [u8], at: usize, file: &[u8], e: EntryAt) -> usize
 }
 
 // Writes the slot of entry i, where there is one.
-fn put_slot_at(out: &mut [u8], at: usize, file: &[u8], i: usize) -> usize
-    requires { ⌜ (at < 60000) × SheetFits (now file) ⌝ }
+fn put_slot_at(out: &mut [u8], at: usize, file: &[u8], l: Lists, i: usize) -> usize
+    requires { ⌜ (at < 60000) × SheetFits (now file) × ListsAt (now file) l ⌝ }
     ensures { λ r. ⌜ Put (slotsText (take 1 (drop i (entries (now (file .entry)))))) (now (out .entry)) at r (now (out .exit)) × (r ≤ at + 12) ⌝ }
 {
-    match entry::entry(file, i) {
+    match entries::entry(file, l, i) {
         Named::At(e) => put_slot_of(out, at, file, e),
         Named::Missing => at,
     }
 }
 
 // Writes the slots of the first n entries.
-fn put_slots(out: &mut [u8], from: usize, file: &[u8], n: usize) -> usize
-    requires { ⌜ (from + 12 * n < 60000) × SheetFits (now file) ⌝ }
+fn put_slots(out: &mut [u8], from: usize, file: &[u8], l: Lists, n: usize) -> usize
+    requires { ⌜ (from + 12 * n < 60000) × SheetFits (now file) × ListsAt (now file) l ⌝ }
     ensures { λ r. ⌜ Put (slotsText (take n (entries (now (file .entry))))) (now (out .entry)) from r (now (out .exit)) × (r ≤ from + 12 * n) ⌝ }
 {
     let mut at = from;
     let mut i = 0;
     while i < n {
-        at = put_slot_at(out, at, file, i);
+        at = put_slot_at(out, at, file, l, i);
         i += 1;
     }
     at
@@ -92,42 +95,42 @@ fn put_body_of(out: &mut [u8], at: usize, file: &[u8], e: EntryAt) -> usize
 }
 
 // Writes entry i, where there is one.
-fn put_body_at(out: &mut [u8], at: usize, file: &[u8], i: usize) -> usize
-    requires { ⌜ (at < 2 ^ 62) × SheetFits (now file) ⌝ }
+fn put_body_at(out: &mut [u8], at: usize, file: &[u8], l: Lists, i: usize) -> usize
+    requires { ⌜ (at < 2 ^ 62) × SheetFits (now file) × ListsAt (now file) l ⌝ }
     ensures { λ r. ⌜ Put (bodiesText (take 1 (drop i (entries (now (file .entry)))))) (now (out .entry)) at r (now (out .exit)) × (r ≤ at + LONGEST) ⌝ }
 {
-    match entry::entry(file, i) {
+    match entries::entry(file, l, i) {
         Named::At(e) => put_body_of(out, at, file, e),
         Named::Missing => at,
     }
 }
 
 // Writes the first n entries.
-fn put_bodies(out: &mut [u8], from: usize, file: &[u8], n: usize) -> usize
-    requires { ⌜ (from + LONGEST * n < 2 ^ 62) × SheetFits (now file) ⌝ }
+fn put_bodies(out: &mut [u8], from: usize, file: &[u8], l: Lists, n: usize) -> usize
+    requires { ⌜ (from + LONGEST * n < 2 ^ 62) × SheetFits (now file) × ListsAt (now file) l ⌝ }
     ensures { λ r. ⌜ Put (bodiesText (take n (entries (now (file .entry))))) (now (out .entry)) from r (now (out .exit)) × (r ≤ from + LONGEST * n) ⌝ }
 {
     let mut at = from;
     let mut i = 0;
     while i < n {
-        at = put_body_at(out, at, file, i);
+        at = put_body_at(out, at, file, l, i);
         i += 1;
     }
     at
 }
 
 // Writes the sheet of a file.
-fn put_sheet(out: &mut [u8], file: &[u8]) -> usize
-    requires { ⌜ SheetFits (now file) ⌝ }
+fn put_sheet(out: &mut [u8], file: &[u8], l: Lists) -> usize
+    requires { ⌜ SheetFits (now file) × ListsAt (now file) l ⌝ }
     ensures { λ r. ⌜ Put (sheetOf (now (file .entry))) (now (out .entry)) 0 r (now (out .exit)) ⌝ }
 {
-    let n = entry::entries(file);
+    let n = entries::count(file, l);
     let a = pen::put_number(out, 0, 1, 1);
     let b = pen::put_number(out, a, 1, n);
     let c = pen::put_number(out, b, 2, 0);
-    let d = put_slots(out, c, file, n);
+    let d = put_slots(out, c, file, l, n);
     let e = pen::put_number(out, d, SLOT * (SLOTS - n), 0);
-    put_bodies(out, e, file, n)
+    put_bodies(out, e, file, l, n)
 }
 
 // The same of an accepted file, where there is room for it.
@@ -135,12 +138,13 @@ fn sheet_of(file: &[u8], out: &mut [u8]) -> Answer
     requires { ⌜ SheetFits (now file) ⌝ }
     ensures { λ r. ⌜ Exact (gives (sheetOf (now (file .entry)))) (now (out .entry)) r (now (out .exit)) ⌝ }
 {
+    let l = entries::lay(file, tracks::lay(file));
     let mut none = [0u8; 1];
-    let span = put_sheet(&mut none, file);
+    let span = put_sheet(&mut none, file, l);
     if out.len() < span {
         return Answer::Refused(25, 0);
     }
-    Answer::Done(put_sheet(out, file))
+    Answer::Done(put_sheet(out, file, l))
 }
 
 // The sheet of a file, with its length.

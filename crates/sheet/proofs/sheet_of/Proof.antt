@@ -7,6 +7,8 @@ use Rattle.sheet.proofs.sheet_of.Tie as tie
 
 pub sheet-of-spec : {M : Type 1} → statement M
 sheet-of-spec = tie.close (tie.spec
+    (λ c κs. search needs)
+    (λ c κs. search needs)
     (λ c. search needs)
     (λ c κs. search needs)
     (λ c. told-short _ _ (c .before .before .put-sheet .ensures) (omega arith))
