@@ -106,12 +106,11 @@ module _ {xs ys : List ℕ} {o : Slot} (y : ys ≡ slotIn xs o) (w : Lies xs o) 
           counted = more;
           ahead = λ h. absurd (omega arith);
           met = λ h.
-              let a = k .ahead (omega arith) in
-              (
+              let a = k .ahead (omega arith) in (
                 a .1 ∙ ap (λ (m : ℕ). nth (u .code) m (boxes (drop at ys))) z ∙ ap (nth (u .code) 0) (r .list) ∙ nth-hit (u .code) (boxAt ys b) (boxes rest) hit
-                ∙ rw y (sym (slot-part xs o (b .at + b .head) (b .at + b .span) w (omega (arith, r .least)) within)),
+                    ∙ rw y (sym (slot-part xs o (b .at + b .head) (b .at + b .span) w (omega (arith, r .least)) within)),
                 let f : startIn (u .code) (u .nth - s .n) (boxes (drop at ys)) ≡ b .head = rw (z, r .list) (start-hit (u .code) (boxAt ys b) (boxes rest) hit) in
-                omega (arith, a .2, f, r .start),
+                    omega (arith, a .2, f, r .start),
               );
         }
 
@@ -127,8 +126,7 @@ module _ {xs ys : List ℕ} {o : Slot} (y : ys ≡ slotIn xs o) (w : Lies xs o) 
               let m : u .nth - s .n ≡ suc (u .nth - (s .n + 1)) = omega arith in
               let a = k .ahead (omega arith) in
               let f : startIn (u .code) (u .nth - s .n) (boxes (drop at ys)) ≡ size (boxAt ys b) + startIn (u .code) (u .nth - (s .n + 1)) (boxes rest) =
-              rw (m, r .list) (start-next (u .code) (boxAt ys b) (boxes rest) hit _) in
-              (
+              rw (m, r .list) (start-next (u .code) (boxAt ys b) (boxes rest) hit _) in (
                 a .0,
                 a .1 ∙ ap (λ (j : ℕ). nth (u .code) j (boxes (drop at ys))) m ∙ ap (nth (u .code) _) (r .list) ∙ nth-next (u .code) (boxAt ys b) (boxes rest) hit _,
                 omega (arith, a .2, f, ran-next r 0),
