@@ -1,20 +1,12 @@
 // Lists, shifts, moves, changes and compares 3GP files, as its first argument says.
-mod change;
 mod command;
 mod compare;
 mod edit;
-mod field;
-mod help;
-mod input;
-mod line;
+mod job;
 mod list;
-mod minutes;
-mod output;
-mod parse;
-mod record;
-mod shift;
-mod tell;
 mod time;
+
+use tidy_words::tell;
 
 // How it went, as one digit to whoever opened descriptor 3: 0 done, 1 refused, 2 wrong use, input or output.
 fn end(status: usize) {
