@@ -7,7 +7,7 @@ use tidy_numbers::minutes;
 use tidy_numbers::parse;
 use tidy_words::help;
 use tidy_words::tell;
-use wire::compare::same;
+use tidy_words::word;
 
 // A job on the file that argument i names; argument j names what it makes.
 fn with_files(job: Job, i: usize, j: usize) -> usize {
@@ -71,36 +71,37 @@ fn help() -> usize {
 }
 
 // The words with two arguments or fewer.
-fn by_short(word: &[u8], count: usize) -> usize {
-    if same(word, b"list") == 1 && count == 3 {
+fn by_short(word: &[u8], number: usize, count: usize) -> usize {
+    if number == word::LIST && count == 3 {
         return with_files(Job::List, 2, 3);
     }
-    if same(word, b"move") == 1 && count == 4 {
+    if number == word::MOVE && count == 4 {
         return with_files(Job::Make(Edit::Move), 2, 3);
     }
-    if same(word, b"sheet") == 1 && count == 4 {
+    if number == word::SHEET && count == 4 {
         return with_files(Job::Make(Edit::Sheet), 2, 3);
     }
-    if same(word, b"help") == 1 && count <= 3 {
+    if number == word::HELP && count <= 3 {
         return help();
     }
     help::wrong(word)
 }
 
 fn by_word(word: &[u8], count: usize) -> usize {
-    if same(word, b"shift") == 1 && count == 5 {
+    let number = word::number(word);
+    if number == word::SHIFT && count == 5 {
         return shift();
     }
-    if same(word, b"table") == 1 && count == 5 {
+    if number == word::TABLE && count == 5 {
         return table();
     }
-    if same(word, b"newer") == 1 && count == 6 {
+    if number == word::NEWER && count == 6 {
         return newer();
     }
-    if same(word, b"record") == 1 && 4 <= count && count != 5 {
+    if number == word::RECORD && 4 <= count && count != 5 {
         return record(count);
     }
-    by_short(word, count)
+    by_short(word, number, count)
 }
 
 pub fn run() -> usize {

@@ -2,9 +2,8 @@
 use crate::edit;
 use crate::edit::Edit;
 use crate::list;
+use crate::record;
 use tidy_files::input;
-use tidy_records::record;
-use tidy_records::replace;
 use tidy_words::tell;
 use wire::lend;
 
@@ -31,7 +30,7 @@ fn apply(job: Job, from: &[u8], file: &[u8], to: &[u8]) -> usize {
         Job::Make(edit) => edit::run(edit, file, to),
         Job::Table(track) => table(track, from, file, to),
         Job::Record(i) => record::show(file, i),
-        Job::Change { entry, end } => replace::run(file, entry, end, to),
+        Job::Change { entry, end } => record::change(file, entry, end, to),
     }
 }
 

@@ -4,21 +4,19 @@ mod compare;
 mod edit;
 mod job;
 mod list;
+mod record;
 mod time;
 
 use tidy_words::tell;
 
 // How it went, as one digit to whoever opened descriptor 3: 0 done, 1 refused, 2 wrong use, input or output.
 fn end(status: usize) {
-    if status == tell::DONE {
-        io::write_all(3, b"0");
-        return;
-    }
-    if status == tell::REFUSED {
-        io::write_all(3, b"1");
-        return;
-    }
-    io::write_all(3, b"2");
+    let digit = match status {
+        tell::DONE => b'0',
+        tell::REFUSED => b'1',
+        _ => b'2',
+    };
+    io::write_all(3, &[digit]);
 }
 
 fn main() {

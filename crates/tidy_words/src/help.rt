@@ -1,7 +1,7 @@
 // What the words are for.
 use crate::tell;
 use crate::tell::print;
-use wire::compare::same;
+use crate::word;
 
 // What is answered for a word that there isn't.
 const UNKNOWN: usize = 3;
@@ -43,34 +43,28 @@ fn put_all(to: i32) -> usize {
     put_others(to)
 }
 
-// More on the words that edit.
-fn put_edit(to: i32, word: &[u8]) -> usize {
-    if same(word, b"list") == 1 {
-        return print(
+// More on the words for a file by itself.
+fn put_first(to: i32, number: usize) -> usize {
+    match number {
+        word::LIST => print(
             to,
             b"\
             tidy list FILE\n\
             Prints whether the file is accepted, then its tracks, its entries and its brands.\n\
             A file of more than 65536 bytes is too long here.\n",
-        );
-    }
-    if same(word, b"shift") == 1 {
-        return print(
+        ),
+        word::SHIFT => print(
             to,
             b"\
             tidy shift MINUTES FILE OUT\n\
             Takes 60 times MINUTES, -840 to 840, from each creation and modification time that isn't 0.\n\
             Says what the file's modification time was and is.\n",
-        );
-    }
-    if same(word, b"move") == 1 {
-        return print(
+        ),
+        word::MOVE => print(
             to,
             b"tidy move FILE OUT\nPuts moov right after ftyp; all else keeps its order.\n",
-        );
-    }
-    if same(word, b"record") == 1 {
-        return print(
+        ),
+        word::RECORD => print(
             to,
             b"\
             tidy record N FILE\n\
@@ -79,41 +73,35 @@ fn put_edit(to: i32, word: &[u8]) -> usize {
             Fields of a samr and a sawb: vendor, version, modes, period, frames.\n\
             Fields of an s263: vendor, version, level, profile, rates (none, or an average, a comma and a maximum).\n\
             Numbers are decimal, or hexadecimal behind 0x.\n",
-        );
+        ),
+        _ => UNKNOWN,
     }
-    UNKNOWN
 }
 
 // More on a word.
-fn put_word(to: i32, word: &[u8]) -> usize {
-    if same(word, b"newer") == 1 {
-        return print(
+fn put_word(to: i32, number: usize) -> usize {
+    match number {
+        word::NEWER => print(
             to,
             b"\
             tidy newer FILE MINUTES FILE MINUTES\n\
             Compares the files' modification times. MINUTES, -840 to 840, is how far that file's clock is ahead of universal time.\n",
-        );
-    }
-    if same(word, b"sheet") == 1 {
-        return print(
+        ),
+        word::SHEET => print(
             to,
             b"\
             tidy sheet FILE OUT\n\
             Writes all sample entries behind a list of their kinds, tracks, places and lengths.\n",
-        );
-    }
-    if same(word, b"table") == 1 {
-        return print(
+        ),
+        word::TABLE => print(
             to,
             b"\
             tidy table T SHEET OUT\n\
             Writes the stsd box of track T, counted from 1, of a sheet.\n",
-        );
+        ),
+        word::HELP => print(to, b"tidy help [WORD]\n"),
+        _ => put_first(to, number),
     }
-    if same(word, b"help") == 1 {
-        return print(to, b"tidy help [WORD]\n");
-    }
-    put_edit(to, word)
 }
 
 // More on a word, or all words where there is no such word.
@@ -121,7 +109,7 @@ pub fn on(word: &[u8]) -> usize {
     if word.len() == 0 {
         return put_all(1);
     }
-    let status = put_word(1, word);
+    let status = put_word(1, word::number(word));
     if status == UNKNOWN {
         return wrong(word);
     }
@@ -130,7 +118,7 @@ pub fn on(word: &[u8]) -> usize {
 
 // A word that isn't known, or is used in another way than it is.
 pub fn wrong(word: &[u8]) -> usize {
-    if put_word(2, word) != UNKNOWN {
+    if put_word(2, word::number(word)) != UNKNOWN {
         return tell::FAILED;
     }
     if 0 < word.len() {

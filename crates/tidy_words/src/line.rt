@@ -50,10 +50,13 @@ fn add_four(out: &mut [u8], at: usize, n: usize) -> usize {
     if LONGEST < at {
         return at;
     }
-    let a = pen::put_byte(out, at, glyph(n / 4096 % 16));
-    let b = pen::put_byte(out, a, glyph(n / 256 % 16));
-    let c = pen::put_byte(out, b, glyph(n / 16 % 16));
-    pen::put_byte(out, c, glyph(n % 16))
+    let digits = [
+        glyph(n / 4096 % 16),
+        glyph(n / 256 % 16),
+        glyph(n / 16 % 16),
+        glyph(n % 16),
+    ];
+    pen::put_part(out, at, &digits)
 }
 
 fn glyph(digit: usize) -> u8

@@ -3,8 +3,8 @@ use borrow.Author.Needs.{needs}
 use Prim.Native.Nat.{_-_, _≤_}
 use lib.ListN.{length}
 use mathlib.Core.Path.{_≡_}
-use Rattle.tidy_records.proofs.record.put_fields.Statement.{statement}
-use Rattle.tidy_records.proofs.record.put_fields.Tie as tie
+use Rattle.tidy_fields.proofs.told.put_fields.Statement.{statement}
+use Rattle.tidy_fields.proofs.told.put_fields.Tie as tie
 
 abbrev Inv : tie.InvT-loop
 Inv out₀ numbers kind at₀ place₀ out at place = (place ≤ 8) × (length out ≡ length out₀)

@@ -1,18 +1,19 @@
--- The walk over the places ends at the last.
+-- The walk over the words of a table ends at the last.
 use borrow.Author.Needs.{needs}
 use Prim.Native.Nat.{_-_, _≤_}
-use Rattle.tidy_records.proofs.field.find.Statement.{statement}
-use Rattle.tidy_records.proofs.field.find.Tie as tie
+use Rattle.tidy_words.proofs.table.find.Statement.{statement}
+use Rattle.tidy_words.proofs.table.find.Tie as tie
 
 abbrev Inv : tie.InvT-loop
-Inv kind name place₀ place = place ≤ 8
+Inv table text i₀ i = i ≤ 16
 
 abbrev μ : tie.MeasureT-loop
-μ kind name place₀ place = 8 - place
+μ table text i₀ i = 16 - i
 
 pub find-spec : {M : Type 1} → statement M
 find-spec = tie.close (tie.spec Inv μ
     (λ c. search needs)
+    (λ c κs. search needs)
     (λ c κs. search needs)
     (λ c. search needs)
     (λ c. search needs)

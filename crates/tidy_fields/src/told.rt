@@ -1,43 +1,9 @@
-// The fields of an entry's record: read, and told.
+// The fields of a record, a line each.
 use crate::field;
-use boxes::containers::LONGEST;
 use entry_heads::kind;
-use judge::Judgement;
-use movie::entry;
-use movie::entry::Named;
-use rule::Answer;
 use tidy_words::line;
 use tidy_words::tell;
 use wire::lend;
-
-// In an accepted file only an entry of another kind has no fields.
-fn read_part(entry: &[u8], numbers: &mut [u64]) -> Answer {
-    match entry_fields::read(entry, numbers) {
-        Answer::Done(n) => Answer::Done(n),
-        Answer::Refused(_, _) => Answer::Refused(20, 0),
-    }
-}
-
-fn read_accepted(file: &[u8], i: usize, numbers: &mut [u64]) -> Answer {
-    if i == 0 {
-        return Answer::Refused(20, 0);
-    }
-    if LONGEST < file.len() {
-        return Answer::Refused(1, 0);
-    }
-    match entry::entry(file, i - 1) {
-        Named::At(e) => read_part(lend::front(lend::rest(file, e.place), e.span), numbers),
-        Named::Missing => Answer::Refused(20, 0),
-    }
-}
-
-// The numbers of the record of entry i, from 1: how many there are, or a refusal.
-pub fn read(file: &[u8], i: usize, numbers: &mut [u64]) -> Answer {
-    match judge::judge(file) {
-        Judgement::Accepted => read_accepted(file, i, numbers),
-        Judgement::Refused(number, place) => Answer::Refused(number, place),
-    }
-}
 
 fn put_kind(out: &mut [u8], kind: usize) -> usize {
     match kind {
@@ -93,17 +59,9 @@ fn put_record(out: &mut [u8], numbers: &[u64; 11]) -> usize {
     n
 }
 
-fn print(numbers: &[u64; 11]) -> usize {
+// Prints a record.
+pub fn print(numbers: &[u64; 11]) -> usize {
     let mut text = [0u8; 512];
     let n = put_record(&mut text, numbers);
     tell::print(1, lend::front(&text, n))
-}
-
-// Tells the record of entry i, from 1.
-pub fn show(file: &[u8], i: usize) -> usize {
-    let mut numbers = [0u64; 11];
-    match read(file, i, &mut numbers) {
-        Answer::Done(_) => print(&numbers),
-        Answer::Refused(number, place) => tell::refused(number, place),
-    }
 }

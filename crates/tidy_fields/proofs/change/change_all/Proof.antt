@@ -1,8 +1,8 @@
 -- Each argument brings the end nearer.
 use borrow.Author.Needs.{needs}
 use Prim.Native.Nat.{_-_}
-use Rattle.tidy_records.proofs.change.change_all.Statement.{statement}
-use Rattle.tidy_records.proofs.change.change_all.Tie as tie
+use Rattle.tidy_fields.proofs.change.change_all.Statement.{statement}
+use Rattle.tidy_fields.proofs.change.change_all.Tie as tie
 
 abbrev Inv : tie.InvT-loop
 Inv numbers₀ end i₀ numbers i = Unit {0}

@@ -1,12 +1,54 @@
-// A file whose entry has a record with other fields.
-use crate::change;
-use crate::record;
+// The word `record`: the record of an entry, told or changed.
+use boxes::containers::LONGEST;
 use entry_heads::head;
+use judge::Judgement;
+use movie::entry;
+use movie::entry::Named;
 use rule::Answer;
+use tidy_fields::change;
+use tidy_fields::told;
 use tidy_files::input;
 use tidy_files::output;
 use tidy_words::tell;
 use wire::lend;
+
+// In an accepted file only an entry of another kind has no fields.
+fn read_part(entry: &[u8], numbers: &mut [u64]) -> Answer {
+    match entry_fields::read(entry, numbers) {
+        Answer::Done(n) => Answer::Done(n),
+        Answer::Refused(_, _) => Answer::Refused(20, 0),
+    }
+}
+
+fn read_accepted(file: &[u8], i: usize, numbers: &mut [u64]) -> Answer {
+    if i == 0 {
+        return Answer::Refused(20, 0);
+    }
+    if LONGEST < file.len() {
+        return Answer::Refused(1, 0);
+    }
+    match entry::entry(file, i - 1) {
+        Named::At(e) => read_part(lend::front(lend::rest(file, e.place), e.span), numbers),
+        Named::Missing => Answer::Refused(20, 0),
+    }
+}
+
+// The numbers of the record of entry i, from 1: how many there are, or a refusal.
+fn read(file: &[u8], i: usize, numbers: &mut [u64]) -> Answer {
+    match judge::judge(file) {
+        Judgement::Accepted => read_accepted(file, i, numbers),
+        Judgement::Refused(number, place) => Answer::Refused(number, place),
+    }
+}
+
+// Tells the record of entry i, from 1.
+pub fn show(file: &[u8], i: usize) -> usize {
+    let mut numbers = [0u64; 11];
+    match read(file, i, &mut numbers) {
+        Answer::Done(_) => told::print(&numbers),
+        Answer::Refused(number, place) => tell::refused(number, place),
+    }
+}
 
 fn replace(file: &[u8], i: usize, record: &[u8], to: &[u8]) -> usize {
     let mut room = input::room();
@@ -45,9 +87,9 @@ fn make(file: &[u8], i: usize, numbers: &[u64; 11], n: usize, to: &[u8]) -> usiz
 }
 
 // Changes the record of entry i, from 1, as the arguments from 3 to an end say.
-pub fn run(file: &[u8], i: usize, end: usize, to: &[u8]) -> usize {
+pub fn change(file: &[u8], i: usize, end: usize, to: &[u8]) -> usize {
     let mut numbers = [0u64; 11];
-    match record::read(file, i, &mut numbers) {
+    match read(file, i, &mut numbers) {
         Answer::Done(n) => {
             if change::change_all(&mut numbers, end) == 0 {
                 return tell::FAILED;

@@ -2,27 +2,15 @@
 use crate::field;
 use entry_heads::kind;
 use tidy_numbers::parse;
+use tidy_words::table;
 use tidy_words::tell;
 use wire::compare::same;
 use wire::lend;
-use wire::number;
 ghost use Prim.Native.Nat.{_<_};
 
 const COMMA: usize = 44;
 
 const EQUALS: usize = 61;
-
-// The place of a byte, or the length where it is missing.
-fn find(text: &[u8], byte: usize) -> usize {
-    let mut at = 0;
-    while at < text.len() {
-        if number::byte(text, at) == byte {
-            return at;
-        }
-        at = at + 1;
-    }
-    at
-}
 
 fn refuse(words: &[u8], what: &[u8]) -> usize {
     tell::wrong(words, what);
@@ -73,7 +61,7 @@ fn change_rates(numbers: &mut [u64; 11], text: &[u8]) -> usize {
     if same(text, b"none") == 1 {
         return set_rates(numbers, 0, b"0", b"0");
     }
-    let n = find(text, COMMA);
+    let n = table::find_byte(text, COMMA);
     if text.len() <= n {
         return refuse(
             b"rates are none, or an average, a comma and a maximum: ",
@@ -94,7 +82,7 @@ fn change(numbers: &mut [u64; 11], name: &[u8], text: &[u8]) -> usize {
 
 // FIELD=VALUE.
 fn change_as(numbers: &mut [u64; 11], text: &[u8]) -> usize {
-    let n = find(text, EQUALS);
+    let n = table::find_byte(text, EQUALS);
     if text.len() <= n {
         return refuse(b"not FIELD=VALUE: ", text);
     }
