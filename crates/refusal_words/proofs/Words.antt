@@ -41,6 +41,7 @@ within n p = (p, omega (arith, p .next, short-in meanings n (search arith)))
 pub row-put : {n m at r : ℕ} {out after : List ℕ} → n ≡ m → Put (refusalWords m) out at r after → Put (refusalWords n) out at r after × (r ≤ at + 100)
 row-put {n} e p = within n (pen-is (ap refusalWords (sym e)) p)
 
-pub none-put : {n at r : ℕ} {out after : List ℕ} → Lacks (Unit {0}) meanings n → Put (text "no such refusal") out at r after → Put (refusalWords n) out at r after × (r ≤ at + 100)
+pub none-put : {n at r : ℕ} {out after : List ℕ} → Lacks (Unit {0}) meanings n → Put (text "no such refusal") out at r after
+    → Put (refusalWords n) out at r after × (r ≤ at + 100)
 unfolding refusalWords
 none-put {n} h p = within n (pen-is (none-in (Unit {0}) meanings n h .1) p)

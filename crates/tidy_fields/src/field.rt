@@ -4,25 +4,11 @@ use tidy_words::line;
 use tidy_words::table;
 use wire::test;
 
-const SPEECH: [u8; 80] = *b"\
-    kind      \
-    reference \
-    scale     \
-    vendor    \
-    version   \
-    modes     \
-    period    \
-    frames    ";
+const SPEECH: [u8; 80] =
+    *b"kind      reference scale     vendor    version   modes     period    frames    ";
 
-const PICTURE: [u8; 80] = *b"\
-    kind      \
-    reference \
-    width     \
-    height    \
-    vendor    \
-    version   \
-    level     \
-    profile   ";
+const PICTURE: [u8; 80] =
+    *b"kind      reference width     height    vendor    version   level     profile   ";
 
 // The place of the modes, which only speech has.
 const MODES: usize = 5;
