@@ -4,6 +4,7 @@ use tidy_words::line;
 use tidy_words::table;
 use wire::test;
 
+// A table for a `samr` and a `sawb`, and one for an `s263`.
 const SPEECH: [u8; 80] =
     *b"kind      reference scale     vendor    version   modes     period    frames    ";
 

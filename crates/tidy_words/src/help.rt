@@ -43,7 +43,7 @@ fn put_all(to: i32) -> usize {
     put_others(to)
 }
 
-// More on the words for a file by itself.
+// More on the first four words.
 fn put_first(to: i32, number: usize) -> usize {
     match number {
         word::LIST => print(
