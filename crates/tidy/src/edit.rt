@@ -25,11 +25,9 @@ fn apply(edit: Edit, file: &[u8], out: &mut [u8]) -> Answer {
 
 // What the time was and is.
 fn put_times(out: &mut [u8], was: usize, is: usize) -> usize {
-    let a = line::add(out, 0, b"time was ");
-    let b = line::add_time(out, a, was);
-    let c = line::add(out, b, b", is ");
-    let d = line::add_time(out, c, is);
-    line::add(out, d, b"\n")
+    let a = line::add_time(out, 0, b"time was ", was);
+    let b = line::add_time(out, a, b", is ", is);
+    line::add(out, b, b"\n")
 }
 
 fn write_shifted(file: &[u8], shifted: &[u8], to: &[u8]) -> usize {

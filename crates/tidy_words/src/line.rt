@@ -1,7 +1,6 @@
 // A line of text, piece by piece. Each answers the place past its piece.
 use decimal;
 use wire::pen;
-ghost use Prim.Native.Nat.{_<_};
 
 // No line is longer.
 const LONGEST: usize = 4096;
@@ -39,10 +38,11 @@ pub fn add_date(out: &mut [u8], at: usize, time: usize) -> usize {
     add(out, b, b")")
 }
 
-// A time as a number and in words.
-pub fn add_time(out: &mut [u8], at: usize, time: usize) -> usize {
-    let a = add_number(out, at, time);
-    add_date(out, a, time)
+// A label, and a time as a number and in words.
+pub fn add_time(out: &mut [u8], at: usize, label: &[u8], time: usize) -> usize {
+    let a = add(out, at, label);
+    let b = add_number(out, a, time);
+    add_date(out, b, time)
 }
 
 // The last four hexadecimal digits of a number.
@@ -50,22 +50,14 @@ fn add_four(out: &mut [u8], at: usize, n: usize) -> usize {
     if LONGEST < at {
         return at;
     }
+    let glyphs = b"0123456789ABCDEF";
     let digits = [
-        glyph(n / 4096 % 16),
-        glyph(n / 256 % 16),
-        glyph(n / 16 % 16),
-        glyph(n % 16),
+        glyphs[n / 4096 % 16],
+        glyphs[n / 256 % 16],
+        glyphs[n / 16 % 16],
+        glyphs[n % 16],
     ];
     pen::put_part(out, at, &digits)
-}
-
-fn glyph(digit: usize) -> u8
-    requires { ⌜ digit < 16 ⌝ }
-{
-    if digit < 10 {
-        return (48 + digit) as u8;
-    }
-    (55 + digit) as u8
 }
 
 // A number of 16 or 32 bits in hexadecimal.
