@@ -7,21 +7,14 @@ use Rattle.dates.specs.Calendar.{leapDays, yearDays, monthDays, yearSpan
 use Rattle.dates.specs.Dates.{spansOver, fallOf, yearFall, monthFall, dateOf}
 use Rattle.dates.specs.DateText.{dayText, clockText, dateText, timeText}
 
-first : dateOf 0 ≡ record { year = 1904; month = 1; day = 1; hour = 0; minute = 0; second = 0 }
+-- the first second, the first of 1970, the last of a leap day, and the last that a file can hold
+known :
+    (dateOf 0 ≡ record { year = 1904; month = 1; day = 1; hour = 0; minute = 0; second = 0 })
+    × (dateOf 2082844800 ≡ record { year = 1970; month = 1; day = 1; hour = 0; minute = 0; second = 0 })
+    × (dateOf 3034713599 ≡ record { year = 2000; month = 2; day = 29; hour = 23; minute = 59; second = 59 })
+    × (dateOf 4294967295 ≡ record { year = 2040; month = 2; day = 6; hour = 6; minute = 28; second = 15 })
 unfolding dateOf yearFall monthFall fallOf spansOver sumTo yearSpan yearDays monthDays leapDays ifEq ifLe
-first = refl
-
-unix : dateOf 2082844800 ≡ record { year = 1970; month = 1; day = 1; hour = 0; minute = 0; second = 0 }
-unfolding dateOf yearFall monthFall fallOf spansOver sumTo yearSpan yearDays monthDays leapDays ifEq ifLe
-unix = refl
-
-leap-day : dateOf 3034713599 ≡ record { year = 2000; month = 2; day = 29; hour = 23; minute = 59; second = 59 }
-unfolding dateOf yearFall monthFall fallOf spansOver sumTo yearSpan yearDays monthDays leapDays ifEq ifLe
-leap-day = refl
-
-last : dateOf 4294967295 ≡ record { year = 2040; month = 2; day = 6; hour = 6; minute = 28; second = 15 }
-unfolding dateOf yearFall monthFall fallOf spansOver sumTo yearSpan yearDays monthDays leapDays ifEq ifLe
-last = refl
+known = (refl, refl, refl, refl)
 
 printed : timeText 3877596309 ≡ text "2026-11-15 14:05:09"
 unfolding timeText dateText dayText clockText dateOf yearFall monthFall fallOf spansOver sumTo yearSpan yearDays monthDays leapDays ifEq ifLe

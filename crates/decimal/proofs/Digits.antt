@@ -42,9 +42,11 @@ decimal-20 n h = decimal-short 19 n (omega arith)
 pub put-digit : (n : ℕ) {out after : List ℕ} {at r : ℕ} → n < 10 → Put ((48 + n) ∷ []) out at r after → Put (decimal n) out at r after
 put-digit n h p = pen-is (decimal-one n h) p
 
-pub put-digits : (n : ℕ) {out mid after : List ℕ} {at m r : ℕ} → 10 ≤ n → Put (decimal (n / 10)) out at m mid → Put ((48 + n % 10) ∷ []) mid m r after → Put (decimal n) out at r after
+pub put-digits : (n : ℕ) {out mid after : List ℕ} {at m r : ℕ} → 10 ≤ n → Put (decimal (n / 10)) out at m mid → Put ((48 + n % 10) ∷ []) mid m r after
+    → Put (decimal n) out at r after
 put-digits n h p q = pen-is (decimal-more n h) (pen-then p q)
 
-pub put-label : (t : List ℕ) (n : ℕ) {out mid after : List ℕ} {at m r : ℕ} → Put t out at m mid → Put (decimal n) mid m r after → n < 18446744073709551616 → Put (labelled t n) out at r after × (r ≤ at + length t + 20)
+pub put-label : (t : List ℕ) (n : ℕ) {out mid after : List ℕ} {at m r : ℕ} → Put t out at m mid → Put (decimal n) mid m r after → n < 18446744073709551616
+    → Put (labelled t n) out at r after × (r ≤ at + length t + 20)
 unfolding labelled
 put-label t n a b h = (pen-then a b, omega (arith, a .next, b .next, decimal-20 n h))

@@ -3,12 +3,11 @@ use mathlib.Core.Path.{_≡_, refl}
 use Rattle.wire.specs.Tests.{ifEq, ifLe, ifLt}
 use Rattle.wire.specs.Text.{text}
 use Rattle.decimal.specs.Decimal.{decimal, labelled}
-use Rattle.refusal_words.specs.RefusalWords.{refusalWords, trackWords, askedWords, resultWords, placeWords, refusedText}
+use Rattle.refusal_words.specs.RefusalWords.{wordsIn, refusalWords, placeWords, refusedText}
 
-with-place : refusedText 8 412 ≡ text "refused 8 at 412: a chunk lies outside every mdat\n"
-unfolding ifEq ifLe ifLt decimal labelled refusalWords trackWords askedWords resultWords placeWords refusedText
-with-place = refl
-
-with-none : refusedText 25 0 ≡ text "refused 25: the room is shorter than the result\n"
-unfolding ifEq ifLe ifLt decimal labelled refusalWords trackWords askedWords resultWords placeWords refusedText
-with-none = refl
+read :
+    (refusedText 8 412 ≡ text "refused 8 at 412: a chunk lies outside every mdat\n")
+    × (refusedText 25 0 ≡ text "refused 25: the room is shorter than the result\n")
+    × (refusedText 11 0 ≡ text "refused 11: no such refusal\n")
+unfolding ifEq ifLe ifLt decimal labelled wordsIn refusalWords placeWords refusedText
+read = (refl, refl, refl)

@@ -1,46 +1,49 @@
 -- What a refusal says to people: its number, its place, and what the number means.
 use Prim.Native.Nat.{ℕ}
-use mathlib.Core.List.{List, _++_}
+use Prim.Native.String.{String}
+use mathlib.Core.List.{List, [], _∷_, _++_}
 use Rattle.wire.specs.Tests.{ifEq, ifLe}
 use Rattle.wire.specs.Text.{text}
 use Rattle.decimal.specs.Decimal.{labelled}
 
--- of the result, and of the sheet
-unfoldable pub resultWords : ℕ → List ℕ
-resultWords n =
-    ifEq n 24 (text "the result would pass 1,048,576 bytes")
-    (ifEq n 25 (text "the room is shorter than the result")
-    (ifEq n 30 (text "the sheet is malformed")
-    (text "no such refusal")))
+-- a number, and what it means
+pub record Meaning : Type 0 where
+  pub number : ℕ
+  pub words : String
 
--- of what was asked for
-unfoldable pub askedWords : ℕ → List ℕ
-askedWords n =
-    ifEq n 20 (text "no such entry or track, or one that takes no such record")
-    (ifEq n 21 (text "the record is not one whole box that meets its rule")
-    (ifEq n 22 (text "minutes outside -840 to 840, or a time that would leave 1 to 4,294,967,295")
-    (ifEq n 23 (text "no edit takes this file, for a moof, mfra, sidx, meta, co64 or saio in it")
-    (resultWords n))))
+abbrev _means_ : ℕ → String → Meaning
+n means w = record { number = n; words = w }
 
--- of the tracks
-unfoldable pub trackWords : ℕ → List ℕ
-trackWords n =
-    ifEq n 6 (text "a sample table is not as long as its count says")
-    (ifEq n 7 (text "the sample tables of a track do not agree")
-    (ifEq n 8 (text "a chunk lies outside every mdat")
-    (ifEq n 9 (text "a data reference is not to this very file")
-    (ifEq n 10 (text "a sample entry breaks its rule")
-    (askedWords n)))))
+infix 60 _means_
+-- all refusals: of the file by its rules, of what was asked for, of the result and of the sheet
+abbrev pub meanings : List Meaning
+meanings =
+    (1 means "the length is not 8 to 1,048,576 bytes")
+    ∷ (2 means "boxes do not tile the file or a container from here on")
+    ∷ (3 means "a box that must be here is missing, or is here too often")
+    ∷ (4 means "a brand list, a header or a track ID is not as it must be")
+    ∷ (5 means "a list of entries is not as its count says, or there are more than 8 sample entries")
+    ∷ (6 means "a sample table is not as long as its count says")
+    ∷ (7 means "the sample tables of a track do not agree")
+    ∷ (8 means "a chunk lies outside every mdat")
+    ∷ (9 means "a data reference is not to this very file")
+    ∷ (10 means "a sample entry breaks its rule")
+    ∷ (20 means "no such entry or track, or one that takes no such record")
+    ∷ (21 means "the record is not one whole box that meets its rule")
+    ∷ (22 means "minutes outside -840 to 840, or a time that would leave 1 to 4,294,967,295")
+    ∷ (23 means "no edit takes this file, for a moof, mfra, sidx, meta, co64 or saio in it")
+    ∷ (24 means "the result would pass 1,048,576 bytes")
+    ∷ (25 means "the room is shorter than the result")
+    ∷ (30 means "the sheet is malformed")
+    ∷ []
 
--- of the file and its headers, and so any number's
+-- the words of the first row that has a number
+unfoldable pub wordsIn : List Meaning → ℕ → List ℕ
+wordsIn [] n = text "no such refusal"
+wordsIn (row ∷ rows) n = ifEq n (row .number) (text (row .words)) (wordsIn rows n)
+
 unfoldable pub refusalWords : ℕ → List ℕ
-refusalWords n =
-    ifEq n 1 (text "the length is not 8 to 1,048,576 bytes")
-    (ifEq n 2 (text "boxes do not tile the file or a container from here on")
-    (ifEq n 3 (text "a box that must be here is missing, or is here too often")
-    (ifEq n 4 (text "a brand list, a header or a track ID is not as it must be")
-    (ifEq n 5 (text "a list of entries is not as its count says, or there are more than 8 sample entries")
-    (trackWords n)))))
+refusalWords n = wordsIn meanings n
 
 -- "Places for 20 and above are 0", and are not told
 unfoldable pub placeWords : ℕ → ℕ → List ℕ

@@ -1,56 +1,54 @@
 // The first argument, and the arguments that its word takes.
-use crate::change;
 use crate::compare;
-use crate::edit;
-use crate::edit::Job;
-use crate::help;
-use crate::list;
-use crate::minutes;
-use crate::parse;
-use crate::record;
-use crate::shift;
-use crate::tell;
-use wire::compare::same;
+use crate::edit::Edit;
+use crate::job;
+use crate::job::Job;
+use tidy_numbers::minutes;
+use tidy_numbers::parse;
+use tidy_words::help;
+use tidy_words::tell;
+use tidy_words::word;
 
-fn list_argument() -> usize {
-    let mut name = io::buffer();
-    let n = os::arg(2, &mut name);
-    list::run(&name[..n])
-}
-
-fn edit_arguments(job: Job) -> usize {
+// A job on the file that argument i names; argument j names what it makes.
+fn with_files(job: Job, i: usize, j: usize) -> usize {
     let mut from = io::buffer();
-    let n = os::arg(2, &mut from);
+    let n = os::arg(i, &mut from);
     let mut to = io::buffer();
-    let m = os::arg(3, &mut to);
-    edit::run(job, &from[..n], &to[..m])
+    let m = os::arg(j, &mut to);
+    job::run(job, &from[..n], &to[..m])
 }
 
-fn table_arguments() -> usize {
-    let track = parse::argument(2);
-    if track.fault != parse::NOTHING {
-        return tell::FAILED;
-    }
-    let mut from = io::buffer();
-    let n = os::arg(3, &mut from);
-    let mut to = io::buffer();
-    let m = os::arg(4, &mut to);
-    edit::run_table(track.value as usize, &from[..n], &to[..m])
-}
-
-fn shift_arguments() -> usize {
+fn shift() -> usize {
     let z = minutes::argument(2);
     if z.fault != parse::NOTHING {
         return tell::FAILED;
     }
-    let mut from = io::buffer();
-    let n = os::arg(3, &mut from);
-    let mut to = io::buffer();
-    let m = os::arg(4, &mut to);
-    shift::run(z.value, &from[..n], &to[..m])
+    with_files(Job::Make(Edit::Shift(z.value)), 3, 4)
 }
 
-fn newer_arguments() -> usize {
+fn table() -> usize {
+    let track = parse::argument(2);
+    if track.fault != parse::NOTHING {
+        return tell::FAILED;
+    }
+    with_files(Job::Table(track.value as usize), 3, 4)
+}
+
+// The changes stand before the last two arguments.
+fn record(count: usize) -> usize {
+    let i = parse::argument(2);
+    if i.fault != parse::NOTHING {
+        return tell::FAILED;
+    }
+    let entry = i.value as usize;
+    if count < 6 {
+        return with_files(Job::Record(entry), 3, 4);
+    }
+    let end = count - 2;
+    with_files(Job::Change { entry, end }, end, count - 1)
+}
+
+fn newer() -> usize {
     let y = minutes::argument(3);
     if y.fault != parse::NOTHING {
         return tell::FAILED;
@@ -66,72 +64,44 @@ fn newer_arguments() -> usize {
     compare::run(&first[..n], y.value, &second[..m], z.value)
 }
 
-fn record_arguments() -> usize {
-    let i = parse::argument(2);
-    if i.fault != parse::NOTHING {
-        return tell::FAILED;
-    }
-    let mut name = io::buffer();
-    let n = os::arg(3, &mut name);
-    record::run(i.value as usize, &name[..n])
-}
-
-// The changes stand before the last two arguments.
-fn change_arguments(count: usize) -> usize {
-    let i = parse::argument(2);
-    if i.fault != parse::NOTHING {
-        return tell::FAILED;
-    }
-    if count < 6 {
-        return tell::FAILED;
-    }
-    let mut from = io::buffer();
-    let n = os::arg(count - 2, &mut from);
-    let mut to = io::buffer();
-    let m = os::arg(count - 1, &mut to);
-    change::run(i.value as usize, count - 2, &from[..n], &to[..m])
-}
-
-fn help_argument() -> usize {
+fn help() -> usize {
     let mut word = io::buffer();
     let n = os::arg(2, &mut word);
     help::on(&word[..n])
 }
 
 // The words with two arguments or fewer.
-fn by_short(word: &[u8], count: usize) -> usize {
-    if same(word, b"list") == 1 && count == 3 {
-        return list_argument();
+fn by_short(word: &[u8], number: usize, count: usize) -> usize {
+    if number == word::LIST && count == 3 {
+        return with_files(Job::List, 2, 3);
     }
-    if same(word, b"move") == 1 && count == 4 {
-        return edit_arguments(Job::Move);
+    if number == word::MOVE && count == 4 {
+        return with_files(Job::Make(Edit::Move), 2, 3);
     }
-    if same(word, b"sheet") == 1 && count == 4 {
-        return edit_arguments(Job::Sheet);
+    if number == word::SHEET && count == 4 {
+        return with_files(Job::Make(Edit::Sheet), 2, 3);
     }
-    if same(word, b"help") == 1 && count <= 3 {
-        return help_argument();
+    if number == word::HELP && count <= 3 {
+        return help();
     }
     help::wrong(word)
 }
 
 fn by_word(word: &[u8], count: usize) -> usize {
-    if same(word, b"shift") == 1 && count == 5 {
-        return shift_arguments();
+    let number = word::number(word);
+    if number == word::SHIFT && count == 5 {
+        return shift();
     }
-    if same(word, b"table") == 1 && count == 5 {
-        return table_arguments();
+    if number == word::TABLE && count == 5 {
+        return table();
     }
-    if same(word, b"newer") == 1 && count == 6 {
-        return newer_arguments();
+    if number == word::NEWER && count == 6 {
+        return newer();
     }
-    if same(word, b"record") == 1 && count == 4 {
-        return record_arguments();
+    if number == word::RECORD && 4 <= count && count != 5 {
+        return record(count);
     }
-    if same(word, b"record") == 1 && 6 <= count {
-        return change_arguments(count);
-    }
-    by_short(word, count)
+    by_short(word, number, count)
 }
 
 pub fn run() -> usize {

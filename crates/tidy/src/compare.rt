@@ -1,13 +1,12 @@
 // The word `newer`: which of two files is newer.
-use crate::input;
-use crate::line;
-use crate::output;
-use crate::tell;
 use crate::time;
 use clocks::Order;
 use clocks::Zone;
 use clocks::Zoned;
 use newer::Outcome;
+use tidy_files::input;
+use tidy_words::line;
+use tidy_words::tell;
 use wire::compare::same;
 use wire::lend;
 ghost use Prim.Native.Nat.{_<_, _^_};
@@ -60,10 +59,7 @@ fn say(order: Order, first: &[u8], y: i64, second: &[u8], z: i64) -> usize {
     let c = line::add(&mut text, b, b", second ");
     let d = put_time(&mut text, c, second, z);
     let e = line::add(&mut text, d, b" in universal time\n");
-    if output::print(lend::front(&text, e)) == 0 {
-        return tell::FAILED;
-    }
-    tell::DONE
+    tell::print(1, lend::front(&text, e))
 }
 
 // A refusal, and which file it is about.

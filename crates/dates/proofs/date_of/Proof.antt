@@ -1,3 +1,4 @@
+-- The date is made of where its day falls.
 use borrow.Author.Needs.{needs}
 use Rattle.dates.proofs.Years.{year-short}
 use Rattle.dates.proofs.Dates.{date-is}

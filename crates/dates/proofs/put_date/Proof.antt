@@ -1,3 +1,4 @@
+-- The pieces one after the other.
 use borrow.Author.Needs.{needs}
 use Rattle.wire.proofs.Writing.{pen-then}
 use native.Mathlib.Omega.{arith}

@@ -1,3 +1,4 @@
+-- The mark, and then the digits.
 use borrow.Author.Needs.{needs}
 use Rattle.wire.proofs.Writing.{pen-then}
 use Rattle.dates.proofs.put_marked.Statement.{statement}

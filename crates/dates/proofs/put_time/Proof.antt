@@ -1,3 +1,4 @@
+-- 0 has words of its own, and any other time the text of its date.
 use borrow.Author.Needs.{needs}
 use Rattle.wire.proofs.Tests.{eq-yea, eq-nay}
 use Rattle.wire.proofs.Writing.{pen-is}

@@ -1,3 +1,4 @@
+-- One digit, or the digits before it and then it; the number falls with each.
 use borrow.Author.Needs.{needs}
 use Prim.Native.Nat.{ℕ, _<_, _/_}
 use borrow.Fn.Kinds.{In}

@@ -1,3 +1,4 @@
+-- The label, and then the number.
 use borrow.Author.Needs.{needs}
 use Rattle.decimal.proofs.Digits.{put-label}
 use native.Mathlib.Omega.{arith}

@@ -23,4 +23,5 @@ put-refusal-spec = tie.close (tie.spec
     let b = d .before .before .before .before in
     let p = b .before .before .before .before .before in
     let a = p .before .before .before .before in
-    pen-then (pen-then (pen-then (pen-then (a .put-labelled .ensures .0) (p .put-place .ensures .0)) (b .put-part .ensures)) (d .put-words .ensures .0)) (e .put-part2 .ensures)))
+    let placed = pen-then (a .put-labelled .ensures .0) (p .put-place .ensures .0) in
+    pen-then (pen-then (pen-then placed (b .put-part .ensures)) (d .put-words .ensures .0)) (e .put-part2 .ensures)))

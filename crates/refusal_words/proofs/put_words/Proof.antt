@@ -1,36 +1,83 @@
--- Each number has its words.
+-- Each row of the table writes its words, and a number of no row the others.
 use borrow.Author.Needs.{needs}
-use Rattle.refusal_words.specs.RefusalWords.{refusalWords}
-use Rattle.wire.proofs.Tests.{eq-yea, eq-nay}
-use Rattle.wire.proofs.Writing.{pen-is}
-use mathlib.Core.Path.{refl}
-use native.Mathlib.Omega.{arith}
+use Rattle.wire.specs.Tests.{ifEq}
+use Rattle.refusal_words.specs.RefusalWords.{wordsIn, refusalWords}
+use Rattle.refusal_words.proofs.Words.{row-put, none-put}
 use Rattle.refusal_words.proofs.put_words.Statement.{statement}
 use Rattle.refusal_words.proofs.put_words.Tie as tie
 
 pub put-words-spec : {M : Type 1} → statement M
-unfolding refusalWords
+unfolding ifEq wordsIn refusalWords
 put-words-spec = tie.close (tie.spec
     (λ c. search needs)
     (λ c κs. search needs)
     (λ c. search needs)
-    (λ c. (pen-is (eq-yea _ _ _ _ _ (omega arith) refl) (c .before .before .put-part .ensures), omega arith))
+    (λ c κs. search needs)
     (λ c. search needs)
     (λ c κs. search needs)
     (λ c. search needs)
-    (λ c. (pen-is (eq-nay _ _ _ _ _ (omega arith) (eq-yea _ _ _ _ _ (omega arith) refl)) (c .before .before .put-part2 .ensures), omega arith))
+    (λ c κs. search needs)
     (λ c. search needs)
     (λ c κs. search needs)
     (λ c. search needs)
-    (λ c. (pen-is (eq-nay _ _ _ _ _ (omega arith) (eq-nay _ _ _ _ _ (omega arith) (eq-yea _ _ _ _ _ (omega arith) refl))) (c .before .before .put-part3 .ensures), omega arith))
+    (λ c κs. search needs)
     (λ c. search needs)
     (λ c κs. search needs)
     (λ c. search needs)
-    (λ c. (pen-is (eq-nay _ _ _ _ _ (omega arith) (eq-nay _ _ _ _ _ (omega arith) (eq-nay _ _ _ _ _ (omega arith) (eq-yea _ _ _ _ _ (omega arith) refl)))) (c .before .before .put-part4 .ensures), omega arith))
+    (λ c κs. search needs)
     (λ c. search needs)
     (λ c κs. search needs)
     (λ c. search needs)
-    (λ c. (pen-is (eq-nay _ _ _ _ _ (omega arith) (eq-nay _ _ _ _ _ (omega arith) (eq-nay _ _ _ _ _ (omega arith) (eq-nay _ _ _ _ _ (omega arith) (eq-yea _ _ _ _ _ (omega arith) refl))))) (c .before .before .put-part5 .ensures), omega arith))
     (λ c κs. search needs)
     (λ c. search needs)
-    (λ c. (pen-is (eq-nay _ _ _ _ _ (omega arith) (eq-nay _ _ _ _ _ (omega arith) (eq-nay _ _ _ _ _ (omega arith) (eq-nay _ _ _ _ _ (omega arith) (eq-nay _ _ _ _ _ (omega arith) refl))))) (c .before .before .put-track .ensures .0), omega arith)))
+    (λ c κs. search needs)
+    (λ c. search needs)
+    (λ c κs. search needs)
+    (λ c. search needs)
+    (λ c κs. search needs)
+    (λ c. search needs)
+    (λ c κs. search needs)
+    (λ c. search needs)
+    (λ c κs. search needs)
+    (λ c. search needs)
+    (λ c κs. search needs)
+    (λ c. search needs)
+    (λ c κs. search needs)
+    (λ c. search needs)
+    (λ c κs. search needs)
+    (λ c. search needs)
+    (λ c. row-put (c .before .before .before .before .before .match .keys1) (c .before .before .put-part .ensures))
+    (λ c. search needs)
+    (λ c. row-put (c .before .before .before .before .before .match .keys2) (c .before .before .put-part2 .ensures))
+    (λ c. search needs)
+    (λ c. row-put (c .before .before .before .before .before .match .keys3) (c .before .before .put-part3 .ensures))
+    (λ c. search needs)
+    (λ c. row-put (c .before .before .before .before .before .match .keys4) (c .before .before .put-part4 .ensures))
+    (λ c. search needs)
+    (λ c. row-put (c .before .before .before .before .before .match .keys5) (c .before .before .put-part5 .ensures))
+    (λ c. search needs)
+    (λ c. row-put (c .before .before .before .before .before .match .keys6) (c .before .before .put-part6 .ensures))
+    (λ c. search needs)
+    (λ c. row-put (c .before .before .before .before .before .match .keys7) (c .before .before .put-part7 .ensures))
+    (λ c. search needs)
+    (λ c. row-put (c .before .before .before .before .before .match .keys8) (c .before .before .put-part8 .ensures))
+    (λ c. search needs)
+    (λ c. row-put (c .before .before .before .before .before .match .keys9) (c .before .before .put-part9 .ensures))
+    (λ c. search needs)
+    (λ c. row-put (c .before .before .before .before .before .match .keys10) (c .before .before .put-part10 .ensures))
+    (λ c. search needs)
+    (λ c. row-put (c .before .before .before .before .before .match .keys11) (c .before .before .put-part11 .ensures))
+    (λ c. search needs)
+    (λ c. row-put (c .before .before .before .before .before .match .keys12) (c .before .before .put-part12 .ensures))
+    (λ c. search needs)
+    (λ c. row-put (c .before .before .before .before .before .match .keys13) (c .before .before .put-part13 .ensures))
+    (λ c. search needs)
+    (λ c. row-put (c .before .before .before .before .before .match .keys14) (c .before .before .put-part14 .ensures))
+    (λ c. search needs)
+    (λ c. row-put (c .before .before .before .before .before .match .keys15) (c .before .before .put-part15 .ensures))
+    (λ c. search needs)
+    (λ c. row-put (c .before .before .before .before .before .match .keys16) (c .before .before .put-part16 .ensures))
+    (λ c. search needs)
+    (λ c. row-put (c .before .before .before .before .before .match .keys17) (c .before .before .put-part17 .ensures))
+    (λ c. search needs)
+    (λ c. none-put (c .before .before .before .before .before .match .rest) (c .before .before .put-part18 .ensures)))

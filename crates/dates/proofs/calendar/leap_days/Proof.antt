@@ -1,3 +1,4 @@
+-- The tests are those of the definition.
 use Rattle.dates.specs.Calendar.{leapDays}
 use Rattle.wire.proofs.Tests.{eq-yea, eq-nay}
 use mathlib.Core.Path.{refl}

@@ -1,3 +1,4 @@
+-- The array is the table of the definition.
 use borrow.Author.Needs.{needs}
 use Rattle.dates.proofs.Years.{month-is}
 use Rattle.dates.proofs.calendar.month_days.Statement.{statement}

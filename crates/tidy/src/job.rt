@@ -1,0 +1,44 @@
+// What is done with one file, once it is read.
+use crate::edit;
+use crate::edit::Edit;
+use crate::list;
+use crate::record;
+use tidy_files::input;
+use tidy_words::tell;
+use wire::lend;
+
+// A record is that of an entry; its changes are the arguments from 3 to an end.
+pub enum Job {
+    List,
+    Make(Edit),
+    Table(usize),
+    Record(usize),
+    Change { entry: usize, end: usize },
+}
+
+// A sheet that was not read whole isn't judged.
+fn table(track: usize, from: &[u8], sheet: &[u8], to: &[u8]) -> usize {
+    if input::ROOM <= sheet.len() {
+        return tell::wrong(b"longer than any sheet: ", from);
+    }
+    edit::run(Edit::Table(track), sheet, to)
+}
+
+fn apply(job: Job, from: &[u8], file: &[u8], to: &[u8]) -> usize {
+    match job {
+        Job::List => list::run(file),
+        Job::Make(edit) => edit::run(edit, file, to),
+        Job::Table(track) => table(track, from, file, to),
+        Job::Record(i) => record::show(file, i),
+        Job::Change { entry, end } => record::change(file, entry, end, to),
+    }
+}
+
+pub fn run(job: Job, from: &[u8], to: &[u8]) -> usize {
+    let mut room = input::room();
+    let n = input::read(from, &mut room);
+    if n == input::FAILED {
+        return tell::FAILED;
+    }
+    apply(job, from, lend::front(&room, n), to)
+}

@@ -1,0 +1,3 @@
+// The numbers among the arguments of the program `tidy`.
+pub mod minutes;
+pub mod parse;

@@ -1,0 +1,129 @@
+// What the words are for.
+use crate::tell;
+use crate::tell::print;
+use crate::word;
+
+// What is answered for a word that there isn't.
+const UNKNOWN: usize = 3;
+
+fn put_edits(to: i32) -> usize {
+    print(
+        to,
+        b"\
+        tidy list FILE                             what the file holds\n\
+        tidy shift MINUTES FILE OUT                every time less so many minutes\n\
+        tidy move FILE OUT                         moov right after ftyp\n",
+    )
+}
+
+fn put_records(to: i32) -> usize {
+    print(
+        to,
+        b"\
+        tidy record N FILE                         the fields of the record of entry N\n\
+        tidy record N FIELD=VALUE... FILE OUT      the record of entry N with these fields changed\n",
+    )
+}
+
+fn put_others(to: i32) -> usize {
+    print(
+        to,
+        b"\
+        tidy newer FILE MINUTES FILE MINUTES       which file is newer\n\
+        tidy sheet FILE OUT                        the sheet of all sample entries\n\
+        tidy table T SHEET OUT                     the stsd of track T of a sheet\n\
+        tidy help [WORD]                           this, or more on a word\n\n\
+        FILE and OUT may be - for standard input and output. OUT must not exist.\n",
+    )
+}
+
+fn put_all(to: i32) -> usize {
+    put_edits(to);
+    put_records(to);
+    put_others(to)
+}
+
+// More on the first four words.
+fn put_first(to: i32, number: usize) -> usize {
+    match number {
+        word::LIST => print(
+            to,
+            b"\
+            tidy list FILE\n\
+            Prints whether the file is accepted, then its tracks, its entries and its brands.\n\
+            A file of more than 65536 bytes is too long here.\n",
+        ),
+        word::SHIFT => print(
+            to,
+            b"\
+            tidy shift MINUTES FILE OUT\n\
+            Takes 60 times MINUTES, -840 to 840, from each creation and modification time that isn't 0.\n\
+            Says what the file's modification time was and is.\n",
+        ),
+        word::MOVE => print(
+            to,
+            b"tidy move FILE OUT\nPuts moov right after ftyp; all else keeps its order.\n",
+        ),
+        word::RECORD => print(
+            to,
+            b"\
+            tidy record N FILE\n\
+            tidy record N FIELD=VALUE... FILE OUT\n\
+            Entry N is counted from 1, as list does. It is a samr, sawb or s263.\n\
+            Fields of a samr and a sawb: vendor, version, modes, period, frames.\n\
+            Fields of an s263: vendor, version, level, profile, rates (none, or an average, a comma and a maximum).\n\
+            Numbers are decimal, or hexadecimal behind 0x.\n",
+        ),
+        _ => UNKNOWN,
+    }
+}
+
+// More on a word.
+fn put_word(to: i32, number: usize) -> usize {
+    match number {
+        word::NEWER => print(
+            to,
+            b"\
+            tidy newer FILE MINUTES FILE MINUTES\n\
+            Compares the files' modification times. MINUTES, -840 to 840, is how far that file's clock is ahead of universal time.\n",
+        ),
+        word::SHEET => print(
+            to,
+            b"\
+            tidy sheet FILE OUT\n\
+            Writes all sample entries behind a list of their kinds, tracks, places and lengths.\n",
+        ),
+        word::TABLE => print(
+            to,
+            b"\
+            tidy table T SHEET OUT\n\
+            Writes the stsd box of track T, counted from 1, of a sheet.\n",
+        ),
+        word::HELP => print(to, b"tidy help [WORD]\n"),
+        _ => put_first(to, number),
+    }
+}
+
+// More on a word, or all words where there is no such word.
+pub fn on(word: &[u8]) -> usize {
+    if word.len() == 0 {
+        return put_all(1);
+    }
+    let status = put_word(1, word::number(word));
+    if status == UNKNOWN {
+        return wrong(word);
+    }
+    status
+}
+
+// A word that isn't known, or is used in another way than it is.
+pub fn wrong(word: &[u8]) -> usize {
+    if put_word(2, word::number(word)) != UNKNOWN {
+        return tell::FAILED;
+    }
+    if 0 < word.len() {
+        tell::wrong(b"no such word: ", word);
+    }
+    put_all(2);
+    tell::FAILED
+}

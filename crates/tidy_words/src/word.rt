@@ -1,0 +1,34 @@
+// The words that the first argument can be, by their numbers.
+use crate::table;
+
+pub const LIST: usize = 0;
+
+pub const SHIFT: usize = 1;
+
+pub const MOVE: usize = 2;
+
+pub const RECORD: usize = 3;
+
+pub const NEWER: usize = 4;
+
+pub const SHEET: usize = 5;
+
+pub const TABLE: usize = 6;
+
+pub const HELP: usize = 7;
+
+// The number of a word; that of none where there is no such word.
+pub fn number(text: &[u8]) -> usize {
+    table::find(
+        b"\
+        list      \
+        shift     \
+        move      \
+        record    \
+        newer     \
+        sheet     \
+        table     \
+        help      ",
+        text,
+    )
+}
