@@ -1,7 +1,6 @@
 // Prints the listing of a file. The file is named by the first argument, or is standard input.
-mod input;
-
 use rule::Answer;
+use tidy_files::input;
 use wire::lend;
 
 // The longest file that this program reads.

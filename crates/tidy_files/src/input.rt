@@ -3,7 +3,7 @@ use boxes::containers::LONGEST;
 use tidy_words::tell;
 use wire::compare;
 
-// What is answered in place of a length where a read fails.
+// What is answered in place of a length where a read fails; no buffer here is as long.
 pub const FAILED: usize = 2000000;
 
 // Room for the longest file and, since a sheet is at most 100 bytes longer than its file, for its sheet; what fills it is longer than either.
@@ -23,7 +23,7 @@ fn read_some(input: i32, part: &mut [u8]) -> usize {
 }
 
 // Reads until the input ends or the buffer is full.
-fn read_all(input: i32, buffer: &mut [u8]) -> usize {
+pub fn read_all(input: i32, buffer: &mut [u8]) -> usize {
     let mut done = 0;
     while done < buffer.len() {
         let n = read_some(input, &mut buffer[done..]);
