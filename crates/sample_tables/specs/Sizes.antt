@@ -32,3 +32,7 @@ sizeAt stsz j = ifEq (common stsz) 0 (word 4 stsz (12 + 4 * j)) (common stsz)
 -- the bytes of n samples from the given one on, laid end to end
 unfoldable pub bytesFrom : List ℕ → ℕ → ℕ → ℕ
 bytesFrom stsz first n = sumTo (λ j. sizeAt stsz (first + j)) n
+
+-- the sum of the four sizes at a place
+abbrev pub fourAt : List ℕ → ℕ → ℕ
+fourAt stsz at = word 4 stsz at + word 4 stsz (at + 4) + word 4 stsz (at + 8) + word 4 stsz (at + 12)

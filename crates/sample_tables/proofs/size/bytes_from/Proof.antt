@@ -1,26 +1,17 @@
--- The invariant: the bytes of the first i samples, each size of 32 bits.
+-- A common size is taken n times; of the listed ones those past the end are 0.
 use borrow.Author.Needs.{needs}
-use Prim.Native.Nat.{_*_, _-_, _≤_}
-use Rattle.sample_tables.proofs.Sizes.{bytes-none, bytes-more}
-use Rattle.sample_tables.specs.Sizes.{bytesFrom}
-use mathlib.Core.Path.{_≡_}
+use Rattle.sample_tables.proofs.Sizes.{bytes-common, bytes-inside}
+use Rattle.sample_tables.proofs.Times.{tick-most}
+use mathlib.Core.Path.{sym, _∙_}
 use native.Mathlib.Omega.{arith}
 use Rattle.sample_tables.proofs.size.bytes_from.Statement.{statement}
 use Rattle.sample_tables.proofs.size.bytes_from.Tie as tie
 
-abbrev Inv : tie.InvT-loop
-Inv stsz first n i₀ sum₀ i sum = (i ≤ n) × (sum ≡ bytesFrom stsz first i) × (sum ≤ i * 4294967295)
-
-abbrev μ : tie.MeasureT-loop
-μ stsz first n i₀ sum₀ i sum = n - i
-
 pub bytes-from-spec : {M : Type 1} → statement M
-bytes-from-spec = tie.close (tie.spec Inv μ
-    (λ c. (search needs, bytes-none _ _, search needs))
-    (λ c. search needs)
+bytes-from-spec = tie.close (tie.spec
     (λ c κs. search needs)
-    (λ c. search needs)
-    (λ c. search needs)
-    (λ c. search needs)
-    (λ c. (search needs, rw bytes-more (omega arith), omega arith))
-    (λ c. let e : c .before .loop .i ≡ c .before .before .before .args .n = omega arith in (cc, omega arith)))
+    (λ c κs. search needs)
+    (λ c κs. (omega arith, omega arith, omega arith))
+    (λ c. (c .sum-from .ensures .0 ∙ bytes-inside _ (omega arith) _ _ (c .before .inside .ensures), omega arith))
+    (λ c. omega (arith, tick-most (c .before .before .before .args .n) (c .before .word32 .ensures .1)))
+    (λ c. (bytes-common _ _ _ (c .before .word32 .ensures .0) (omega arith), tick-most _ (c .before .word32 .ensures .1))))
