@@ -7,14 +7,8 @@ use Rattle.wire.proofs.Tests.{lt-yea, lt-nay, lt-or}
 use Rattle.wire.proofs.Sums.{sum-level}
 use Rattle.sample_tables.specs.Tables.{items}
 use Rattle.sample_tables.specs.Runs.{firstChunk, perChunk, runStart, Rising}
-use Rattle.sample_tables.specs.Chunks.{samplesIn, firstSample, Walkable}
-use Rattle.sample_tables.proofs.LastRun.{Last, run-is}
-
--- the chunks from a to b are those of run i
-record Covers (stsc : List ℕ) (chunks i a b : ℕ) : Type 0 where
-  pub ordered : a ≤ b
-  pub within : b ≤ chunks
-  pub own : (j : ℕ) → a ≤ j → j < b → Last stsc j i
+use Rattle.sample_tables.specs.Chunks.{samplesIn, firstSample, Covers}
+use Rattle.sample_tables.proofs.LastRun.{run-is}
 
 module _ (stsc : List ℕ) (chunks : ℕ) where
   start-here : (i : ℕ) → i < items stsc → runStart stsc chunks i ≡ min (firstChunk stsc i - 1) chunks
@@ -34,26 +28,33 @@ module _ (stsc : List ℕ) (chunks : ℕ) where
       (λ l. rw (start-past 0 l) (lt-or 0 chunks (λ m. absurd (omega (arith, h m))) (λ m. omega arith)))
 
   module _ (rs : Rising stsc) (i : ℕ) (h : i < items stsc) where
-    covers : Covers stsc chunks i (runStart stsc chunks i) (runStart stsc chunks (i + 1))
-    covers =
+    pub covers : {k end : ℕ} → k ≡ runStart stsc chunks i → end ≡ runStart stsc chunks (i + 1) → Covers stsc chunks i k end
+    covers {k} {end} p q =
         lt-or (i + 1) (items stsc)
-        (λ m. rw (start-here i h, start-here (i + 1) m) (record {
+        (λ m.
+        let a = p ∙ start-here i h in
+        let b = q ∙ start-here (i + 1) m in
+        record {
+          inside = h;
           ordered = omega (arith, rs .rise i m);
           within = omega arith;
-          own = λ j p q. record { inside = h; reached = omega arith; past = λ l. omega arith };
-        }))
-        (λ m. rw (start-here i h, start-past (i + 1) m) (record {
+          own = λ j f g. run-is stsc rs j i (record { inside = h; reached = omega arith; past = λ l. omega arith });
+        })
+        (λ m.
+        let a = p ∙ start-here i h in
+        let b = q ∙ start-past (i + 1) m in
+        record {
+          inside = h;
           ordered = omega arith;
           within = omega arith;
-          own = λ j p q. record { inside = h; reached = omega arith; past = λ l. absurd (omega arith) };
-        }))
+          own = λ j f g. run-is stsc rs j i (record { inside = h; reached = omega arith; past = λ l. absurd (omega arith) });
+        })
 
-    -- the chunks of a run add as many samples each
-    pub run-more : {k end per : ℕ} → k ≡ runStart stsc chunks i → end ≡ runStart stsc chunks (i + 1) → per ≡ perChunk stsc i
-        → (k ≤ end) × (end ≤ chunks) × (firstSample stsc end ≡ firstSample stsc k + (end - k) * per)
-    unfolding firstSample samplesIn
-    run-more {k} {end} {per} p q r =
-        let c : Covers stsc chunks i k end = rw (p, q) covers in
-        let e : k + (end - k) ≡ end = omega (arith, c .ordered) in
-        let s = sum-level (samplesIn stsc) k (end - k) per (λ j l. ap (perChunk stsc) (sym (run-is stsc rs (k + j) i (c .own (k + j) (omega arith) (omega arith)))) ∙ sym r) in
-        (c .ordered, c .within, sym (ap (firstSample stsc) e) ∙ s)
+-- the chunks of a run add as many samples each
+pub run-more : {stsc : List ℕ} {chunks i k end per : ℕ} → Covers stsc chunks i k end → per ≡ perChunk stsc i
+    → firstSample stsc end ≡ firstSample stsc k + (end - k) * per
+unfolding firstSample samplesIn
+run-more {stsc} {chunks} {i} {k} {end} {per} c r =
+    let e : k + (end - k) ≡ end = omega (arith, c .ordered) in
+    sym (ap (firstSample stsc) e) ∙ sum-level (samplesIn stsc) k (end - k) per
+    (λ j l. ap (perChunk stsc) (sym (c .own (k + j) (omega arith) (omega arith))) ∙ sym r)

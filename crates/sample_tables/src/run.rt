@@ -5,7 +5,8 @@ ghost use mathlib.Core.Path.{_≡_};
 ghost use Prim.Native.Nat.{_+_, _^_, _<_};
 ghost use Rattle.wire.specs.Clauses.{oneIf};
 ghost use Rattle.sample_tables.specs.Tables.{Table, items};
-ghost use Rattle.sample_tables.specs.Runs.{firstChunk, perChunk, description as descriptionIn, rises as risesOf, runFine, runsFine, runOf, runStart, Rising};
+ghost use Rattle.sample_tables.specs.Runs.{firstChunk, perChunk, description as descriptionIn};
+ghost use Rattle.sample_tables.specs.Runs.{rises as risesOf, runFine, runsFine, runOf, runStart, Rising};
 
 // The number of run i's first chunk, from 1.
 fn start_of(stsc: &[u8], i: usize) -> usize

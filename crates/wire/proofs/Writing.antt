@@ -66,7 +66,8 @@ put-more out at xs i h k =
 
 -- and piece by piece, each by way of another buffer
 pub put-piece : (out : List ℕ) (at : ℕ) (xs : List ℕ) (i k : ℕ) (piece : List ℕ) {mid held after : List ℕ} → k ≤ length piece → mid ≡ put out at (take i xs)
-    → held ≡ put piece 0 (take (i + k - i) (drop i xs)) → after ≡ put mid (at + i) (take (k - 0) held) → at + length xs ≤ length out → i + k ≤ length xs → after ≡ put out at (take (i + k) xs)
+    → held ≡ put piece 0 (take (i + k - i) (drop i xs)) → after ≡ put mid (at + i) (take (k - 0) held) → at + length xs ≤ length out
+    → i + k ≤ length xs → after ≡ put out at (take (i + k) xs)
 put-piece out at xs i k piece {held = held} m p q r h l =
     let a : length (take i xs) ≡ i = length-take-le i xs (omega arith) in
     let b : length (take k (drop i xs)) ≡ k = length-take-le k (drop i xs) (rw length-drop (omega arith)) in

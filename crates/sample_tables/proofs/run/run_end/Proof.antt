@@ -1,3 +1,4 @@
+-- Past the last run all chunks stand before its end.
 use borrow.Author.Needs.{needs}
 use Rattle.sample_tables.specs.Runs.{runStart}
 use Rattle.wire.proofs.Tests.{lt-yea, lt-nay}

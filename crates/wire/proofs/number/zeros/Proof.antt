@@ -41,4 +41,5 @@ zeros-spec = tie.close (tie.spec Inv μ Inv2 μ2
     (λ c. search needs)
     (λ c. search needs)
     (λ c. (omega arith, zero-join _ 1 _ _ (omega arith) (omega arith) (word-byte _ _ ∙ omega arith)))
-    (λ c. let e : c .before .loop2 .i ≡ c .before .before .before .before .before .before .before .args .n = omega arith in yea _ (sym (is-eq _ _ (rw e at (c .before .loop2 .inv .1))))))
+    (λ c. let e : c .before .loop2 .i ≡ c .before .before .before .before .before .before .before .args .n = omega arith in
+    yea _ (sym (is-eq _ _ (rw e at (c .before .loop2 .inv .1))))))

@@ -35,7 +35,9 @@ copy-at-spec = tie.close (tie.spec Inv μ
     (λ c. search needs)
     (λ c. let l = c .before .before .before .before .before .before .before .before .before .before .before .before in
     let a = l .before .before .before .args in
-    let e = put-piece (a .out .now) (a .at) (a .src .now) (l .loop .i) _ (l .loop .piece) (omega arith) (l .loop .inv .2) (c .before .before .before .before .before .before .before .lay .ensures) (c .before .before .lay2 .ensures) (omega arith) (omega arith) in
+    let e = put-piece (a .out .now) (a .at) (a .src .now) (l .loop .i) _ (l .loop .piece) (omega arith) (l .loop .inv .2)
+    (c .before .before .before .before .before .before .before .lay .ensures) (c .before .before .lay2 .ensures) (omega arith) (omega arith) in
     (search needs, search needs, e, search needs, search needs))
     (λ c. search needs)
-    (λ c. let e : c .before .loop .i ≡ length (c .before .before .before .before .args .src .now) = omega arith in rw (e, take-length) at (c .before .loop .inv .2)))
+    (λ c. let e : c .before .loop .i ≡ length (c .before .before .before .before .args .src .now) = omega arith in
+    rw (e, take-length) at (c .before .loop .inv .2)))

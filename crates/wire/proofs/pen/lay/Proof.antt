@@ -24,6 +24,11 @@ lay-spec = tie.close (tie.spec Inv μ
     (λ c. search needs)
     (λ c. search needs)
     (λ c. search needs)
-    (λ c. let l = c .before .before in let a = l .before .args in (omega arith, rw (l .loop .inv .1) (put-more (a .out .now) (a .at) (a .src .now) (l .loop .i) (omega arith) (omega arith)), simp length-set (l .loop .inv .2)))
+    (λ c. let l = c .before .before in let a = l .before .args in (
+      omega arith,
+      rw (l .loop .inv .1) (put-more (a .out .now) (a .at) (a .src .now) (l .loop .i) (omega arith) (omega arith)),
+      simp length-set
+          (l .loop .inv .2),
+    ))
     (λ c. search needs)
     (λ c. let e : c .before .loop .i ≡ length (c .before .before .args .src .now) = omega arith in rw (e, take-length) at (c .before .loop .inv .1)))
