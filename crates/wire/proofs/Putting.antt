@@ -11,20 +11,20 @@ use Rattle.wire.proofs.Numbers.{length-bytes, bytes-word}
 use Rattle.wire.proofs.Writing.{put-none, put-before}
 
 -- a number on its way from the last byte to the first: those from i on are put, and the i before them are the last of m
-pub record Behind (out : List ℕ) (at width n : ℕ) (now : List ℕ) (i m : ℕ) : Type 0 where
+pub record Behind (out : List ℕ) (at width n : ℕ) (mid : List ℕ) (i m : ℕ) : Type 0 where
   pub tail : List ℕ
   pub long : i + length tail ≡ width
   pub left : bytesOn i m tail ≡ bytes width n
-  pub same : length now ≡ length out
-  pub is : at + width ≤ length out → now ≡ put out (at + i) tail
+  pub same : length mid ≡ length out
+  pub is : at + width ≤ length out → mid ≡ put out (at + i) tail
 
 pub behind-none : (out : List ℕ) (at width n : ℕ) → Behind out at width n out width n
 unfolding bytes
 behind-none out at width n = record { tail = []; long = omega arith; left = refl; same = refl; is = λ h. sym (put-none out (at + width)) }
 
-module _ {out : List ℕ} {at width n : ℕ} {now : List ℕ} {i m : ℕ} (b : Behind out at width n now i m) where
+module _ {out : List ℕ} {at width n : ℕ} {mid : List ℕ} {i m : ℕ} (b : Behind out at width n mid i m) where
   -- one byte more
-  pub behind-more : {r : ℕ} {after : List ℕ} → 0 < i → Put (m % 256 ∷ []) now (at + (i - 1)) r after → Behind out at width n after (i - 1) (m / 256)
+  pub behind-more : {r : ℕ} {after : List ℕ} → 0 < i → Put (m % 256 ∷ []) mid (at + (i - 1)) r after → Behind out at width n after (i - 1) (m / 256)
   unfolding bytesOn
   behind-more h p =
       let s : suc (i - 1) ≡ i = omega arith in
@@ -37,7 +37,7 @@ module _ {out : List ℕ} {at width n : ℕ} {now : List ℕ} {i m : ℕ} (b : B
         is = λ k. p .is (omega (arith, p .next, b .same)) ∙ rw (b .is k, ← e) (put-before out (at + (i - 1)) (m % 256 ∷ []) (b .tail) (omega (arith, b .long)));
       }
 
-  pub behind-all : i ≡ 0 → Put (bytes width n) out at (at + width) now
+  pub behind-all : i ≡ 0 → Put (bytes width n) out at (at + width) mid
   unfolding bytesOn
   behind-all e =
       let l : length (bytes width n) ≡ width = length-bytes width n in
