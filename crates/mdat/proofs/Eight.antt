@@ -1,4 +1,4 @@
--- Laws of rule 8, for the loop over the walk by chunk. Assumes nothing.
+-- Laws of rule 8, for the loops over the runs and their chunks. Assumes nothing.
 use Prim.Native.Nat.{ℕ, _+_, _≤_, _<_}
 use native.Mathlib.Omega.{arith}
 use mathlib.Core.Path.{_≡_, sym, _∙_}
@@ -9,10 +9,11 @@ use Rattle.wire.proofs.Sums.{all-none, all-more, all-of, all-at, all-fails}
 use Rattle.boxes.specs.Box.{Box}
 use Rattle.boxes.proofs.Reading.{All, Headed}
 use Rattle.sample_tables.specs.Tables.{items}
-use Rattle.sample_tables.specs.Chunks.{offsetAt, chunkAt, extentOf, extentAt}
-use Rattle.sample_tables.specs.declared.chunk.Chunk.{Chunk}
-use Rattle.sample_tables.specs.declared.chunk.Extent.{Extent}
+use Rattle.sample_tables.specs.Sizes.{sampleCount, bytesFrom, Held}
+use Rattle.sample_tables.specs.Runs.{perChunk, runOf}
+use Rattle.sample_tables.specs.Chunks.{samplesIn, firstSample, offsetAt, chunkAt, extentOf, extentAt}
 use Rattle.sample_tables.proofs.Chunks.{first-more, first-mono}
+use Rattle.sample_tables.proofs.Sizes.{held-in}
 use Rattle.sample_tables.proofs.Rules.{extent-offset}
 use Rattle.mdat.specs.Payloads.{inAt}
 use Rattle.mdat.specs.Rules.{lies, chunkIn, chunksIn, chunksLie, Ready}
@@ -20,9 +21,21 @@ use Rattle.mdat.proofs.Inside.{lies-at}
 
 -- ---- the tables
 
-pub ready-few : {stsc stco : List ℕ} → Ready stsc stco → (k : ℕ) (c : Chunk) → c ≡ chunkAt stsc stco k → k < items stco → c .first + c .samples ≤ 65536
-unfolding chunkAt
-ready-few {stsc} {stco} r k c e h = rw e (omega (arith, r .few, first-more stsc k, first-mono stsc (k + 1) (items stco) (omega arith)))
+-- the samples of chunk k, by its run and its first sample
+module _ {stsc stsz stco : List ℕ} (r : Ready stsc stsz stco) (k : ℕ) {run first samples : ℕ} (p : run ≡ runOf stsc k)
+    (f : first ≡ firstSample stsc k) (s : samples ≡ perChunk stsc run) where
+  pub first-after : first + samples ≡ firstSample stsc (k + 1)
+  unfolding samplesIn
+  first-after = rw (s, p, f) (sym (first-more stsc k))
+
+  pub ready-held : k < items stco → Held stsz first samples
+  ready-held h =
+      let m : first + samples ≤ sampleCount stsz = omega (arith, first-after, r .total, first-mono stsc (k + 1) (items stco) (omega arith)) in
+      record { few = omega (arith, r .few); listed = λ z. held-in stsz z first (r .sizes) samples m }
+
+-- the first sample past a run
+pub run-few : {stsc stsz stco : List ℕ} → Ready stsc stsz stco → (end : ℕ) → end ≤ items stco → firstSample stsc end ≤ 65536
+run-few {stsc} {stsz} {stco} r end h = omega (arith, r .few, r .total, first-mono stsc end (items stco) h)
 
 -- ---- the chunks
 
@@ -49,9 +62,10 @@ module _ (l : List Box) (stsc stsz stco : List ℕ) where
   eight-of = all-of (chunkIn l stsc stsz stco) (items stco)
 
   -- the answer of one chunk
-  pub chunk-answer : (k : ℕ) {c : Chunk} {x : Extent} {r : ℕ} → c ≡ chunkAt stsc stco k → x ≡ extentOf stsz c → r ≡ oneIf (lies l 0 (x .offset) (x .bytes)) → r ≡ oneIf (chunkIn l stsc stsz stco k)
-  unfolding chunkIn
-  chunk-answer k e f q = q ∙ rw (f, e)
+  pub chunk-answer : (k : ℕ) {run first samples offset bytes r : ℕ} → run ≡ runOf stsc k → first ≡ firstSample stsc k → samples ≡ perChunk stsc run
+      → bytes ≡ bytesFrom stsz first samples → offset ≡ offsetAt stco k → r ≡ oneIf (lies l 0 offset bytes) → r ≡ oneIf (chunkIn l stsc stsz stco k)
+  unfolding chunkIn extentOf chunkAt samplesIn
+  chunk-answer k p f s b o q = q ∙ rw (o, b, s, f, p)
 
   -- where relocation finds it
   pub chunk-in : All Headed l → (k : ℕ) → chunkIn l stsc stsz stco k ≡ true → inAt l (offsetAt stco k) (extentAt stsc stsz stco k .bytes) ≡ true

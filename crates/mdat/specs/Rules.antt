@@ -1,5 +1,6 @@
 -- Rule 8: "Each chunk, its samples laid end to end from its offset, lies inside the payload of one top-level mdat."
 use Prim.Native.Nat.{ℕ, _+_, _≤_}
+use mathlib.Core.Path.{_≡_}
 use mathlib.Core.Bool.{Bool, true, false}
 use mathlib.Core.List.{List, [], _∷_}
 use Rattle.wire.specs.Tests.{pick}
@@ -8,6 +9,7 @@ use Rattle.wire.specs.Sums.{allTo}
 use Rattle.codes.specs.Codes.{MDAT}
 use Rattle.boxes.specs.Box.{Box, size}
 use Rattle.sample_tables.specs.Tables.{items}
+use Rattle.sample_tables.specs.Sizes.{sampleCount, Sizes}
 use Rattle.sample_tables.specs.Chunks.{samplesOver, extentAt, Walkable}
 
 -- one of the boxes, which stand from place p on, is an `mdat` whose payload has the n bytes from place o on
@@ -27,6 +29,13 @@ abbrev pub chunksLie : List Box → (stsc stsz stco : List ℕ) → Bool
 chunksLie l stsc stsz stco = chunksIn l stsc stsz stco (items stco)
 
 -- what a track's tables must be for it to be asked: rules 6 and 7 give this
-pub record Ready (stsc stco : List ℕ) : Type 0 where
+pub record Ready (stsc stsz stco : List ℕ) : Type 0 where
   pub walk : Walkable stsc stco
-  pub few : samplesOver stsc (items stco) ≤ 65536
+  pub sizes : Sizes stsz
+  pub few : sampleCount stsz ≤ 65536
+  pub total : samplesOver stsc (items stco) ≡ sampleCount stsz
+
+-- what an answer says of the chunks from one to another: 0 where one of them doesn't lie inside
+pub record Between (l : List Box) (stsc stsz stco : List ℕ) (from end r : ℕ) : Type 0 where
+  pub broken : r ≡ 0 → chunksLie l stsc stsz stco ≡ false
+  pub kept : (r ≡ 0 → ⊥) → chunksIn l stsc stsz stco from ≡ true → chunksIn l stsc stsz stco end ≡ true

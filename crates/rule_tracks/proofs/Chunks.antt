@@ -1,6 +1,5 @@
 -- What the answers of rule 8 say. Assumes nothing.
 use Prim.Native.Nat.{ℕ, _+_}
-use native.Mathlib.Omega.{arith}
 use mathlib.Core.Path.{_≡_, refl, sym, ap, _∙_}
 use mathlib.Core.Bool.{true, false}
 use mathlib.Core.List.{List}
@@ -26,9 +25,12 @@ module _ (m : List Box) (s : sixHolds m ≡ true) where
   asked-is = rw s
 
   -- rules 6 and 7 give what the walk over the chunks asks
-  pub ready : sevenAsked m ≡ true → Ready (find STSC m) (find STCO m)
+  pub ready : sevenAsked m ≡ true → Ready (find STSC m) (find STSZ m) (find STCO m)
   unfolding sevenHolds
-  ready e = let t = seven-is _ _ _ _ _ (six-is m s) (sym asked-is ∙ e) in record { walk = t .walk; few = omega (arith, t .few, t .total) }
+  ready e =
+      let six = six-is m s in
+      let t = seven-is _ _ _ _ _ six (sym asked-is ∙ e) in
+      record { walk = t .walk; sizes = six .sizes; few = t .few; total = t .total }
 
 module _ (l m : List Box) where
   pub eight-open : {r : ℕ} → sixHolds m ≡ true → sevenAsked m ≡ true

@@ -4,5 +4,6 @@ pub mod Sizes
 pub mod Runs
 pub mod LastRun
 pub mod Chunks
+pub mod RunSums
 pub mod Steps
 pub mod Rules

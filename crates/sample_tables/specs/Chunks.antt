@@ -1,5 +1,6 @@
 -- The chunks of a track, by number from 0: chunk k here is chunk k + 1 of the paper.
-use Prim.Native.Nat.{ℕ, _+_, _<_}
+use Prim.Native.Nat.{ℕ, _+_, _≤_, _<_}
+use mathlib.Core.Path.{_≡_}
 use mathlib.Core.List.{List}
 use Rattle.wire.specs.Tests.{ifLt}
 use Rattle.wire.specs.Sums.{sumTo}
@@ -63,3 +64,10 @@ pub record Walkable (stsc stco : List ℕ) : Type 0 where
   pub offsets : Table 4 stco
   pub rising : Rising stsc
   pub some : 0 < items stco → 0 < items stsc
+
+-- of so many chunks those from a to b are the ones of run i
+pub record Covers (stsc : List ℕ) (chunks i a b : ℕ) : Type 0 where
+  pub inside : i < items stsc
+  pub ordered : a ≤ b
+  pub within : b ≤ chunks
+  pub own : (j : ℕ) → a ≤ j → j < b → i ≡ runOf stsc j

@@ -1,9 +1,9 @@
 -- `stsc`: runs of chunks. Each item is the number of the run's first chunk (from 1), its samples per chunk, its description index.
-use Prim.Native.Nat.{ℕ, zero, suc, _+_, _-_, _<_}
+use Prim.Native.Nat.{ℕ, zero, suc, _+_, _-_, _<_, min}
 use mathlib.Core.Bool.{Bool}
 use mathlib.Core.Path.{_≡_}
 use mathlib.Core.List.{List, [], _∷_}
-use Rattle.wire.specs.Tests.{ifEq, ifLe}
+use Rattle.wire.specs.Tests.{ifEq, ifLt, ifLe}
 use Rattle.wire.specs.Sums.{allTo}
 use Rattle.wire.specs.Clauses.{isEq, isLt, isLe, every}
 use Rattle.sample_tables.specs.Tables.{items, field}
@@ -48,3 +48,7 @@ runAmong stsc k (suc n) = ifLe (firstChunk stsc n) (k + 1) n (runAmong stsc k n)
 
 unfoldable pub runOf : List ℕ → ℕ → ℕ
 runOf stsc k = runAmong stsc k (items stsc)
+
+-- how many of so many chunks stand before run i, and past the last run all of them
+unfoldable pub runStart : List ℕ → ℕ → ℕ → ℕ
+runStart stsc chunks i = ifLt i (items stsc) (min (firstChunk stsc i - 1) chunks) chunks

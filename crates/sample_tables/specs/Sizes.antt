@@ -1,7 +1,9 @@
 -- `stsz`: the common size of the samples at 4, their count at 8, and where the common size is 0 a table of sizes.
-use Prim.Native.Nat.{ℕ, _+_, _*_}
+use Prim.Native.Nat.{ℕ, _+_, _-_, _*_, _/_, _≤_}
 use mathlib.Core.Bool.{Bool}
+use mathlib.Core.Path.{_≡_}
 use mathlib.Core.List.{List}
+use lib.ListN.{length}
 use Rattle.wire.specs.Tests.{ifEq}
 use Rattle.wire.specs.Numbers.{word}
 use Rattle.wire.specs.Sums.{sumTo}
@@ -32,3 +34,12 @@ sizeAt stsz j = ifEq (common stsz) 0 (word 4 stsz (12 + 4 * j)) (common stsz)
 -- the bytes of n samples from the given one on, laid end to end
 unfoldable pub bytesFrom : List ℕ → ℕ → ℕ → ℕ
 bytesFrom stsz first n = sumTo (λ j. sizeAt stsz (first + j)) n
+
+-- the sum of the four sizes at a place
+abbrev pub fourAt : List ℕ → ℕ → ℕ
+fourAt stsz at = word 4 stsz at + word 4 stsz (at + 4) + word 4 stsz (at + 8) + word 4 stsz (at + 12)
+
+-- what reading the sizes of n samples from the given one on asks: they are there
+pub record Held (stsz : List ℕ) (first n : ℕ) : Type 0 where
+  pub few : first + n ≤ 65536
+  pub listed : common stsz ≡ 0 → n ≤ (length stsz - (12 + 4 * first)) / 4

@@ -81,22 +81,23 @@ impl ChunkWalk {
     }
 }
 
-// The samples over all chunks.
+// The samples over all chunks, run by run.
 pub fn samples_over(stsc: &[u8], stco: &[u8]) -> usize
     requires { ⌜ Walkable (now stsc) (now stco) ⌝ }
     ensures { λ r. ⌜ r ≡ samplesOver (now (stsc .entry)) (items (now (stco .entry))) ⌝ }
 {
-    let mut walk = ChunkWalk::start();
-    loop {
-        match walk.step(stsc, stco) {
-            ChunkStep::Found(_, next) => {
-                walk = next;
-            }
-            ChunkStep::End => {
-                return walk.sample;
-            }
-        }
+    let n = table::items(stsc);
+    let chunks = table::items(stco);
+    let mut i = 0;
+    let mut k = 0;
+    let mut sum = 0;
+    while i < n {
+        let end = run::run_end(stsc, chunks, i);
+        sum += (end - k) * run::per_chunk(stsc, i);
+        k = end;
+        i += 1;
     }
+    sum
 }
 
 // Where a chunk lies.

@@ -1,10 +1,12 @@
 // `stsc`: runs of chunks.
 use crate::table;
+use wire::number;
 ghost use mathlib.Core.Path.{_≡_};
 ghost use Prim.Native.Nat.{_+_, _^_, _<_};
 ghost use Rattle.wire.specs.Clauses.{oneIf};
 ghost use Rattle.sample_tables.specs.Tables.{Table, items};
-ghost use Rattle.sample_tables.specs.Runs.{firstChunk, perChunk, description as descriptionIn, rises as risesOf, runFine, runsFine, runOf, Rising};
+ghost use Rattle.sample_tables.specs.Runs.{firstChunk, perChunk, description as descriptionIn};
+ghost use Rattle.sample_tables.specs.Runs.{rises as risesOf, runFine, runsFine, runOf, runStart, Rising};
 
 // The number of run i's first chunk, from 1.
 fn start_of(stsc: &[u8], i: usize) -> usize
@@ -99,4 +101,15 @@ pub fn run_after(stsc: &[u8], k: usize, run: usize) -> usize
         return run;
     }
     run
+}
+
+// How many of so many chunks stand before the end of run i.
+pub fn run_end(stsc: &[u8], chunks: usize, i: usize) -> usize
+    requires { ⌜ Table 12 (now stsc) × Rising (now stsc) × (i < items (now stsc)) ⌝ }
+    ensures { λ r. ⌜ r ≡ runStart (now (stsc .entry)) chunks (i + 1) ⌝ }
+{
+    if i + 1 < table::items(stsc) {
+        return number::least(start_of(stsc, i + 1) - 1, chunks);
+    }
+    chunks
 }

@@ -143,16 +143,12 @@ zero-split v w xs at h e =
     let k : word v xs at * 1 ≤ word v xs at * 256 ^ w = mul-le-mul-left (word v xs at) (one-le-pow w 256 (omega arith)) in
     (omega (arith, word-join v w xs at h), omega (arith, word-join v w xs at h))
 
--- one byte more
-pub zero-more : (xs : List ℕ) (at i : ℕ) → at + i < length xs → word i xs at ≡ 0 → getD xs (at + i) 0 ≡ 0 → word (i + 1) xs at ≡ 0
-zero-more xs at i h e f = zero-join i 1 xs at (omega arith) e (word-byte xs (at + i) ∙ f)
-
--- a number with a byte that is not 0
-pub zero-not : (n : ℕ) (xs : List ℕ) (at i : ℕ) → at + n ≤ length xs → i < n → (getD xs (at + i) 0 ≡ 0 → ⊥) → word n xs at ≡ 0 → ⊥
-zero-not n xs at i h k f e =
-    let s : i + (1 + (n - i - 1)) ≡ n = omega arith in
-    let a = zero-split i (1 + (n - i - 1)) xs at (omega arith) (rw s e) in
-    f (sym (word-byte xs (at + i)) ∙ zero-split 1 (n - i - 1) xs (at + i) (omega arith) (a .1) .0)
+-- a number with a part that is not 0
+pub zero-not : (n w : ℕ) (xs : List ℕ) (at i : ℕ) → at + n ≤ length xs → i + w ≤ n → (word w xs (at + i) ≡ 0 → ⊥) → word n xs at ≡ 0 → ⊥
+zero-not n w xs at i h k f e =
+    let s : i + (w + (n - i - w)) ≡ n = omega arith in
+    let a = zero-split i (w + (n - i - w)) xs at (omega arith) (rw s e) in
+    f (zero-split w (n - i - w) xs (at + i) (omega arith) (a .1) .0)
 
 pub word-fits : (w : ℕ) (xs : List ℕ) (at : ℕ) → Bytes xs → word w xs at < 256 ^ w
 word-fits w xs at h =

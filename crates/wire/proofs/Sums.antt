@@ -36,6 +36,14 @@ sum-flat f m zero h l = let e : m ≡ 0 = omega arith in rw e
 sum-flat f m (suc n) h l =
     ⊎-elim (λ e. rw e) (λ k. let g = le-of-suc-le-suc k in omega (arith, h n g, sum-flat f m n h g)) (eq-or-lt-of-le l)
 
+-- d terms from a on that are all k
+pub sum-level : (f : ℕ → ℕ) (a d k : ℕ) → ((j : ℕ) → j < d → f (a + j) ≡ k) → sumTo f (a + d) ≡ sumTo f a + d * k
+unfolding sumTo
+sum-level f a zero k h = let e : a + 0 ≡ a = omega arith in rw e (omega arith)
+sum-level f a (suc d) k h =
+    let e : a + suc d ≡ suc (a + d) = omega arith in
+    rw (e, ← add-one d, add-mul d 1 k) (omega (arith, h d (omega arith), sum-level f a d k (λ j l. h j (omega arith))))
+
 -- terms that are each at most those of g
 pub sum-le : (f g : ℕ → ℕ) (n : ℕ) → ((i : ℕ) → f i ≤ g i) → sumTo f n ≤ sumTo g n
 unfolding sumTo

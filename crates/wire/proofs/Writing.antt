@@ -1,12 +1,12 @@
 -- Laws of writing. Assumes nothing.
-use Prim.Native.Nat.{ℕ, _+_, _/_, _%_, _≤_, _<_}
+use Prim.Native.Nat.{ℕ, _+_, _-_, _/_, _%_, _≤_, _<_}
 use native.Mathlib.Omega.{arith}
 use native.Mathlib.Nat.{add-assoc}
 use native.Mathlib.Numerals.{add-one}
 use mathlib.Core.Path.{_≡_, refl, sym, ap, _∙_}
 use mathlib.Core.List.{List, [], _∷_, _++_, append-assoc}
 use lib.ListN.{length, getD, take, drop, set, length-append, length-take, length-drop, take-append-drop}
-use lib.Seq.{take-append-le, take-take, take-at, drop-at, drop-drop, length-take-le, take-suc, set-split, sets-eq}
+use lib.Seq.{take-add, take-append-le, take-take, take-at, drop-at, drop-drop, length-take-le, take-suc, set-split, sets-eq}
 use Rattle.wire.specs.Numbers.{bytes}
 use Rattle.wire.specs.Writing.{put, Wrote, Put}
 use Rattle.wire.proofs.Numbers.{length-bytes, bytes16-is, bytes32-is}
@@ -63,6 +63,18 @@ put-more out at xs i h k =
     let l : length (take i xs) ≡ i = length-take-le i xs (omega arith) in
     let s : set (put out at (take i xs)) (at + i) (getD xs i 0) ≡ put (put out at (take i xs)) (at + i) (getD xs i 0 ∷ []) = put-one (put out at (take i xs)) (at + i) (getD xs i 0) (rw (length-put out at (take i xs) (omega arith)) h) in
     s ∙ rw (add-one, take-suc xs i 0) (rw l at (put-put out at (take i xs) (getD xs i 0 ∷ []) (rw l (omega arith))))
+
+-- and piece by piece, each by way of another buffer
+pub put-piece : (out : List ℕ) (at : ℕ) (xs : List ℕ) (i k : ℕ) (piece : List ℕ) {mid held after : List ℕ} → k ≤ length piece → mid ≡ put out at (take i xs)
+    → held ≡ put piece 0 (take (i + k - i) (drop i xs)) → after ≡ put mid (at + i) (take (k - 0) held) → at + length xs ≤ length out
+    → i + k ≤ length xs → after ≡ put out at (take (i + k) xs)
+put-piece out at xs i k piece {held = held} m p q r h l =
+    let a : length (take i xs) ≡ i = length-take-le i xs (omega arith) in
+    let b : length (take k (drop i xs)) ≡ k = length-take-le k (drop i xs) (rw length-drop (omega arith)) in
+    let e : i + k - i ≡ k = omega arith in
+    let z : k - 0 ≡ 0 + k = omega arith in
+    let f : take (0 + k) held ≡ take k (drop i xs) = rw (q, e) (rw b at (take-put piece 0 (take k (drop i xs)) (omega arith))) in
+    r ∙ rw (p, z, f, take-add i k xs) (rw a at (put-put out at (take i xs) (take k (drop i xs)) (omega arith)))
 
 pub put16-is : (out : List ℕ) (at n : ℕ) {after : List ℕ} → after ≡ put out at (n / 256 % 256 ∷ n % 256 ∷ []) → after ≡ put out at (bytes 2 n)
 put16-is out at n e = rw (bytes16-is n) at e

@@ -83,6 +83,12 @@ pub fn zeros(part: &[u8], at: usize, n: usize) -> usize
         return 1;
     }
     let mut i = 0;
+    while 4 <= n - i {
+        if word32_in(part, at + i) != 0 {
+            return 0;
+        }
+        i += 4;
+    }
     while i < n {
         if part[at + i] != 0 {
             return 0;

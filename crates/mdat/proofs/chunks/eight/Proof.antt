@@ -1,14 +1,15 @@
--- The invariant: the walk stands before a chunk, or past the last, and all chunks before it lie inside.
+-- The invariant: k chunks stand before run i, first counts their samples, and all of them lie inside.
 use borrow.Author.Needs.{needs}
 use Prim.Native.Nat.{_-_, _≤_}
 use Rattle.boxes.specs.Boxes.{boxes}
-use Rattle.mdat.proofs.Eight.{ready-few, chunks-none, chunks-more, chunks-fail, chunk-answer}
+use Rattle.mdat.proofs.Eight.{run-few, chunks-none}
 use Rattle.mdat.specs.Rules.{chunksIn}
-use Rattle.sample_tables.proofs.Chunks.{walk-start, walk-is, walk-chunk}
-use Rattle.sample_tables.proofs.Steps.{found-is, end-is}
-use Rattle.sample_tables.specs.Chunks.{walkAt}
+use Rattle.sample_tables.proofs.Chunks.{first-none}
+use Rattle.sample_tables.proofs.RunSums.{start-first, start-past, covers, run-more}
+use Rattle.sample_tables.specs.Chunks.{firstSample}
+use Rattle.sample_tables.specs.Runs.{runStart}
 use Rattle.sample_tables.specs.Tables.{items}
-use Rattle.wire.proofs.Clauses.{yea, nay, was-yea, was-nay}
+use Rattle.wire.proofs.Clauses.{yea, nay}
 use mathlib.Core.Bool.{true}
 use mathlib.Core.Path.{_≡_, sym, ap, _∙_}
 use native.Mathlib.Omega.{arith}
@@ -16,32 +17,47 @@ use Rattle.mdat.proofs.chunks.eight.Statement.{statement}
 use Rattle.mdat.proofs.chunks.eight.Tie as tie
 
 abbrev Inv : tie.InvT-loop
-Inv file stsc stsz stco walk₀ walk = (walk ≡ walkAt stsc (walk .chunk)) × (walk .chunk ≤ items stco) × (chunksIn (boxes file) stsc stsz stco (walk .chunk) ≡ true)
+Inv file stsc stsz stco n chunks i₀ k₀ first₀ i k first = (n ≡ items stsc) × (i ≤ n) × (k ≡ runStart stsc (items stco) i)
+    × (first ≡ firstSample stsc k) × (chunksIn (boxes file) stsc stsz stco k ≡ true)
 
 abbrev μ : tie.MeasureT-loop
-μ file stsc stsz stco walk₀ walk = items stco - walk .chunk
+μ file stsc stsz stco n chunks i₀ k₀ first₀ i k first = n - i
 
 pub eight-spec : {M : Type 1} → statement M
 eight-spec = tie.close (tie.spec Inv μ
     (λ c κs. search needs)
-    (λ c. let e = c .start .ensures ∙ walk-start _ (c .before .before .before .before .before .pre .walk .rising) in
-    (walk-is _ _ 0 e, omega (arith, walk-chunk _ _ 0 e), rw (walk-chunk _ _ 0 e) (chunks-none _ _ _ _)))
-    (λ c κs. (c .before .before .before .before .before .before .pre .walk, c .loop .inv .0))
-    (λ c. search needs)
-    (λ c κs. let t = c .before .before .before in
-    let f = found-is _ _ _ _ _ (sym (c .before .found .given .1) ∙ t .step .ensures) in
-    ready-few (t .before .before .before .before .before .before .before .pre) _ _ (f .found) (f .inside))
     (λ c κs. search needs)
-    (λ c. let t = c .before .before .before .before .before .before in
-    let f = found-is _ _ _ _ _ (sym (c .before .before .before .before .found .given .1) ∙ t .step .ensures) in
-    nay _ (sym (chunks-fail _ _ _ _ _ _ (f .inside) (was-nay _ _ (c .if1 .taken) (chunk-answer _ _ _ _ _ (f .found) (c .before .before .extent-of .ensures) (c .before .in-payload .ensures))))))
-    (λ c. let t = c .before .before .before .before .before .before in
-    let f = found-is _ _ _ _ _ (sym (c .before .before .before .before .found .given .1) ∙ t .step .ensures) in
-    omega (arith, f .inside, f .moved))
-    (λ c. let t = c .before .before .before .before .before .before in
-    let f = found-is _ _ _ _ _ (sym (c .before .before .before .before .found .given .1) ∙ t .step .ensures) in
-    (f .walk, omega (arith, f .inside, f .moved), rw (f .moved) (chunks-more _ _ _ _ _ (t .before .loop .inv .2) (was-yea _ _ (c .if1 .left) (chunk-answer _ _ _ _ _ (f .found) (c .before .before .extent-of .ensures) (c .before .in-payload .ensures))))))
+    (λ c. let w = c .before .before .before .before .before .before .pre .walk in
+    (search needs, search needs, start-first _ _ (w .rising) (w .some), first-none _, chunks-none _ _ _ _))
+    (λ c κs. let w = c .before .before .before .before .before .before .before .before .pre .walk in (w .runs, w .rising, omega arith))
+    (λ c κs. let l = c .before .before in (
+      l .before .before .before .before .before .before .before .pre,
+      covers _ _
+          (l .before .before .before .before .before .before .before .pre .walk .rising) _ (omega arith) (l .loop .inv .2)
+          (rw (l .before .items2 .ensures .0) at (c .run-end .ensures)),
+      l .loop .inv .3,
+    ))
+    (λ c. nay _ (sym (c .before .run-lies .ensures .broken (c .if1 .taken))))
+    (λ c. let l = c .before .before .before .before in covers _ _ (l .before .before .before .before .before .before .before .pre .walk .rising) _
+    (omega arith) (l .loop .inv .2) (rw (l .before .items2 .ensures .0) at (c .before .before .run-end .ensures)) .ordered)
+    (λ c κs. let w = c .before .before .before .before .before .before .before .before .before .before .before .pre .walk in (w .runs, omega arith))
+    (λ c. let l = c .before .before .before .before .before in
+    let v = covers _ _ (l .before .before .before .before .before .before .before .pre .walk .rising) _ (omega arith) (l .loop .inv .2)
+    (rw (l .before .items2 .ensures .0) at (c .before .before .before .run-end .ensures)) in
+    omega (arith, run-more v (c .per-chunk .ensures .0), run-few (l .before .before .before .before .before .before .before .pre) _ (v .within)))
+    (λ c. let l = c .before .before .before .before .before in
+    let v = covers _ _ (l .before .before .before .before .before .before .before .pre .walk .rising) _ (omega arith) (l .loop .inv .2)
+    (rw (l .before .items2 .ensures .0) at (c .before .before .before .run-end .ensures)) in
+    omega (arith, run-more v (c .per-chunk .ensures .0), run-few (l .before .before .before .before .before .before .before .pre) _ (v .within)))
     (λ c. search needs)
-    (λ c. let t = c .before .before in
-    let h = end-is _ _ _ (sym (c .enum-told .given .1) ∙ t .step .ensures) in
-    yea _ (sym (t .before .loop .inv .2) ∙ ap (chunksIn _ _ _ _) (omega arith))))
+    (λ c. search needs)
+    (λ c. let l = c .before .before .before .before .before in
+    let v = covers _ _ (l .before .before .before .before .before .before .before .pre .walk .rising) _ (omega arith) (l .loop .inv .2)
+    (rw (l .before .items2 .ensures .0) at (c .before .before .before .run-end .ensures)) in (
+      search needs,
+      search needs,
+      rw (l .before .items2 .ensures .0) at (c .before .before .before .run-end .ensures),
+      omega (arith, run-more v (c .per-chunk .ensures .0)),
+      c .before .before .run-lies .ensures .kept (c .before .if1 .left) (l .loop .inv .4),
+    ))
+    (λ c. let i = c .before .loop .inv in yea _ (sym (i .4) ∙ ap (chunksIn _ _ _ _) (i .2 ∙ start-past _ _ _ (omega arith)))))

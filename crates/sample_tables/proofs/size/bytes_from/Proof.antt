@@ -1,26 +1,16 @@
--- The invariant: the bytes of the first i samples, each size of 32 bits.
+-- Of the listed sizes those past the end are 0.
 use borrow.Author.Needs.{needs}
-use Prim.Native.Nat.{_*_, _-_, _≤_}
-use Rattle.sample_tables.proofs.Sizes.{bytes-none, bytes-more}
-use Rattle.sample_tables.specs.Sizes.{bytesFrom}
-use mathlib.Core.Path.{_≡_}
+use Rattle.sample_tables.proofs.Sizes.{bytes-inside}
+use mathlib.Core.Path.{_∙_}
 use native.Mathlib.Omega.{arith}
 use Rattle.sample_tables.proofs.size.bytes_from.Statement.{statement}
 use Rattle.sample_tables.proofs.size.bytes_from.Tie as tie
 
-abbrev Inv : tie.InvT-loop
-Inv stsz first n i₀ sum₀ i sum = (i ≤ n) × (sum ≡ bytesFrom stsz first i) × (sum ≤ i * 4294967295)
-
-abbrev μ : tie.MeasureT-loop
-μ stsz first n i₀ sum₀ i sum = n - i
-
 pub bytes-from-spec : {M : Type 1} → statement M
-bytes-from-spec = tie.close (tie.spec Inv μ
-    (λ c. (search needs, bytes-none _ _, search needs))
-    (λ c. search needs)
+bytes-from-spec = tie.close (tie.spec
     (λ c κs. search needs)
-    (λ c. search needs)
-    (λ c. search needs)
-    (λ c. search needs)
-    (λ c. (search needs, rw bytes-more (omega arith), omega arith))
-    (λ c. let e : c .before .loop .i ≡ c .before .before .before .args .n = omega arith in (cc, omega arith)))
+    (λ c κs. search needs)
+    (λ c κs. record { few = omega arith; listed = λ z. omega arith })
+    (λ c. (c .bytes-in .ensures .0 ∙ bytes-inside _ (omega arith) _ _ (c .before .inside .ensures), omega arith))
+    (λ c κs. record { few = omega arith; listed = λ z. absurd (omega arith) })
+    (λ c. search needs))
