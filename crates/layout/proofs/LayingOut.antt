@@ -15,20 +15,16 @@ use Rattle.boxes.specs.Seek.{count, find, nth}
 use Rattle.movie.specs.Movie.{movie, tracks, track}
 use Rattle.rule_shape.specs.Three.{first}
 use Rattle.layout.specs.declared.gather.Slot.{Slot}
-use Rattle.layout.specs.declared.gather.Want.{Want}
 use Rattle.layout.specs.declared.gather.Five.{Five}
 use Rattle.layout.specs.declared.tracks.Movie.{Movie}
 use Rattle.layout.specs.Slots.{slotIn, firstOf, Stands, Gathered, Alone, Both}
 use Rattle.layout.specs.Track.{At, Has}
-use Rattle.layout.specs.Tracks.{wholeOf, trackSlot, Peopled, Framed, LaidOut}
+use Rattle.layout.specs.Tracks.{wholeOf, wanted, trackSlot, Peopled, Framed, LaidOut}
 use Rattle.layout.proofs.Shaped.{moov-shape, file-shape, one-of, gathered-has}
 use Rattle.layout.proofs.Laying.{at-in}
 
 pub whole-is : (xs : List ℕ) → slotIn xs (wholeOf xs) ≡ xs
 whole-is xs = let z : length xs - 0 ≡ length xs = omega arith in rw z (take-length xs)
-
-abbrev wanted : ℕ → Want
-wanted i = record { code = TRAK; nth = i }
 
 module _ {xs : List ℕ} {s : Slot} (e : s ≡ wholeOf xs) {f m : Five} (gf : Gathered xs (slotIn xs s) (firstOf FTYP) (firstOf MOOV) (firstOf MOOV) (firstOf MOOV) (firstOf MOOV) f)
     (gm : Gathered xs (slotIn xs (f .b)) (firstOf MVHD) (wanted 0) (wanted 1) (wanted 2) (wanted 3) m) where
