@@ -53,11 +53,14 @@ pub fn judge(file: &[u8]) -> Judgement
     Judgement::Accepted
 }
 
-// Whether an edit takes a file, which refusal 23 asks: 1 or 0.
+// Whether an edit takes a file, which refusal 23 asks: 1 or 0. Each container is walked once first.
 pub fn editable(file: &[u8]) -> usize
     requires { ⌜ length (now file) ≤ LONGEST ⌝ }
     ensures { λ r. ⌜ r ≡ oneIf (editable (now (file .entry))) ⌝ }
 {
+    if rule_all::edit::edits_hold(file) != 0 {
+        return 1;
+    }
     match verdict_of(23, file) {
         Verdict::Fine => 1,
         Verdict::Bad(_) => 0,

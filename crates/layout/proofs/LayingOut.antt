@@ -18,20 +18,16 @@ use Rattle.boxes.proofs.Reading.{boxes-stop}
 use Rattle.movie.specs.Movie.{movie, tracks, track}
 use Rattle.rule_shape.specs.Three.{first}
 use Rattle.layout.specs.declared.gather.Slot.{Slot}
-use Rattle.layout.specs.declared.gather.Want.{Want}
 use Rattle.layout.specs.declared.gather.Five.{Five}
 use Rattle.layout.specs.declared.tracks.Movie.{Movie}
 use Rattle.layout.specs.Slots.{slotIn, firstOf, Stands, Gathered, Alone, Both}
 use Rattle.layout.specs.Track.{At, Has}
-use Rattle.layout.specs.Tracks.{wholeOf, trackSlot, Peopled, Framed, LaidOut, Spread}
+use Rattle.layout.specs.Tracks.{wholeOf, wanted, trackSlot, Peopled, Framed, LaidOut, Spread}
 use Rattle.layout.proofs.Shaped.{moov-shape, file-shape, one-of, gathered-has}
 use Rattle.layout.proofs.Laying.{at-in, place-in}
 
 pub whole-is : (xs : List ℕ) → slotIn xs (wholeOf xs) ≡ xs
 whole-is xs = let z : length xs - 0 ≡ length xs = omega arith in rw z (take-length xs)
-
-abbrev wanted : ℕ → Want
-wanted i = record { code = TRAK; nth = i }
 
 -- ---- a number below 4
 

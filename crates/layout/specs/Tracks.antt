@@ -10,6 +10,7 @@ use Rattle.boxes.specs.Containers.{FILE}
 use Rattle.boxes.specs.Seek.{find, startIn}
 use Rattle.movie.specs.Movie.{movie, tracks as tracksOf, track}
 use Rattle.layout.specs.declared.gather.Slot.{Slot}
+use Rattle.layout.specs.declared.gather.Want.{Want}
 use Rattle.layout.specs.declared.gather.Five.{Five}
 use Rattle.layout.specs.declared.tracks.Movie.{Movie}
 use Rattle.layout.specs.Track.{At, Has}
@@ -17,6 +18,10 @@ use Rattle.layout.specs.Track.{At, Has}
 -- the file as a slot
 abbrev pub wholeOf : List ℕ → Slot
 wholeOf xs = record { n = 1; from = 0; to = length xs }
+
+-- track i of a `moov`, from 0
+abbrev pub wanted : ℕ → Want
+wanted i = record { code = TRAK; nth = i }
 
 -- the slot of track i, from 0
 unfoldable pub trackSlot : Movie → ℕ → Slot

@@ -25,7 +25,7 @@ pub struct Movie {
 }
 
 // The file as a slot.
-fn whole(file: &[u8]) -> Slot
+pub fn whole(file: &[u8]) -> Slot
     ensures { λ r. ⌜ (r ≡ wholeOf (now (file .entry))) × Lies (now (file .entry)) r ⌝ }
 {
     Slot {

@@ -1,7 +1,9 @@
 pub mod All
 pub mod Held
+pub mod Within
 pub mod Containers
 pub mod Whole
 pub mod Judging
 pub mod Answers
 pub mod Running
+pub mod Editing

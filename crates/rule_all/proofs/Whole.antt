@@ -1,11 +1,11 @@
 -- A file meets all rules where its headers do, and each of its tracks. Assumes nothing.
 use Prim.Native.Nat.{ℕ, zero, suc, _+_, _≤_, _<_}
 use native.Mathlib.Omega.{arith}
-use mathlib.Core.Path.{_≡_, refl, sym, ap, subst, _∙_}
-use mathlib.Core.Bool.{true, false}
+use mathlib.Core.Path.{_≡_, refl, ap}
+use mathlib.Core.Bool.{true}
 use mathlib.Core.List.{List, [], _∷_}
 use lib.ListN.{drop}
-use Rattle.wire.specs.Tests.{pick, ifEq}
+use Rattle.wire.specs.Tests.{ifEq}
 use Rattle.wire.specs.Sums.{sumTo}
 use Rattle.wire.specs.Clauses.{isLe}
 use Rattle.wire.proofs.Clauses.{is-le}
@@ -15,10 +15,8 @@ use Rattle.boxes.specs.Box.{Box, size}
 use Rattle.boxes.specs.Boxes.{FRONT, boxes}
 use Rattle.boxes.specs.Containers.{FILE, DEPTH}
 use Rattle.boxes.specs.Seek.{count, find, nth}
-use Rattle.boxes.proofs.Reading.{All}
-use Rattle.boxes.proofs.Reading.All.{none, some}
-use Rattle.boxes.proofs.Every.{all-map, all-with}
-use Rattle.boxes.proofs.Meaning.{meant-or, meant-yes, count-hit, count-miss, nth-hit, nth-next, nth-miss}
+use Rattle.boxes.proofs.Every.{all-map}
+use Rattle.boxes.proofs.Meaning.{meant-or, count-hit, count-miss, nth-hit, nth-next, nth-miss}
 use Rattle.movie.specs.Ways.{toStsd, follow}
 use Rattle.movie.specs.Movie.{movie, tracks, track, storedCount}
 use Rattle.movie.specs.Stsds.{Stsd, stsdsFrom}
@@ -40,20 +38,10 @@ use Rattle.rule_entries.specs.Ten.{aroundOf, entriesFine, stsdsFine, tenIn}
 use Rattle.rule_all.specs.All.{allRules}
 use Rattle.rule_all.specs.Track.{Good}
 use Rattle.rule_all.specs.Tracks.{entriesOf}
-use Rattle.rule_all.proofs.Held.{inside-file, inside-moov, leaf-file, leaf-moov}
-use Rattle.rule_all.proofs.Containers.{sole-each}
+use Rattle.rule_all.proofs.Held.{leaf-file, leaf-moov}
+use Rattle.rule_all.proofs.Within.{sole-each, once, numbered, in-moov, in-file}
 
 -- ---- the tracks by number
-
--- what holds of each number holds of each box of the code
-each-number : (P : List ℕ → Type 0) (l : List Box) → ((i : ℕ) → i < count TRAK l → P (nth TRAK i l)) → All (λ x. x .code ≡ TRAK → P (x .body)) l
-each-number P [] h = none
-each-number P (x ∷ l) h =
-    meant-or TRAK (x .code)
-    (λ e. some (λ q. subst P (nth-hit TRAK x l e) (h 0 (omega (arith, count-hit TRAK x l e))))
-    (each-number P l (λ i k. subst P (nth-next TRAK x l e i) (h (suc i) (omega (arith, count-hit TRAK x l e))))))
-    (λ e. some (λ q. absurd (omega (arith, meant-yes TRAK (x .code) (λ z. omega arith) q)))
-    (each-number P l (λ i k. subst P (nth-miss TRAK x l e i) (h i (omega (arith, count-miss TRAK x l e))))))
 
 -- a sum from its first term
 sum-first : (f : ℕ → ℕ) (n : ℕ) → sumTo f (suc n) ≡ f 0 + sumTo (λ i. f (suc i)) n
@@ -76,7 +64,8 @@ total-is (x ∷ l) t p =
     meant-or TRAK (x .code)
     (λ e.
     let n : count TRAK (x ∷ l) ≡ suc (count TRAK l) = omega (arith, count-hit TRAK x l e) in
-    let same = sum-same (λ i. counts (x ∷ l) (suc i)) (counts l) (count TRAK l) (λ i k. ap (λ (b : List ℕ). storedCount (follow toStsd b)) (nth-next TRAK x l e i)) in
+    let same = sum-same (λ i. counts (x ∷ l) (suc i)) (counts l) (count TRAK l)
+    (λ i k. ap (λ (b : List ℕ). storedCount (follow toStsd b)) (nth-next TRAK x l e i)) in
     rw (stsds-hit x e l t p, n, sum-first (counts (x ∷ l)) (count TRAK l), nth-hit TRAK x l e, total-is l (t + 1) (p + size x), same))
     (λ e.
     let same = sum-same (counts (x ∷ l)) (counts l) (count TRAK l) (λ i k. ap (λ (b : List ℕ). storedCount (follow toStsd b)) (nth-miss TRAK x l e i)) in
@@ -105,18 +94,18 @@ module _ (l : List Box) {xs : List ℕ} (h : Has MOOV xs) (head : form MOOV MVHD
       closed (allRules l) 4 MOOV xs (record {
         node = rw (h .three, differ, total-few, all-entries);
         leaves = all-map (λ x p z. leaf-moov l (x .code) (x .body) p) (sole-each h MVHD refl (λ b. form MOOV MVHD b ≡ true) head);
-        inside = all-map (λ x p z. inside-moov (λ i. allIn (allRules l) 4 i (x .body) ≡ true) (x .code) p p z) (each-number (λ b. allIn (allRules l) 4 TRAK b ≡ true) (boxes xs) (λ i k. each i k .rules));
+        inside = in-moov (allRules l) 4 xs (numbered (allRules l) 4 xs (λ i k. each i k .rules));
         end = rw (h .two);
       })
 
 pub file-all : (l : List Box) (xs : List ℕ) → Framed xs → form FILE FTYP (find FTYP (boxes xs)) ≡ true → form MOOV MVHD (find MVHD (movie xs)) ≡ true
-    → ((i : ℕ) → i < tracks xs → Good l (track xs i)) → different (movie xs) ≡ true → sumTo (entriesOf xs) (tracks xs) ≤ MOST → allIn (allRules l) DEPTH FILE xs ≡ true
+    → ((i : ℕ) → i < tracks xs → Good l (track xs i)) → different (movie xs) ≡ true → sumTo (entriesOf xs) (tracks xs) ≤ MOST
+    → allIn (allRules l) DEPTH FILE xs ≡ true
 unfolding needed tracksFine sevenIn eightIn tenIn track ifEq
 file-all l xs h front head each differ few =
     closed (allRules l) 5 FILE xs (record {
       node = rw (h .file .three);
       leaves = all-map (λ x p z. leaf-file l (x .code) (x .body) p) (sole-each (h .file) FTYP refl (λ b. form FILE FTYP b ≡ true) front);
-      inside = all-map (λ x p z. inside-file (λ i. allIn (allRules l) 5 i (x .body) ≡ true) (x .code) p p z)
-          (sole-each (h .file) MOOV refl (λ b. allIn (allRules l) 5 MOOV b ≡ true) (moov-all l (h .moov) head each differ few));
+      inside = in-file (allRules l) 5 xs (once (allRules l) 5 xs (h .file) MOOV refl (moov-all l (h .moov) head each differ few));
       end = rw (h .file .two);
     })

@@ -1,4 +1,5 @@
 // Rules 2 to 10 at once: each container is walked once, and the rules go to its boxes directly. An answer other than 0 says that they hold.
+pub mod edit;
 mod track;
 
 use boxes::containers;
