@@ -26,7 +26,7 @@ use Rattle.layout.specs.Tracks.{wholeOf, wanted, trackSlot, Peopled, Fra
 use Rattle.layout.proofs.Shaped.{moov-shape, file-shape, one-of, gathered-has}
 use Rattle.layout.proofs.Laying.{at-in, place-in}
 
-pub whole-is : (xs : List ℕ) → slotIn xs (wholeOf xs) ≡ xs
+whole-is : (xs : List ℕ) → slotIn xs (wholeOf xs) ≡ xs
 whole-is xs = let z : length xs - 0 ≡ length xs = omega arith in rw z (take-length xs)
 
 -- ---- a number below 4
@@ -47,13 +47,13 @@ pub none-counted : (c : ℕ) → count c [] ≡ 0
 unfolding count
 none-counted c = refl
 
+pub all-is : {xs : List ℕ} {s : Slot} → s ≡ wholeOf xs → slotIn xs s ≡ xs
+all-is {xs} e = ap (slotIn xs) e ∙ whole-is xs
+
 module _ {xs : List ℕ} {s : Slot} (e : s ≡ wholeOf xs) {f m : Five} (gf : Gathered xs s (firstOf FTYP) (firstOf MOOV) (firstOf MOOV) (firstOf MOOV) (firstOf MOOV) f)
     (gm : Gathered xs (f .b) (firstOf MVHD) (wanted 0) (wanted 1) (wanted 2) (wanted 3) m) where
-  all-is : slotIn xs s ≡ xs
-  all-is = ap (slotIn xs) e ∙ whole-is xs
-
   moov-at : At xs (find MOOV (boxes xs)) (f .b)
-  moov-at = at-in (gf .second) all-is
+  moov-at = at-in (gf .second) (all-is e)
 
   track-at : {i : ℕ} {s : Slot} → Stands xs (f .b) (wanted i) s → At xs (track xs i) s
   unfolding track
@@ -65,8 +65,8 @@ module _ {xs : List ℕ} {s : Slot} (e : s ≡ wholeOf xs) {f m : Five} (gf : Ga
         let y = bw .first z in
         let x = bw .second z in
         record {
-          file = subst (Has FILE) all-is
-              (gathered-has gf of (bu .second y) FILE (λ a b c d e. file-shape _ a b (rw all-is (eq-is _ _ (was-yea _ _ (bu .first y) lf)))));
+          file = subst (Has FILE) (all-is e)
+              (gathered-has gf of (bu .second y) FILE (λ a b c d f. file-shape _ a b (rw (all-is e) (eq-is _ _ (was-yea _ _ (bu .first y) lf)))));
           moov = subst (Has MOOV) (moov-at .is) (record {
             two = was-yea _ _ (pm .tiled x) (gm .tiled);
             three = moov-shape _ (one-of (gm .first) (pm .header x)) (rw (← gm .second .counted) (pm .some x)) (rw (← gm .second .counted) (pm .few x));
@@ -78,7 +78,7 @@ module _ {xs : List ℕ} {s : Slot} (e : s ≡ wholeOf xs) {f m : Five} (gf : Ga
         record {
           shaped = framed;
           tracks = gm .second .counted ∙ ap (λ (ys : List ℕ). count TRAK (boxes ys)) (moov-at .is);
-          ftyp = at-in (gf .first) all-is;
+          ftyp = at-in (gf .first) (all-is e);
           moov = moov-at;
           mvhd = at-in (gm .first) (moov-at .is);
           one = track-at (gm .second);
@@ -93,7 +93,7 @@ module _ {xs : List ℕ} {s : Slot} (e : s ≡ wholeOf xs) {f m : Five} (gf : Ga
   moov-place h =
       let n : 0 < length (find MOOV (boxes xs)) =
       lt-or 0 (length (find MOOV (boxes xs))) (λ k. k) (λ k. absurd (omega (arith, ap (count TRAK) (no-boxes (find MOOV (boxes xs)) (omega arith)), none-counted TRAK))) in
-      place-in MOOV (gf .second) all-is n ∙ ap (λ (p : ℕ). p + startIn MOOV 0 (boxes xs)) (ap (λ (w : Slot). w .from) e) ∙ omega arith
+      place-in MOOV (gf .second) (all-is e) n ∙ ap (λ (p : ℕ). p + startIn MOOV 0 (boxes xs)) (ap (λ (w : Slot). w .from) e) ∙ omega arith
 
   place-of : {i : ℕ} {w : Slot} → Stands xs (f .b) (wanted i) w → i < tracks xs → w .from ≡ startIn MOOV 0 (boxes xs) + startIn TRAK i (movie xs)
   place-of {i} {w} k h =

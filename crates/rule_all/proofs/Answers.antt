@@ -1,6 +1,5 @@
 -- What the answers of the tests of a track say. Assumes nothing.
-use Prim.Native.Nat.{ℕ, _≤_}
-use native.Mathlib.Omega.{arith}
+use Prim.Native.Nat.{ℕ}
 use mathlib.Core.Path.{_≡_, refl, sym, ap, _∙_}
 use mathlib.Core.Bool.{Bool, true}
 use mathlib.Core.List.{List}
@@ -34,10 +33,10 @@ unfolding formsFine
 tables-six xs t e = record { times = form-is _ _ (clause 0 _ e); runs = form-is _ _ (clause 1 _ e); sizes = form-is _ _ (clause 2 _ e); offsets = form-is _ _ (clause 3 _ e) }
 
 -- with rule 7 they are ready for rule 8
-pub tables-ready : (stts stsc stsz stco : List ℕ) (n : ℕ) → Six stts stsc stsz stco → tablesAgree stts stsc stsz stco n ≡ true → Ready stsc stco
+pub tables-ready : (stts stsc stsz stco : List ℕ) (n : ℕ) → Six stts stsc stsz stco → tablesAgree stts stsc stsz stco n ≡ true → Ready stsc stsz stco
 tables-ready stts stsc stsz stco n s e =
     let a = seven-is stts stsc stsz stco n s e in
-    record { walk = a .walk; few = omega (arith, a .total, a .few) }
+    record { walk = a .walk; sizes = s .sizes; few = a .few; total = a .total }
 
 -- all of them
 pub no-answer : (xs : List ℕ) (t : Track) → AllFine xs t 0

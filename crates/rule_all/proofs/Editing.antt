@@ -1,7 +1,7 @@
 -- An edit takes a container where none of its boxes is barred there, and it takes those in it. Assumes nothing.
 use Prim.Native.Nat.{ℕ, suc, _≤_, _<_}
 use native.Mathlib.Omega.{arith}
-use mathlib.Core.Path.{_≡_, refl}
+use mathlib.Core.Path.{_≡_, refl, subst}
 use mathlib.Core.Bool.{true}
 use mathlib.Core.List.{List}
 use Rattle.wire.specs.Tests.{ifEq}
@@ -55,12 +55,14 @@ module _ (xs : List ℕ) where
       edits 4 MOOV xs (rw (is-eq _ _ a)) (in-moov editableRule 4 xs (numbered editableRule 4 xs (λ j k.
       eq-or j 0 (λ q. rw q e) (λ s. eq-or j 1 (λ q. rw q f) (λ t. eq-or j 2 (λ q. rw q g) (λ u. let q : j ≡ 3 = omega arith in rw q i))))))
 
-  pub file-edits : n MOOV ≤ 1 → n MOOF ≡ 0 → n MFRA ≡ 0 → n SIDX ≡ 0 → n META ≡ 0 → Edits 5 MOOV (find MOOV (boxes xs)) → Edits 6 FILE xs
-  unfolding barred exactly ifEq
-  file-edits h a b c d e =
-      edits 5 FILE xs (rw (is-eq _ _ a, is-eq _ _ b, is-eq _ _ c, is-eq _ _ d)) (in-file editableRule 5 xs (few 5 MOOV xs (λ z. omega arith) h (λ q. e)))
-
 pub mdia-edits : (xs : List ℕ) → count MINF (boxes xs) ≤ 1 → count STBL (boxes (find MINF (boxes xs))) ≤ 1
     → Edits 1 STBL (find STBL (boxes (find MINF (boxes xs)))) → Edits 3 MDIA xs
 unfolding barred exactly ifEq
 mdia-edits xs h k e = edits 2 MDIA xs refl (in-mdia editableRule 2 xs (few 2 MINF xs (λ z. omega arith) h (λ q. minf-edits _ k e)))
+
+-- the file, by a part that is all of it
+pub file-edits : {xs ys : List ℕ} → ys ≡ xs → count MOOV (boxes ys) ≤ 1 → count MOOF (boxes ys) ≡ 0 → count MFRA (boxes ys) ≡ 0 → count SIDX (boxes ys) ≡ 0
+    → count META (boxes ys) ≡ 0 → Edits 5 MOOV (find MOOV (boxes ys)) → Edits 6 FILE xs
+unfolding barred exactly ifEq
+file-edits {xs} {ys} q h a b c d e =
+    subst (Edits 6 FILE) q (edits 5 FILE ys (rw (is-eq _ _ a, is-eq _ _ b, is-eq _ _ c, is-eq _ _ d)) (in-file editableRule 5 ys (few 5 MOOV ys (λ z. omega arith) h (λ z. e))))
