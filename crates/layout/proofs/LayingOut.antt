@@ -1,20 +1,17 @@
 -- The movie from what was gathered of the file and of its `moov`. Assumes nothing.
 use Prim.Native.Nat.{ℕ, _+_, _-_, _<_}
 use native.Mathlib.Omega.{arith}
-use mathlib.Core.Path.{_≡_, refl, sym, ap, subst, _∙_}
-use mathlib.Core.List.{List, []}
-use lib.ListN.{length, take}
+use mathlib.Core.Path.{_≡_, ap, subst, _∙_}
+use mathlib.Core.List.{List}
+use lib.ListN.{length}
 use lib.Seq.{take-length}
-use Rattle.wire.specs.Tests.{ifEq}
 use Rattle.wire.specs.Clauses.{isEq, oneIf}
-use Rattle.wire.proofs.Tests.{eq-yea, eq-nay, eq-or, lt-or}
+use Rattle.wire.proofs.Tests.{lt-or}
 use Rattle.wire.proofs.Clauses.{eq-is, was-yea}
 use Rattle.codes.specs.Codes.{FTYP, MOOV, MVHD, TRAK}
 use Rattle.boxes.specs.Boxes.{boxes}
 use Rattle.boxes.specs.Containers.{FILE}
 use Rattle.boxes.specs.Seek.{count, find, nth, startIn}
-use Rattle.boxes.proofs.Whole.{short-not}
-use Rattle.boxes.proofs.Reading.{boxes-stop}
 use Rattle.movie.specs.Movie.{movie, tracks, track}
 use Rattle.rule_shape.specs.Three.{first}
 use Rattle.layout.specs.declared.gather.Slot.{Slot}
@@ -25,27 +22,10 @@ use Rattle.layout.specs.Track.{At, Has}
 use Rattle.layout.specs.Tracks.{wholeOf, wanted, trackSlot, Peopled, Framed, LaidOut, Spread}
 use Rattle.layout.proofs.Shaped.{moov-shape, file-shape, one-of, gathered-has}
 use Rattle.layout.proofs.Laying.{at-in, place-in}
+use Rattle.layout.proofs.Few.{by-four, no-boxes, none-counted}
 
 whole-is : (xs : List ℕ) → slotIn xs (wholeOf xs) ≡ xs
 whole-is xs = let z : length xs - 0 ≡ length xs = omega arith in rw z (take-length xs)
-
--- ---- a number below 4
-
-module _ (P : ℕ → Slot → Type 0) {a b c d : Slot} (one : P 0 a) (two : P 1 b) (three : P 2 c) (four : P 3 d) where
-  pub by-four : (i : ℕ) → i < 4 → P i (ifEq i 0 a (ifEq i 1 b (ifEq i 2 c d)))
-  by-four i h =
-      eq-or i 0 (λ e. rw e (subst (P 0) (eq-yea _ _ _ _ _ refl refl) one))
-      (λ o. eq-or i 1 (λ e. rw e (subst (P 1) (eq-nay _ _ _ _ _ (λ z. omega arith) (eq-yea _ _ _ _ _ refl refl)) two))
-      (λ p. eq-or i 2 (λ e. rw e (subst (P 2) (eq-nay _ _ _ _ _ (λ z. omega arith) (eq-nay _ _ _ _ _ (λ z. omega arith) (eq-yea _ _ _ _ _ refl refl))) three))
-      (λ q. let e : i ≡ 3 = omega arith in
-      rw e (subst (P 3) (eq-nay _ _ _ _ _ (λ z. omega arith) (eq-nay _ _ _ _ _ (λ z. omega arith) (eq-nay _ _ _ _ _ (λ z. omega arith) refl))) four))))
-
-pub no-boxes : (ys : List ℕ) → length ys ≡ 0 → boxes ys ≡ []
-no-boxes ys h = boxes-stop ys (short-not ys (omega arith))
-
-pub none-counted : (c : ℕ) → count c [] ≡ 0
-unfolding count
-none-counted c = refl
 
 pub all-is : {xs : List ℕ} {s : Slot} → s ≡ wholeOf xs → slotIn xs s ≡ xs
 all-is {xs} e = ap (slotIn xs) e ∙ whole-is xs

@@ -1,7 +1,10 @@
 pub mod Slots
+pub mod Noting
 pub mod Shaped
 pub mod Laying
+pub mod Few
 pub mod LayingOut
-pub mod Entering
 pub mod Listing
+pub mod Numbering
+pub mod Entering
 pub mod Tallying

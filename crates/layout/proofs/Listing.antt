@@ -20,7 +20,7 @@ use Rattle.layout.specs.Track.{At, Listed}
 use Rattle.layout.specs.Tracks.{trackSlot, Spread}
 use Rattle.layout.specs.Entries.{ListAt}
 use Rattle.layout.proofs.Slots.{slot-part, slot-length}
-use Rattle.layout.proofs.LayingOut.{no-boxes, none-counted}
+use Rattle.layout.proofs.Few.{no-boxes, none-counted}
 
 nil-of : (l : List ℕ) → length l ≡ 0 → l ≡ []
 nil-of l e = drop-of-length-le l {i = 0} (omega arith)

@@ -17,7 +17,7 @@ use Rattle.movie.specs.Named.{listIn}
 use Rattle.layout.specs.declared.gather.Slot.{Slot}
 use Rattle.layout.specs.Entries.{ListAt}
 use Rattle.layout.proofs.Slots.{slot-length}
-use Rattle.layout.proofs.Entering.{count-total, length-stsds, own, from-here, long}
+use Rattle.layout.proofs.Numbering.{length-stsds, count-total, own, from-here, long}
 
 pub record Tally (xs : List ℕ) (t sum : ℕ) : Type 0 where
   pub most : t ≤ tracks xs

@@ -136,6 +136,28 @@ pub fn firsts(file: &[u8], whole: Slot, a: usize, b: usize, c: usize, d: usize, 
     )
 }
 
+// Those of one code, of two, and of three.
+pub fn one(file: &[u8], whole: Slot, a: usize) -> Five
+    requires { ⌜ Lies (now file) whole × (0 < a) ⌝ }
+    ensures { λ r. ⌜ Gathered (now (file .entry)) whole (firstOf a) (firstOf a) (firstOf a) (firstOf a) (firstOf a) r ⌝ }
+{
+    firsts(file, whole, a, a, a, a, a)
+}
+
+pub fn two(file: &[u8], whole: Slot, a: usize, b: usize) -> Five
+    requires { ⌜ Lies (now file) whole × (0 < a) × (0 < b) ⌝ }
+    ensures { λ r. ⌜ Gathered (now (file .entry)) whole (firstOf a) (firstOf b) (firstOf b) (firstOf b) (firstOf b) r ⌝ }
+{
+    firsts(file, whole, a, b, b, b, b)
+}
+
+pub fn three(file: &[u8], whole: Slot, a: usize, b: usize, c: usize) -> Five
+    requires { ⌜ Lies (now file) whole × (0 < a) × (0 < b) × (0 < c) ⌝ }
+    ensures { λ r. ⌜ Gathered (now (file .entry)) whole (firstOf a) (firstOf b) (firstOf c) (firstOf c) (firstOf c) r ⌝ }
+{
+    firsts(file, whole, a, b, c, c, c)
+}
+
 // Whether boxes tile the container, and each of five codes has one box: 1 or 0.
 pub fn alone(g: Five) -> usize
     ensures { λ r. ⌜ Alone r g ⌝ }

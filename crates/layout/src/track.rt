@@ -24,42 +24,10 @@ pub fn lay(file: &[u8], trak: Slot) -> Track
     requires { ⌜ Lies (now file) trak ⌝ }
     ensures { λ r. ⌜ Laid (now (file .entry)) (slotIn (now (file .entry)) trak) r × Listed (now (file .entry)) trak r ⌝ }
 {
-    let t = gather::firsts(
-        file,
-        trak,
-        codes::TKHD,
-        codes::MDIA,
-        codes::MDIA,
-        codes::MDIA,
-        codes::MDIA,
-    );
-    let m = gather::firsts(
-        file,
-        t.b,
-        codes::MDHD,
-        codes::HDLR,
-        codes::MINF,
-        codes::MINF,
-        codes::MINF,
-    );
-    let i = gather::firsts(
-        file,
-        m.c,
-        codes::DINF,
-        codes::STBL,
-        codes::STBL,
-        codes::STBL,
-        codes::STBL,
-    );
-    let d = gather::firsts(
-        file,
-        i.a,
-        codes::DREF,
-        codes::DREF,
-        codes::DREF,
-        codes::DREF,
-        codes::DREF,
-    );
+    let t = gather::two(file, trak, codes::TKHD, codes::MDIA);
+    let m = gather::three(file, t.b, codes::MDHD, codes::HDLR, codes::MINF);
+    let i = gather::two(file, m.c, codes::DINF, codes::STBL);
+    let d = gather::one(file, i.a, codes::DREF);
     let s = gather::firsts(
         file,
         i.b,

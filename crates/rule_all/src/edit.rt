@@ -1,13 +1,10 @@
 // Refusal 23 by one walk over each container. An answer other than 0 says that an edit takes it.
 use layout::gather;
-use layout::gather::Five;
 use layout::gather::Slot;
-use layout::gather::Want;
 use layout::tracks;
-ghost use Rattle.codes.specs.Codes.{MOOV, TRAK, MDIA, STBL, META};
+ghost use Rattle.codes.specs.Codes.{MOOV, TRAK, MDIA, STBL};
 ghost use Rattle.boxes.specs.Containers.{FILE, DEPTH};
-ghost use Rattle.layout.specs.Slots.{slotIn, firstOf, Lies, Gathered};
-ghost use Rattle.layout.specs.Tracks.{wanted};
+ghost use Rattle.layout.specs.Slots.{slotIn, Lies};
 ghost use Rattle.rule.specs.Rule.{allIn};
 ghost use Rattle.rule_shape.specs.TwentyThree.{editableRule};
 ghost use Rattle.rule_all.specs.All.{Sure};
@@ -17,15 +14,7 @@ fn stbl_edits(file: &[u8], stbl: Slot) -> usize
     requires { ⌜ Lies (now file) stbl ⌝ }
     ensures { λ r. ⌜ Sure r (allIn editableRule 1 STBL (slotIn (now (file .entry)) stbl)) ⌝ }
 {
-    let g = gather::firsts(
-        file,
-        stbl,
-        codes::CO64,
-        codes::SAIO,
-        codes::SAIO,
-        codes::SAIO,
-        codes::SAIO,
-    );
+    let g = gather::two(file, stbl, codes::CO64, codes::SAIO);
     if g.a.n != 0 {
         return 0;
     }
@@ -40,27 +29,11 @@ fn mdia_edits(file: &[u8], mdia: Slot) -> usize
     requires { ⌜ Lies (now file) mdia ⌝ }
     ensures { λ r. ⌜ Sure r (allIn editableRule 3 MDIA (slotIn (now (file .entry)) mdia)) ⌝ }
 {
-    let g = gather::firsts(
-        file,
-        mdia,
-        codes::MINF,
-        codes::MINF,
-        codes::MINF,
-        codes::MINF,
-        codes::MINF,
-    );
+    let g = gather::one(file, mdia, codes::MINF);
     if 1 < g.a.n {
         return 0;
     }
-    let h = gather::firsts(
-        file,
-        g.a,
-        codes::STBL,
-        codes::STBL,
-        codes::STBL,
-        codes::STBL,
-        codes::STBL,
-    );
+    let h = gather::one(file, g.a, codes::STBL);
     if 1 < h.a.n {
         return 0;
     }
@@ -72,15 +45,7 @@ fn trak_edits(file: &[u8], trak: Slot) -> usize
     requires { ⌜ Lies (now file) trak ⌝ }
     ensures { λ r. ⌜ Sure r (allIn editableRule 4 TRAK (slotIn (now (file .entry)) trak)) ⌝ }
 {
-    let g = gather::firsts(
-        file,
-        trak,
-        codes::MDIA,
-        codes::META,
-        codes::META,
-        codes::META,
-        codes::META,
-    );
+    let g = gather::two(file, trak, codes::MDIA, codes::META);
     if g.b.n != 0 {
         return 0;
     }
@@ -93,43 +58,12 @@ fn trak_edits(file: &[u8], trak: Slot) -> usize
     mdia_edits(file, g.a)
 }
 
-// The first `meta` of a `moov`, and its first four tracks.
-fn tracks_in(file: &[u8], moov: Slot) -> Five
-    requires { ⌜ Lies (now file) moov ⌝ }
-    ensures { λ r. ⌜ Gathered (now (file .entry)) moov (firstOf META) (wanted 0) (wanted 1) (wanted 2) (wanted 3) r ⌝ }
-{
-    gather::gather(
-        file,
-        moov,
-        Want {
-            code: codes::META,
-            nth: 0,
-        },
-        Want {
-            code: codes::TRAK,
-            nth: 0,
-        },
-        Want {
-            code: codes::TRAK,
-            nth: 1,
-        },
-        Want {
-            code: codes::TRAK,
-            nth: 2,
-        },
-        Want {
-            code: codes::TRAK,
-            nth: 3,
-        },
-    )
-}
-
 // A `moov` of at most four tracks; one that isn't there is empty.
 fn moov_edits(file: &[u8], moov: Slot) -> usize
     requires { ⌜ Lies (now file) moov ⌝ }
     ensures { λ r. ⌜ Sure r (allIn editableRule 5 MOOV (slotIn (now (file .entry)) moov)) ⌝ }
 {
-    let g = tracks_in(file, moov);
+    let g = tracks::with_tracks(file, moov, codes::META);
     if g.a.n != 0 {
         return 0;
     }

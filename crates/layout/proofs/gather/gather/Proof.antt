@@ -3,7 +3,7 @@ use borrow.Author.Needs.{needs}
 use Prim.Native.Nat.{_-_, _^_, _≤_, _<_}
 use Rattle.boxes.proofs.Walking.{ran, ended, broke}
 use Rattle.boxes.specs.Boxes.{after}
-use Rattle.layout.proofs.Slots.{Noted, noted-none, note-fits, noted-more, stands, tiled-yea, tiled-nay}
+use Rattle.layout.proofs.Noting.{Noted, noted-none, note-fits, noted-more, stands, tiled-yea, tiled-nay}
 use Rattle.layout.specs.Slots.{Lies}
 use lib.ListN.{length, drop, length-take, length-drop}
 use mathlib.Core.Path.{_≡_, refl, _∙_}

@@ -13,8 +13,8 @@ mdia-edits-spec = tie.close (tie.spec
     (λ c κs. search needs)
     (λ c. sure-none _)
     (λ c κs. search needs)
-    (λ c. let g = c .before .before .before .before .before .before .firsts .ensures in
-    let h = c .before .before .before .firsts2 .ensures in
+    (λ c. let g = c .before .before .before .before .before .before .one .ensures in
+    let h = c .before .before .before .one2 .ensures in
     let k = rw (g .first .is) at (h .first .counted) in
     record {
       holds = λ z.

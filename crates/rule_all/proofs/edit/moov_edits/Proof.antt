@@ -18,7 +18,7 @@ moov-edits-spec = tie.close (tie.spec
     (λ c κs. search needs)
     (λ c. sure-none _)
     (λ c κs. search needs)
-    (λ c. let g = c .before .before .before .before .before .before .before .before .before .before .before .tracks-in .ensures in
+    (λ c. let g = c .before .before .before .before .before .before .before .before .before .before .before .with-tracks .ensures in
     let one = c .before .before .before .before .before .before .trak-edits .ensures .holds (c .before .before .before .before .before .if3 .left) in
     let two = c .before .before .before .before .trak-edits2 .ensures .holds (c .before .before .before .if4 .left) in
     let three = c .before .before .trak-edits3 .ensures .holds (c .before .if5 .left) in

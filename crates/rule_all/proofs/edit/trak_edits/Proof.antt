@@ -10,11 +10,11 @@ pub trak-edits-spec : {M : Type 1} → statement M
 trak-edits-spec = tie.close (tie.spec
     (λ c κs. search needs)
     (λ c. sure-none _)
-    (λ c. let g = c .before .before .before .before .firsts .ensures in
+    (λ c. let g = c .before .before .before .before .two .ensures in
     record { holds = λ z. trak-edits _ (omega (arith, g .first .counted)) (omega (arith, g .second .counted)) (λ h. absurd (omega (arith, g .first .counted))) })
     (λ c. sure-none _)
     (λ c κs. search needs)
-    (λ c. let g = c .before .before .before .before .before .before .before .firsts .ensures in
+    (λ c. let g = c .before .before .before .before .before .before .before .two .ensures in
     record {
       holds = λ z.
           trak-edits _ (omega (arith, g .first .counted)) (omega (arith, g .second .counted)) (λ h. rw (g .first .is) at (c .mdia-edits .ensures .holds z));
