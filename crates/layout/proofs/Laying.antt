@@ -25,7 +25,8 @@ pub at-in : {xs zs : List ℕ} {o : Slot} {c : ℕ} {s : Slot} → Stands xs o (
 at-in {c = c} k e = record { lies = k .lies; is = k .is ∙ ap (λ (l : List ℕ). find c (boxes l)) e }
 
 -- the place of a box that is there
-pub place-in : {xs zs : List ℕ} {o : Slot} (c : ℕ) {s : Slot} → Stands xs o (firstOf c) s → slotIn xs o ≡ zs → 0 < length (find c (boxes zs)) → s .from ≡ o .from + startIn c 0 (boxes zs)
+pub place-in : {xs zs : List ℕ} {o : Slot} (c : ℕ) {s : Slot} → Stands xs o (firstOf c) s → slotIn xs o ≡ zs → 0 < length (find c (boxes zs))
+    → s .from ≡ o .from + startIn c 0 (boxes zs)
 place-in {zs = zs} {o} c k e h =
     let n = nth-there c 0 (boxes zs) (λ q. let l = ap length q in omega arith) in
     k .place (omega (arith, k .counted, ap (λ (l : List ℕ). count c (boxes l)) e)) ∙ ap (λ (l : List ℕ). o .from + startIn c 0 (boxes l)) e
@@ -74,7 +75,18 @@ module _ {xs : List ℕ} {trak : Slot} {t m i d s : Five}
           stbl = subst (Has STBL) stbl-is (gathered-has gs os (bw .second (bv .second x)) STBL (λ a b c d e. stbl-shape _ a b c d e));
         }
 
-    pub laid : Laid xs b (record { shaped = q; tkhd = t .a; mdhd = m .a; hdlr = m .b; dref = d .a; stsd = s .a; stts = s .b; stsc = s .c; stsz = s .d; stco = s .e })
+    pub laid : Laid xs b (record {
+      shaped = q;
+      tkhd = t .a;
+      mdhd = m .a;
+      hdlr = m .b;
+      dref = d .a;
+      stsd = s .a;
+      stts = s .b;
+      stsc = s .c;
+      stsz = s .d;
+      stco = s .e;
+    })
     unfolding follow
     laid =
         record {
@@ -90,7 +102,18 @@ module _ {xs : List ℕ} {trak : Slot} {t m i d s : Five}
           stco = at-in (gs .fifth) stbl-is;
         }
 
-  pub listed : (q : ℕ) → Listed xs trak (record { shaped = q; tkhd = t .a; mdhd = m .a; hdlr = m .b; dref = d .a; stsd = s .a; stts = s .b; stsc = s .c; stsz = s .d; stco = s .e })
+  pub listed : (q : ℕ) → Listed xs trak (record {
+    shaped = q;
+    tkhd = t .a;
+    mdhd = m .a;
+    hdlr = m .b;
+    dref = d .a;
+    stsd = s .a;
+    stts = s .b;
+    stsc = s .c;
+    stsz = s .d;
+    stco = s .e;
+  })
   unfolding follow placeAlong
   listed q =
       record {
@@ -99,5 +122,13 @@ module _ {xs : List ℕ} {trak : Slot} {t m i d s : Five}
             let in-minf = found-short STBL 0 (find MINF (mdia b)) refl in
             let in-mdia = found-short MINF 0 (find MDIA (boxes b)) refl in
             let n = nth-there STSD 0 (boxes (find STBL (minf b))) (λ q. let l = ap length q in omega arith) in
-            omega (arith, place-in MDIA (gt .second) refl (omega arith), place-in MINF (gm .third) mdia-is (omega arith), place-in STBL (gi .second) minf-is (omega arith), place-in STSD (gs .first) stbl-is h, start-eight STSD (heads (find STBL (minf b))) n);
+            omega (
+              arith,
+              place-in MDIA (gt .second) refl (omega arith),
+              place-in MINF (gm .third) mdia-is (omega arith),
+              place-in STBL
+                  (gi .second) minf-is (omega arith),
+              place-in STSD (gs .first) stbl-is h,
+              start-eight STSD (heads (find STBL (minf b))) n,
+            );
       }

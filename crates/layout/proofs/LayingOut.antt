@@ -30,7 +30,8 @@ whole-is xs = let z : length xs - 0 ≡ length xs = omega arith in rw z (take-le
 pub all-is : {xs : List ℕ} {s : Slot} → s ≡ wholeOf xs → slotIn xs s ≡ xs
 all-is {xs} e = ap (slotIn xs) e ∙ whole-is xs
 
-module _ {xs : List ℕ} {s : Slot} (e : s ≡ wholeOf xs) {f m : Five} (gf : Gathered xs s (firstOf FTYP) (firstOf MOOV) (firstOf MOOV) (firstOf MOOV) (firstOf MOOV) f)
+module _ {xs : List ℕ} {s : Slot} (e : s ≡ wholeOf xs) {f m : Five} (gf : Gathered xs s (firstOf FTYP) (firstOf MOOV) (firstOf MOOV) (firstOf MOOV)
+    (firstOf MOOV) f)
     (gm : Gathered xs (f .b) (firstOf MVHD) (wanted 0) (wanted 1) (wanted 2) (wanted 3) m) where
   moov-at : At xs (find MOOV (boxes xs)) (f .b)
   moov-at = at-in (gf .second) (all-is e)
@@ -53,7 +54,17 @@ module _ {xs : List ℕ} {s : Slot} (e : s ≡ wholeOf xs) {f m : Five} (gf : Ga
           });
         }
 
-    pub laid-out : LaidOut xs (record { shaped = w; tracks = m .b .n; ftyp = f .a; moov = f .b; mvhd = m .a; one = m .b; two = m .c; three = m .d; four = m .e })
+    pub laid-out : LaidOut xs (record {
+      shaped = w;
+      tracks = m .b .n;
+      ftyp = f .a;
+      moov = f .b;
+      mvhd = m .a;
+      one = m .b;
+      two = m .c;
+      three = m .d;
+      four = m .e;
+    })
     laid-out =
         record {
           shaped = framed;
@@ -72,7 +83,12 @@ module _ {xs : List ℕ} {s : Slot} (e : s ≡ wholeOf xs) {f m : Five} (gf : Ga
   moov-place : 0 < tracks xs → f .b .from ≡ startIn MOOV 0 (boxes xs)
   moov-place h =
       let n : 0 < length (find MOOV (boxes xs)) =
-      lt-or 0 (length (find MOOV (boxes xs))) (λ k. k) (λ k. absurd (omega (arith, ap (count TRAK) (no-boxes (find MOOV (boxes xs)) (omega arith)), none-counted TRAK))) in
+      lt-or 0 (length (find MOOV (boxes xs))) (λ k. k) (λ k. absurd (omega (
+        arith,
+        ap (count TRAK) (no-boxes (find MOOV (boxes xs))
+            (omega arith)),
+        none-counted TRAK,
+      ))) in
       place-in MOOV (gf .second) (all-is e) n ∙ ap (λ (p : ℕ). p + startIn MOOV 0 (boxes xs)) (ap (λ (w : Slot). w .from) e) ∙ omega arith
 
   place-of : {i : ℕ} {w : Slot} → Stands xs (f .b) (wanted i) w → i < tracks xs → w .from ≡ startIn MOOV 0 (boxes xs) + startIn TRAK i (movie xs)
@@ -81,12 +97,23 @@ module _ {xs : List ℕ} {s : Slot} (e : s ≡ wholeOf xs) {f m : Five} (gf : Ga
       let p = ap (λ (ys : List ℕ). startIn TRAK i (boxes ys)) (moov-at .is) in
       omega (arith, k .place (omega (arith, k .counted)), moov-place (omega arith))
 
-  pub spread : (w : ℕ) → Spread xs (record { shaped = w; tracks = m .b .n; ftyp = f .a; moov = f .b; mvhd = m .a; one = m .b; two = m .c; three = m .d; four = m .e })
+  pub spread : (w : ℕ) → Spread xs (record {
+    shaped = w;
+    tracks = m .b .n;
+    ftyp = f .a;
+    moov = f .b;
+    mvhd = m .a;
+    one = m .b;
+    two = m .c;
+    three = m .d;
+    four = m .e;
+  })
   unfolding trackSlot
   spread w =
       record {
         place = λ i h k.
-            by-four (λ j s. j < tracks xs → s .from ≡ startIn MOOV 0 (boxes xs) + startIn TRAK j (movie xs)) (place-of (gm .second)) (place-of (gm .third)) (place-of (gm .fourth)) (place-of (gm .fifth)) i h k;
+            by-four (λ j s. j < tracks xs → s .from ≡ startIn MOOV 0 (boxes xs) + startIn TRAK j (movie xs)) (place-of (gm .second)) (place-of (gm .third))
+            (place-of (gm .fourth)) (place-of (gm .fifth)) i h k;
       }
 
 -- ---- a track by its number

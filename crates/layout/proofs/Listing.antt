@@ -42,7 +42,15 @@ unfolding track listIn follow
 list-none xs t e h =
     let b = track xs t in
     let n = ap length (nth-none TRAK t (movie xs) h) in
-    list-empty xs t e (omega (arith, length-drop FRONT (follow toStsd b), found-short MDIA 0 b refl, found-short MINF 0 (find MDIA (boxes b)) refl, found-short STBL 0 (find MINF (mdia b)) refl, found-short STSD 0 (find STBL (minf b)) refl))
+    list-empty xs t e (omega (
+      arith,
+      length-drop FRONT (follow toStsd b),
+      found-short MDIA 0 b refl,
+      found-short MINF 0 (find MDIA
+          (boxes b)) refl,
+      found-short STBL 0 (find MINF (mdia b)) refl,
+      found-short STSD 0 (find STBL (minf b)) refl,
+    ))
 
 -- its `stsd` has no front
 module _ (xs : List ℕ) (t : ℕ) {o : Slot} (a : At xs (follow toStsd (track xs t)) o) where
@@ -64,10 +72,17 @@ module _ (xs : List ℕ) (t : ℕ) {o : Slot} (a : At xs (follow toStsd (track x
     list-is =
         let m : o .to ≡ o .from + (o .to - o .from) = omega (arith, a .lies .order) in
         let p : slotIn xs s ≡ take (o .to - o .from - FRONT) (drop FRONT (slotIn xs o)) =
-        rw (f, g) (ap (λ (n : ℕ). take (n - (o .from + FRONT)) (drop (o .from + FRONT) xs)) m ∙ slot-part xs o FRONT (o .to - o .from) (a .lies) h (omega arith)) in
-        p ∙ rw (a .is) (take-all (o .to - o .from - FRONT) (drop FRONT (follow toStsd (track xs t))) (omega (arith, length-drop FRONT (follow toStsd (track xs t)), span-is)))
+        rw (f, g) (ap (λ (n : ℕ). take (n - (o .from + FRONT)) (drop (o .from + FRONT) xs)) m ∙ slot-part xs o FRONT (o .to - o .from)
+        (a .lies) h (omega arith)) in
+        p ∙ rw (a .is) (take-all (o .to - o .from - FRONT) (drop FRONT (follow toStsd (track xs t))) (omega (
+          arith,
+          length-drop FRONT (follow toStsd
+              (track xs t)),
+          span-is,
+        )))
 
-    pub list-at : s .n ≡ count ANY (boxes (slotIn xs s)) → (0 < length (follow toStsd (track xs t)) → o .from ≡ startIn MOOV 0 (boxes xs) + startIn TRAK t (movie xs) + placeAlong toStsd (track xs t) + HEAD) → ListAt xs t s
+    pub list-at : s .n ≡ count ANY (boxes (slotIn xs s)) → (0 < length (follow toStsd (track xs t)) → o .from ≡ startIn MOOV 0 (boxes xs) + startIn TRAK t
+        (movie xs) + placeAlong toStsd (track xs t) + HEAD) → ListAt xs t s
     unfolding listStart
     list-at c e =
         record {
@@ -78,7 +93,8 @@ module _ (xs : List ℕ) (t : ℕ) {o : Slot} (a : At xs (follow toStsd (track x
         }
 
 -- where the `stsd` of a track stands
-pub track-place : {xs : List ℕ} {m : Movie} {t : ℕ} {s : Slot} {k : Track} → Spread xs m → slotIn xs (trackSlot m t) ≡ track xs t → t < 4 → t < tracks xs → s ≡ trackSlot m t → Listed xs s k
+pub track-place : {xs : List ℕ} {m : Movie} {t : ℕ} {s : Slot} {k : Track} → Spread xs m → slotIn xs (trackSlot m t) ≡ track xs t → t < 4 → t < tracks xs
+    → s ≡ trackSlot m t → Listed xs s k
     → 0 < length (follow toStsd (track xs t)) → k .stsd .from ≡ startIn MOOV 0 (boxes xs) + startIn TRAK t (movie xs) + placeAlong toStsd (track xs t) + HEAD
 track-place {xs} {m} {t} {s} p a four h e l z =
     let i : slotIn xs s ≡ track xs t = ap (slotIn xs) e ∙ a in

@@ -55,7 +55,8 @@ noted-none xs ys p u {s} z e =
       met = λ h. absurd (omega arith);
     })
 
-module _ {xs ys : List ℕ} {o : Slot} (y : ys ≡ slotIn xs o) (w : Lies xs o) {u : Want} {at : ℕ} {s : Slot} (k : Noted xs ys (o .from) u at s) {b : BoxAt} {v : Walk} (r : Ran ys at b v) where
+module _ {xs ys : List ℕ} {o : Slot} (y : ys ≡ slotIn xs o) (w : Lies xs o) {u : Want} {at : ℕ} {s : Slot} (k : Noted xs ys
+    (o .from) u at s) {b : BoxAt} {v : Walk} (r : Ran ys at b v) where
   within : b .at + b .span ≤ o .to - o .from
   within = omega (arith, r .start, rw (y, length-take, length-drop) at (r .inside))
 
@@ -87,7 +88,8 @@ module _ {xs ys : List ℕ} {o : Slot} (y : ys ≡ slotIn xs o) (w : Lies xs o) 
               let a = k .ahead (omega arith) in (
                 a .1 ∙ ap (λ (m : ℕ). nth (u .code) m (boxes (drop at ys))) z ∙ ap (nth (u .code) 0) (r .list) ∙ nth-hit (u .code) (boxAt ys b) (boxes rest) hit
                     ∙ rw y (sym (slot-part xs o (b .at + b .head) (b .at + b .span) w (omega (arith, r .least)) within)),
-                let f : startIn (u .code) (u .nth - s .n) (boxes (drop at ys)) ≡ b .head = rw (z, r .list) (start-hit (u .code) (boxAt ys b) (boxes rest) hit) in
+                let f : startIn (u .code) (u .nth - s .n) (boxes (drop at ys)) ≡ b .head = rw (z, r .list) (start-hit (u .code) (boxAt ys b)
+                    (boxes rest) hit) in
                     omega (arith, a .2, f, r .start),
               );
         }
@@ -106,7 +108,8 @@ module _ {xs ys : List ℕ} {o : Slot} (y : ys ≡ slotIn xs o) (w : Lies xs o) 
               let f : startIn (u .code) (u .nth - s .n) (boxes (drop at ys)) ≡ size (boxAt ys b) + startIn (u .code) (u .nth - (s .n + 1)) (boxes rest) =
               rw (m, r .list) (start-next (u .code) (boxAt ys b) (boxes rest) hit _) in (
                 a .0,
-                a .1 ∙ ap (λ (j : ℕ). nth (u .code) j (boxes (drop at ys))) m ∙ ap (nth (u .code) _) (r .list) ∙ nth-next (u .code) (boxAt ys b) (boxes rest) hit _,
+                a .1 ∙ ap (λ (j : ℕ). nth (u .code) j (boxes (drop at ys))) m ∙ ap (nth (u .code) _) (r .list) ∙ nth-next (u .code) (boxAt ys b)
+                    (boxes rest) hit _,
                 omega (arith, a .2, f, ran-next r 0),
               );
           met = λ h. k .met (omega arith);

@@ -60,10 +60,12 @@ module _ {xs : List ℕ} {w : Slot} {a b c d e : Want} {g : Five} (k : Gathered 
   gathered-two = was-yea _ _ (o .tiled z) (k .tiled)
 
   -- the kind is shaped where each code has one box
-  pub gathered-has : (i : ℕ) → (count (a .code) (boxes (slotIn xs w)) ≡ 1 → count (b .code) (boxes (slotIn xs w)) ≡ 1 → count (c .code) (boxes (slotIn xs w)) ≡ 1
+  pub gathered-has : (i : ℕ) → (count (a .code) (boxes (slotIn xs w)) ≡ 1 → count (b .code) (boxes (slotIn xs w)) ≡ 1
+      → count (c .code) (boxes (slotIn xs w)) ≡ 1
       → count (d .code) (boxes (slotIn xs w)) ≡ 1 → count (e .code) (boxes (slotIn xs w)) ≡ 1 → shape i (boxes (slotIn xs w)) ≡ true) → Has i (slotIn xs w)
   gathered-has i f =
       record {
         two = gathered-two;
-        three = f (one-of (k .first) (o .first z)) (one-of (k .second) (o .second z)) (one-of (k .third) (o .third z)) (one-of (k .fourth) (o .fourth z)) (one-of (k .fifth) (o .fifth z));
+        three = f (one-of (k .first) (o .first z)) (one-of (k .second) (o .second z)) (one-of (k .third) (o .third z)) (one-of (k .fourth) (o .fourth z))
+            (one-of (k .fifth) (o .fifth z));
       }

@@ -32,7 +32,16 @@ module _ {xs : List ℕ} {t sum : ℕ} (k : Tally xs t sum) where
   module _ {s : Slot} (a : ListAt xs t s) (m : length xs ≤ LONGEST) where
     few-here : s .n ≤ LONGEST
     few-here =
-        omega (arith, a .counted, count-total ANY (heads (listIn (track xs t))), total-is (listIn (track xs t)), ap length (a .is), slot-length (a .lies), a .lies .inside)
+        omega (
+          arith,
+          a .counted,
+          count-total ANY (heads (listIn (track xs t))),
+          total-is (listIn (track xs t)),
+          ap length (a .is),
+          slot-length
+              (a .lies),
+          a .lies .inside,
+        )
 
     pub tally-fits : t < 4 → sum + s .n < 2 ^ 63
     tally-fits h = omega (arith, k .few, few-here)
@@ -44,7 +53,14 @@ module _ {xs : List ℕ} {t sum : ℕ} (k : Tally xs t sum) where
         record {
           most = omega arith;
           few = omega (arith, k .few, few-here);
-          is = k .is ∙ omega (arith, ap length (from-here xs h p), length-append (own xs h p) (entriesIn (drop (t + 1) (stsdsFrom 0 (movie xs) p))), long xs h p, a .counted);
+          is = k .is ∙ omega (
+            arith,
+            ap length (from-here xs h p),
+            length-append (own xs h p) (entriesIn (drop (t + 1)
+                (stsdsFrom 0 (movie xs) p))),
+            long xs h p,
+            a .counted,
+          );
         }
 
   pub tally-end : tracks xs ≤ t → sum ≡ length (entries xs)

@@ -30,7 +30,12 @@ module _ (t : Bool) {v w : Verdict} (e : v ≡ w) (q : isFine w ≡ t) where
 -- rule 6 of the four tables, as facts
 pub tables-six : (xs : List ℕ) (t : Track) → formsFine xs t ≡ true → Six (slotIn xs (t .stts)) (slotIn xs (t .stsc)) (slotIn xs (t .stsz)) (slotIn xs (t .stco))
 unfolding formsFine
-tables-six xs t e = record { times = form-is _ _ (clause 0 _ e); runs = form-is _ _ (clause 1 _ e); sizes = form-is _ _ (clause 2 _ e); offsets = form-is _ _ (clause 3 _ e) }
+tables-six xs t e = record {
+  times = form-is _ _ (clause 0 _ e);
+  runs = form-is _ _ (clause 1 _ e);
+  sizes = form-is _ _ (clause 2 _ e);
+  offsets = form-is _ _ (clause 3 _ e);
+}
 
 -- with rule 7 they are ready for rule 8
 pub tables-ready : (stts stsc stsz stco : List ℕ) (n : ℕ) → Six stts stsc stsz stco → tablesAgree stts stsc stsz stco n ≡ true → Ready stsc stsz stco

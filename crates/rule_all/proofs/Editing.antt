@@ -42,7 +42,8 @@ module _ (xs : List ℕ) where
 
   minf-edits : n STBL ≤ 1 → Edits 1 STBL (find STBL (boxes xs)) → Edits 2 MINF xs
   unfolding barred exactly ifEq
-  minf-edits h e = edits 1 MINF xs refl (in-minf editableRule 1 xs (all-any (λ x z. dinf-edits (x .body)) (boxes xs)) (few 1 STBL xs (λ z. omega arith) h (λ q. e)))
+  minf-edits h e = edits 1 MINF xs refl (in-minf editableRule 1 xs (all-any (λ x z. dinf-edits (x .body)) (boxes xs))
+      (few 1 STBL xs (λ z. omega arith) h (λ q. e)))
 
   pub trak-edits : n MDIA ≤ 1 → n META ≡ 0 → (0 < n MDIA → Edits 3 MDIA (find MDIA (boxes xs))) → Edits 4 TRAK xs
   unfolding barred exactly ifEq
@@ -65,4 +66,5 @@ pub file-edits : {xs ys : List ℕ} → ys ≡ xs → count MOOV (boxes ys) ≤ 
     → count META (boxes ys) ≡ 0 → Edits 5 MOOV (find MOOV (boxes ys)) → Edits 6 FILE xs
 unfolding barred exactly ifEq
 file-edits {xs} {ys} q h a b c d e =
-    subst (Edits 6 FILE) q (edits 5 FILE ys (rw (is-eq _ _ a, is-eq _ _ b, is-eq _ _ c, is-eq _ _ d)) (in-file editableRule 5 ys (few 5 MOOV ys (λ z. omega arith) h (λ z. e))))
+    subst (Edits 6 FILE) q (edits 5 FILE ys (rw (is-eq _ _ a, is-eq _ _ b, is-eq _ _ c, is-eq _ _ d)) (in-file editableRule 5 ys (few 5 MOOV ys
+    (λ z. omega arith) h (λ z. e))))

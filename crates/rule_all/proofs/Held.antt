@@ -20,7 +20,8 @@ use Rattle.rule_all.specs.All.{allRules}
 -- ---- containers in a container
 
 -- by the six codes, and any other
-module _ (P : ℕ → ℕ → Type 0) (a : P MOOV FILE) (b : P TRAK MOOV) (d : P MDIA TRAK) (e : P MINF MDIA) (f : P STBL MINF) (g : P DINF MINF) (h : (c : ℕ) → P c 0) where
+module _ (P : ℕ → ℕ → Type 0) (a : P MOOV FILE) (b : P TRAK MOOV) (d : P MDIA TRAK) (e : P MINF MDIA) (f : P STBL MINF) (g : P DINF MINF) (h : (c : ℕ)
+    → P c 0) where
   parent-any : (c : ℕ) → P c (parent c)
   unfolding parent ifEq
   parent-any c =
@@ -42,23 +43,28 @@ module _ (T : ℕ → Type 0) where
   module _ (c : ℕ) where
     pub inside-file : Inner MOOV MOOV T c (kindIn FILE c)
     unfolding kindIn ifEq
-    inside-file = parent-any (λ c p. Inner MOOV MOOV T c (ifEq p FILE c 0)) (λ s t z. s refl) (other _ _ _) (other _ _ _) (other _ _ _) (other _ _ _) (other _ _ _) (λ c. other _ _ c) c
+    inside-file = parent-any (λ c p. Inner MOOV MOOV T c (ifEq p FILE c 0)) (λ s t z. s refl) (other _ _ _) (other _ _ _) (other _ _ _) (other _ _ _)
+        (other _ _ _) (λ c. other _ _ c) c
 
     pub inside-moov : Inner TRAK TRAK T c (kindIn MOOV c)
     unfolding kindIn ifEq
-    inside-moov = parent-any (λ c p. Inner TRAK TRAK T c (ifEq p MOOV c 0)) (other _ _ _) (λ s t z. s refl) (other _ _ _) (other _ _ _) (other _ _ _) (other _ _ _) (λ c. other _ _ c) c
+    inside-moov = parent-any (λ c p. Inner TRAK TRAK T c (ifEq p MOOV c 0)) (other _ _ _) (λ s t z. s refl) (other _ _ _) (other _ _ _) (other _ _ _)
+        (other _ _ _) (λ c. other _ _ c) c
 
     pub inside-trak : Inner MDIA MDIA T c (kindIn TRAK c)
     unfolding kindIn ifEq
-    inside-trak = parent-any (λ c p. Inner MDIA MDIA T c (ifEq p TRAK c 0)) (other _ _ _) (other _ _ _) (λ s t z. s refl) (other _ _ _) (other _ _ _) (other _ _ _) (λ c. other _ _ c) c
+    inside-trak = parent-any (λ c p. Inner MDIA MDIA T c (ifEq p TRAK c 0)) (other _ _ _) (other _ _ _) (λ s t z. s refl) (other _ _ _) (other _ _ _)
+        (other _ _ _) (λ c. other _ _ c) c
 
     pub inside-mdia : Inner MINF MINF T c (kindIn MDIA c)
     unfolding kindIn ifEq
-    inside-mdia = parent-any (λ c p. Inner MINF MINF T c (ifEq p MDIA c 0)) (other _ _ _) (other _ _ _) (other _ _ _) (λ s t z. s refl) (other _ _ _) (other _ _ _) (λ c. other _ _ c) c
+    inside-mdia = parent-any (λ c p. Inner MINF MINF T c (ifEq p MDIA c 0)) (other _ _ _) (other _ _ _) (other _ _ _) (λ s t z. s refl) (other _ _ _)
+        (other _ _ _) (λ c. other _ _ c) c
 
     pub inside-minf : Inner DINF STBL T c (kindIn MINF c)
     unfolding kindIn ifEq
-    inside-minf = parent-any (λ c p. Inner DINF STBL T c (ifEq p MINF c 0)) (other _ _ _) (other _ _ _) (other _ _ _) (other _ _ _) (λ s t z. t refl) (λ s t z. s refl) (λ c. other _ _ c) c
+    inside-minf = parent-any (λ c p. Inner DINF STBL T c (ifEq p MINF c 0)) (other _ _ _) (other _ _ _) (other _ _ _) (other _ _ _) (λ s t z. t refl)
+        (λ s t z. s refl) (λ c. other _ _ c) c
 
 pub inside-stbl : (c : ℕ) → kindIn STBL c ≡ 0
 unfolding kindIn ifEq

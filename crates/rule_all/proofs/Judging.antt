@@ -45,9 +45,11 @@ module _ {xs b : List ℕ} {t : Track} (h : Laid xs b t) where
         (mdia-all (boxes xs) 2 (s .mdia) (rw (h .mdhd .is) at (clause 1 _ head)) (rw (h .hdlr .is) at (clause 2 _ head))
         (minf-all (boxes xs) 1 (s .minf)
         (dinf-all (boxes xs) 0 (s .dinf) (rw (h .dref .is) at (clause 0 _ list)) (rw (h .dref .is) at (clause 1 _ list)))
-        (stbl-all (boxes xs) 0 (s .stbl) (rw (h .stsd .is) at (clause 2 _ list)) (rw (h .stts .is) at (clause 0 _ table)) (rw (h .stsc .is) at (clause 1 _ table))
+        (stbl-all (boxes xs) 0 (s .stbl) (rw (h .stsd .is) at (clause 2 _ list)) (rw (h .stts .is) at (clause 0 _ table))
+        (rw (h .stsc .is) at (clause 1 _ table))
         (rw (h .stsz .is) at (clause 2 _ table)) (rw (h .stco .is) at (clause 3 _ table))
-        (rw (h .stts .is, h .stsc .is, h .stsz .is, h .stco .is, h .stsd .is) at (clause 0 _ both)) (rw (h .stsc .is, h .stsz .is, h .stco .is) at (clause 1 _ both)))))
+        (rw (h .stts .is, h .stsc .is, h .stsz .is, h .stco .is, h .stsd .is) at (clause 0 _ both)) (rw (h .stsc .is, h .stsz .is, h .stco .is) at
+        (clause 1 _ both)))))
 
     all-entries : entriesFine (aroundOf b) (drop FRONT (follow toStsd b)) ≡ true
     unfolding aroundOf scale handler references

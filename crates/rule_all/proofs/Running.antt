@@ -58,7 +58,8 @@ module _ {xs : List ℕ} {i total one two three : ℕ} (k : Run xs i total one t
         (λ d. eq-or n (i - 2) (λ f. a .second q (omega arith) (own ∙ sym e ∙ ap (identity (movie xs)) f ∙ sym (k .second (omega arith))))
         (λ f. a .third q (omega arith) (own ∙ sym e ∙ ap (identity (movie xs)) (omega arith) ∙ sym (k .third (omega arith)))))))
 
-    pub run-more : {r : ℕ} → Again r (t .identity) i one two three → r ≡ 0 → total + t .entries ≤ MOST → Run xs (i + 1) (total + t .entries) (t .identity) one two
+    pub run-more : {r : ℕ} → Again r (t .identity) i one two three → r ≡ 0 → total + t .entries ≤ MOST → Run xs (i + 1) (total + t .entries)
+        (t .identity) one two
     run-more a q m =
         let p : i + 1 - 1 ≡ i = omega arith in
         let s : i + 1 - 2 ≡ i - 1 = omega arith in

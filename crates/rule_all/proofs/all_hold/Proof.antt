@@ -21,5 +21,6 @@ all-hold-spec = tie.close (tie.spec
     let h = was-yea _ _ (c .before .if2 .left) (c .before .before .heads-fine .ensures) in
     record {
       holds = λ z.
-          file-all _ _ (l .shaped (c .before .before .before .if1 .left)) (rw (l .ftyp .is) at (clause 0 _ h)) (rw (l .mvhd .is) at (clause 1 _ h)) (t .each z) (t .differ z) (t .few z);
+          file-all _ _ (l .shaped (c .before .before .before .if1 .left)) (rw (l .ftyp .is) at (clause 0 _ h)) (rw (l .mvhd .is) at (clause 1 _ h))
+          (t .each z) (t .differ z) (t .few z);
     }))

@@ -15,4 +15,6 @@ heads-fine-spec = tie.close (tie.spec
     (λ c. nay _ (fails 0 _ (found-nay (form FILE FTYP) (c .before .form .ensures) _ (c .before .before .bytes .ensures) (c .if1 .taken))))
     (λ c κs. search needs)
     (λ c κs. search needs)
-    (λ c. answer _ _ (rw (c .before .bytes2 .ensures) at (c .form2 .ensures)) (holds _ _ (found-yea (form FILE FTYP) (c .before .before .before .before .form .ensures) _ (c .before .before .before .before .before .bytes .ensures) (c .before .before .before .if1 .left)) (decides _))))
+    (λ c. answer _ _ (rw (c .before .bytes2 .ensures) at (c .form2 .ensures)) (holds _ _ (found-yea (form FILE FTYP)
+    (c .before .before .before .before .form .ensures) _ (c .before .before .before .before .before .bytes .ensures)
+    (c .before .before .before .if1 .left)) (decides _))))

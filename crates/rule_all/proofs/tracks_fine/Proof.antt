@@ -29,5 +29,8 @@ tracks-fine-spec = tie.close (tie.spec Inv μ
     (λ c. omega arith)
     (λ c. let p = c .before .before .before .before .before .before .before .before .before .before .before .pre in
     let a = slot-at (p .0) (c .before .before .before .before .before .before .before .before .before .loop .i) (omega (arith, p .0 .tracks, p .1)) in
-    run-more (c .before .before .before .before .before .before .before .before .before .loop .inv) (omega (arith, p .0 .tracks)) (p .1) (rw (c .before .before .before .before .before .before .before .track-slot .ensures, a .is) at (c .before .before .before .before .before .before .judge .ensures)) (c .before .before .before .before .if1 .left) (c .before .before .before .again .ensures) (omega arith) (omega arith))
+    run-more (c .before .before .before .before .before .before .before .before .before .loop .inv) (omega (arith, p .0 .tracks)) (p .1)
+    (rw (c .before .before .before .before .before .before .before .track-slot .ensures, a .is) at
+    (c .before .before .before .before .before .before .judge .ensures)) (c .before .before .before .before .if1 .left)
+    (c .before .before .before .again .ensures) (omega arith) (omega arith))
     (λ c. let p = c .before .before .before .pre in run-end (c .before .loop .inv) (omega (arith, p .0 .tracks)) 1))

@@ -23,10 +23,12 @@ entry-spec = tie.close (tie.spec Inv μ
     (λ c. let p = c .before .before .before .before .before .before .before .pre in
     let a = list-of (p .0) (c .before .before .before .before .before .loop .t) (omega (arith, p .0 .tracks, p .1)) in
     named-in _ (λ j. c .before .before .before .before .before .before .shared-slice-known .given j .fits)
-    (left-in (c .before .before .before .before .before .loop .inv) (omega (arith, p .0 .tracks)) {n = c .before .before .before .list-slot .result .n} (rw (c .before .before .before .list-slot .ensures) (a .counted)) (omega arith)) _ (c .entry-in .ensures))
+    (left-in (c .before .before .before .before .before .loop .inv) (omega (arith, p .0 .tracks)) {n = c .before .before .before .list-slot .result .n} (rw
+    (c .before .before .before .list-slot .ensures) (a .counted)) (omega arith)) _ (c .entry-in .ensures))
     (λ c. let p = c .before .before .before .before .before .before .before .pre in omega (arith, p .0 .tracks, p .1))
     (λ c. omega arith)
     (λ c. let p = c .before .before .before .before .before .before .before .pre in
     let a = list-of (p .0) (c .before .before .before .before .before .loop .t) (omega (arith, p .0 .tracks, p .1)) in
-    left-more (c .before .before .before .before .before .loop .inv) (omega (arith, p .0 .tracks)) {n = c .before .before .before .list-slot .result .n} (rw (c .before .before .before .list-slot .ensures) (a .counted)) (omega arith))
+    left-more (c .before .before .before .before .before .loop .inv) (omega (arith, p .0 .tracks)) {n = c .before .before .before .list-slot .result .n}
+    (rw (c .before .before .before .list-slot .ensures) (a .counted)) (omega arith))
     (λ c. let p = c .before .before .before .pre in left-end (c .before .loop .inv) (omega (arith, p .0 .tracks))))

@@ -35,6 +35,8 @@ list-spec = tie.close (tie.spec
     (λ c κs. search needs)
     (λ c. let p = c .before .before .before .before .before .before .before .before .before .before .before .pre in
     let a = slot-at (p .0) _ (p .2) in
-    let l = (rw (c .before .before .before .before .before .before .before .track-slot .ensures, a .is) at (c .before .before .before .before .before .before .lay .ensures .0)) in
+    let l = (rw (c .before .before .before .before .before .before .before .track-slot .ensures, a .is) at
+    (c .before .before .before .before .before .before .lay .ensures .0)) in
     list-at _ _ (l .stsd) (omega arith) _ refl refl (rw (c .before .bytes .ensures) at (c .count .ensures .0))
-    (track-place (p .1) (a .is) (p .2) (omega (arith, p .0 .tracks)) (c .before .before .before .before .before .before .before .track-slot .ensures) (c .before .before .before .before .before .before .lay .ensures .1))))
+    (track-place (p .1) (a .is) (p .2) (omega (arith, p .0 .tracks)) (c .before .before .before .before .before .before .before .track-slot .ensures)
+    (c .before .before .before .before .before .before .lay .ensures .1))))

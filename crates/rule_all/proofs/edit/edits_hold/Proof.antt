@@ -20,6 +20,8 @@ edits-hold-spec = tie.close (tie.spec
     (λ c. let g = c .before .before .before .before .before .before .before .before .before .before .before .firsts .ensures in
     record {
       holds = λ z.
-          file-edits (all-is (c .before .before .before .before .before .before .before .before .before .before .before .before .whole .ensures .0)) (omega (arith, g .first .counted)) (omega (arith, g .second .counted))
-          (omega (arith, g .third .counted)) (omega (arith, g .fourth .counted)) (omega (arith, g .fifth .counted)) (rw (g .first .is) at (c .moov-edits .ensures .holds z));
+          file-edits (all-is (c .before .before .before .before .before .before .before .before .before .before .before .before .whole .ensures .0))
+          (omega (arith, g .first .counted)) (omega (arith, g .second .counted))
+          (omega (arith, g .third .counted)) (omega (arith, g .fourth .counted)) (omega (arith, g .fifth .counted))
+          (rw (g .first .is) at (c .moov-edits .ensures .holds z));
     }))

@@ -11,7 +11,10 @@ trak-edits-spec = tie.close (tie.spec
     (λ c κs. search needs)
     (λ c. sure-none _)
     (λ c. let g = c .before .before .before .before .two .ensures in
-    record { holds = λ z. trak-edits _ (omega (arith, g .first .counted)) (omega (arith, g .second .counted)) (λ h. absurd (omega (arith, g .first .counted))) })
+    record {
+      holds = λ z. trak-edits _ (omega (arith, g .first .counted)) (omega (arith, g .second .counted)) (λ h. absurd (omega
+          (arith, g .first .counted)));
+    })
     (λ c. sure-none _)
     (λ c κs. search needs)
     (λ c. let g = c .before .before .before .before .before .before .before .two .ensures in

@@ -17,7 +17,8 @@ entries-fine-spec = tie.close (tie.spec
     (λ c κs. search needs)
     (λ c κs. search needs)
     (λ c κs. search needs)
-    (λ c κs. rw (c .rest .ensures, length-drop, c .before .bytes4 .ensures, length-take, length-drop) (omega (arith, c .before .before .before .before .before .before .before .before .before .before .before .before .before .pre .0 .stsd .inside, c .before .before .before .before .before .before .before .before .before .before .before .before .before .pre .1)))
+    (λ c κs. rw (c .rest .ensures, length-drop, c .before .bytes4 .ensures, length-take, length-drop) (omega
+    (arith, c .before .before .before .before .before .before .before .before .before .before .before .before .before .pre .0 .stsd .inside, c .before .before .before .before .before .before .before .before .before .before .before .before .before .pre .1)))
     (λ c. search needs)
     (λ c. search needs)
     (λ c. fine-yea _ (rw (c .before .before .before .rest .ensures, c .before .before .before .before .bytes4 .ensures, c .before .before .before .before .before .word323 .ensures .0, c .before .before .before .before .before .before .bytes3 .ensures, c .before .before .before .before .before .before .before .word322 .ensures .0, c .before .before .before .before .before .before .before .before .bytes2 .ensures, c .before .before .before .before .before .before .before .before .before .word32 .ensures .0, c .before .before .before .before .before .before .before .before .before .before .bytes .ensures) at (c .before .before .entries-from .ensures)) (entries-fine _ _ 0) (c .enum-told .given .1))

@@ -22,4 +22,12 @@ forms-fine-spec = tie.close (tie.spec
     (λ c. nay _ (fails 2 _ (found-nay (sizesForm) (c .before .sizes-form .ensures) _ (c .before .before .bytes3 .ensures) (c .if3 .taken))))
     (λ c κs. search needs)
     (λ c κs. search needs)
-    (λ c. answer _ _ (rw (c .before .bytes4 .ensures) at (c .table-form3 .ensures)) (holds _ _ (found-yea (tableForm 8) (c .before .before .before .before .before .before .before .before .before .before .before .before .table-form .ensures) _ (c .before .before .before .before .before .before .before .before .before .before .before .before .before .bytes .ensures) (c .before .before .before .before .before .before .before .before .before .before .before .if1 .left)) (holds _ _ (found-yea (tableForm 12) (c .before .before .before .before .before .before .before .before .table-form2 .ensures) _ (c .before .before .before .before .before .before .before .before .before .bytes2 .ensures) (c .before .before .before .before .before .before .before .if2 .left)) (holds _ _ (found-yea (sizesForm) (c .before .before .before .before .sizes-form .ensures) _ (c .before .before .before .before .before .bytes3 .ensures) (c .before .before .before .if3 .left)) (decides _))))))
+    (λ c. answer _ _ (rw (c .before .bytes4 .ensures) at (c .table-form3 .ensures)) (holds _ _ (found-yea (tableForm 8)
+    (c .before .before .before .before .before .before .before .before .before .before .before .before .table-form .ensures) _
+    (c .before .before .before .before .before .before .before .before .before .before .before .before .before .bytes .ensures)
+    (c .before .before .before .before .before .before .before .before .before .before .before .if1 .left)) (holds _ _ (found-yea (tableForm 12)
+    (c .before .before .before .before .before .before .before .before .table-form2 .ensures) _
+    (c .before .before .before .before .before .before .before .before .before .bytes2 .ensures)
+    (c .before .before .before .before .before .before .before .if2 .left)) (holds _ _ (found-yea (sizesForm)
+    (c .before .before .before .before .sizes-form .ensures) _ (c .before .before .before .before .before .bytes3 .ensures)
+    (c .before .before .before .if3 .left)) (decides _))))))

@@ -19,4 +19,9 @@ heads-fine-spec = tie.close (tie.spec
     (λ c. nay _ (fails 1 _ (found-nay (form MDIA MDHD) (c .before .form2 .ensures) _ (c .before .before .bytes2 .ensures) (c .if2 .taken))))
     (λ c κs. search needs)
     (λ c κs. search needs)
-    (λ c. answer _ _ (rw (c .before .bytes3 .ensures) at (c .form3 .ensures)) (holds _ _ (found-yea (form TRAK TKHD) (c .before .before .before .before .before .before .before .before .form .ensures) _ (c .before .before .before .before .before .before .before .before .before .bytes .ensures) (c .before .before .before .before .before .before .before .if1 .left)) (holds _ _ (found-yea (form MDIA MDHD) (c .before .before .before .before .form2 .ensures) _ (c .before .before .before .before .before .bytes2 .ensures) (c .before .before .before .if2 .left)) (decides _)))))
+    (λ c. answer _ _ (rw (c .before .bytes3 .ensures) at (c .form3 .ensures)) (holds _ _ (found-yea (form TRAK TKHD)
+    (c .before .before .before .before .before .before .before .before .form .ensures) _
+    (c .before .before .before .before .before .before .before .before .before .bytes .ensures)
+    (c .before .before .before .before .before .before .before .if1 .left)) (holds _ _ (found-yea (form MDIA MDHD)
+    (c .before .before .before .before .form2 .ensures) _ (c .before .before .before .before .before .bytes2 .ensures)
+    (c .before .before .before .if2 .left)) (decides _)))))

@@ -16,8 +16,12 @@ lists-fine-spec = tie.close (tie.spec
     (λ c κs. search needs)
     (λ c κs. search needs)
     (λ c. nay _ (fails 0 _ (found-nay (listForm) (c .before .list-form .ensures) _ (c .before .before .bytes .ensures) (c .if1 .taken))))
-    (λ c κs. rw (c .before .before .bytes .ensures, length-take, length-drop) (omega (arith, c .before .before .before .before .before .pre .0 .dref .inside, c .before .before .before .before .before .pre .1)))
+    (λ c κs. rw (c .before .before .bytes .ensures, length-take, length-drop) (omega
+    (arith, c .before .before .before .before .before .pre .0 .dref .inside, c .before .before .before .before .before .pre .1)))
     (λ c. nay _ (fails 1 _ (found-nay (allUrls) (c .before .urls-fine .ensures) _ (c .before .before .before .before .bytes .ensures) (c .if2 .taken))))
     (λ c κs. search needs)
     (λ c κs. search needs)
-    (λ c. answer _ _ (rw (c .before .bytes2 .ensures) at (c .list-form2 .ensures)) (holds _ _ (found-yea (listForm) (c .before .before .before .before .before .before .list-form .ensures) _ (c .before .before .before .before .before .before .before .bytes .ensures) (c .before .before .before .before .before .if1 .left)) (holds _ _ (found-yea (allUrls) (c .before .before .before .before .urls-fine .ensures) _ (c .before .before .before .before .before .before .before .bytes .ensures) (c .before .before .before .if2 .left)) (decides _)))))
+    (λ c. answer _ _ (rw (c .before .bytes2 .ensures) at (c .list-form2 .ensures)) (holds _ _ (found-yea (listForm)
+    (c .before .before .before .before .before .before .list-form .ensures) _ (c .before .before .before .before .before .before .before .bytes .ensures)
+    (c .before .before .before .before .before .if1 .left)) (holds _ _ (found-yea (allUrls) (c .before .before .before .before .urls-fine .ensures) _
+    (c .before .before .before .before .before .before .before .bytes .ensures) (c .before .before .before .if2 .left)) (decides _)))))

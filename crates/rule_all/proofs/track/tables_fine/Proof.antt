@@ -16,7 +16,9 @@ tables-fine-spec = tie.close (tie.spec
     (λ c κs. search needs)
     (λ c κs. search needs)
     (λ c κs. rw (c .bytes5 .ensures, c .before .before .before .before .before .bytes .ensures, c .before .before .before .before .bytes2 .ensures, c .before .before .before .bytes3 .ensures) (tables-six _ _ (c .before .before .before .before .before .before .before .before .before .before .before .before .pre .1)))
-    (λ c. nay _ (fails 0 _ (was-nay _ _ (c .if1 .taken) (rw (c .before .before .bytes5 .ensures, c .before .before .before .before .before .before .before .bytes .ensures, c .before .before .before .before .before .before .bytes2 .ensures, c .before .before .before .before .before .bytes3 .ensures, c .before .before .before .word32 .ensures .0, c .before .before .before .before .bytes4 .ensures) at (c .before .seven .ensures)))))
+    (λ c. nay _ (fails 0 _ (was-nay _ _ (c .if1 .taken) (rw
+    (c .before .before .bytes5 .ensures, c .before .before .before .before .before .before .before .bytes .ensures, c .before .before .before .before .before .before .bytes2 .ensures, c .before .before .before .before .before .bytes3 .ensures, c .before .before .before .word32 .ensures .0, c .before .before .before .before .bytes4 .ensures) at (c .before .seven .ensures)))))
     (λ c κs. rw (c .before .before .before .before .before .before .before .bytes .ensures, c .before .before .before .before .before .before .bytes2 .ensures, c .before .before .before .before .before .bytes3 .ensures) (tables-ready _ _ _ _ _ (tables-six _ _ (c .before .before .before .before .before .before .before .before .before .before .before .before .before .before .pre .1)) (was-yea _ _ (c .if1 .left) (rw (c .before .before .bytes5 .ensures, c .before .before .before .before .before .before .before .bytes .ensures, c .before .before .before .before .before .before .bytes2 .ensures, c .before .before .before .before .before .bytes3 .ensures, c .before .before .before .word32 .ensures .0, c .before .before .before .before .bytes4 .ensures) at (c .before .seven .ensures)))))
     (λ c. answer _ _ (rw (c .before .before .before .before .before .before .before .before .bytes .ensures, c .before .before .before .before .before .before .before .bytes2 .ensures, c .before .before .before .before .before .before .bytes3 .ensures) at (c .eight .ensures))
-    (holds _ _ (was-yea _ _ (c .before .if1 .left) (rw (c .before .before .before .bytes5 .ensures, c .before .before .before .before .before .before .before .before .bytes .ensures, c .before .before .before .before .before .before .before .bytes2 .ensures, c .before .before .before .before .before .before .bytes3 .ensures, c .before .before .before .before .word32 .ensures .0, c .before .before .before .before .before .bytes4 .ensures) at (c .before .before .seven .ensures))) (decides _))))
+    (holds _ _ (was-yea _ _ (c .before .if1 .left) (rw
+    (c .before .before .before .bytes5 .ensures, c .before .before .before .before .before .before .before .before .bytes .ensures, c .before .before .before .before .before .before .before .bytes2 .ensures, c .before .before .before .before .before .before .bytes3 .ensures, c .before .before .before .before .word32 .ensures .0, c .before .before .before .before .before .bytes4 .ensures) at (c .before .before .seven .ensures))) (decides _))))
