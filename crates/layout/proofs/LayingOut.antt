@@ -112,7 +112,7 @@ module _ {xs : List ℕ} {s : Slot} (e : s ≡ wholeOf xs) {f m : Five} (gf : Ga
   spread w =
       record {
         place = λ i h k.
-            by-four (λ j s. j < tracks xs → s .from ≡ startIn MOOV 0 (boxes xs) + startIn TRAK j (movie xs)) (place-of (gm .second)) (place-of (gm .third))
+            by-four (λ (j : ℕ) (s : Slot). j < tracks xs → s .from ≡ startIn MOOV 0 (boxes xs) + startIn TRAK j (movie xs)) (place-of (gm .second)) (place-of (gm .third))
             (place-of (gm .fourth)) (place-of (gm .fifth)) i h k;
       }
 

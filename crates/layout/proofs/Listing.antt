@@ -20,10 +20,7 @@ use Rattle.layout.specs.Track.{At, Listed}
 use Rattle.layout.specs.Tracks.{trackSlot, Spread}
 use Rattle.layout.specs.Entries.{ListAt}
 use Rattle.layout.proofs.Slots.{slot-part, slot-length}
-use Rattle.layout.proofs.Few.{no-boxes, none-counted}
-
-nil-of : (l : List ℕ) → length l ≡ 0 → l ≡ []
-nil-of l e = drop-of-length-le l {i = 0} (omega arith)
+use Rattle.layout.proofs.Few.{nil-of, no-boxes, none-counted}
 
 -- ---- no list
 
@@ -35,22 +32,6 @@ list-empty xs t e z =
       counted = sym (ap (count ANY) (no-boxes (listIn (track xs t)) z) ∙ none-counted ANY);
       place = λ h. absurd (omega arith);
     })
-
--- the track isn't there
-pub list-none : (xs : List ℕ) (t : ℕ) {s : Slot} → s ≡ nowhere → tracks xs ≤ t → ListAt xs t s
-unfolding track listIn follow
-list-none xs t e h =
-    let b = track xs t in
-    let n = ap length (nth-none TRAK t (movie xs) h) in
-    list-empty xs t e (omega (
-      arith,
-      length-drop FRONT (follow toStsd b),
-      found-short MDIA 0 b refl,
-      found-short MINF 0 (find MDIA
-          (boxes b)) refl,
-      found-short STBL 0 (find MINF (mdia b)) refl,
-      found-short STSD 0 (find STBL (minf b)) refl,
-    ))
 
 -- its `stsd` has no front
 module _ (xs : List ℕ) (t : ℕ) {o : Slot} (a : At xs (follow toStsd (track xs t)) o) where
@@ -91,11 +72,3 @@ module _ (xs : List ℕ) (t : ℕ) {o : Slot} (a : At xs (follow toStsd (track x
           counted = c ∙ ap (λ (l : List ℕ). count ANY (boxes l)) list-is;
           place = λ z. omega (arith, f, e (omega (arith, span-is, h)));
         }
-
--- where the `stsd` of a track stands
-pub track-place : {xs : List ℕ} {m : Movie} {t : ℕ} {s : Slot} {k : Track} → Spread xs m → slotIn xs (trackSlot m t) ≡ track xs t → t < 4 → t < tracks xs
-    → s ≡ trackSlot m t → Listed xs s k
-    → 0 < length (follow toStsd (track xs t)) → k .stsd .from ≡ startIn MOOV 0 (boxes xs) + startIn TRAK t (movie xs) + placeAlong toStsd (track xs t) + HEAD
-track-place {xs} {m} {t} {s} p a four h e l z =
-    let i : slotIn xs s ≡ track xs t = ap (slotIn xs) e ∙ a in
-    l .place (rw i z) ∙ rw (i, e, p .place t four h)

@@ -1,4 +1,5 @@
 pub mod Slots
 pub mod Track
 pub mod Tracks
+pub mod Every
 pub mod Entries

@@ -1,9 +1,8 @@
 // The sample entries of a file by number, from where the lists of its tracks stand.
+use crate::every;
+use crate::every::Tracks;
 use crate::gather;
 use crate::gather::Slot;
-use crate::track;
-use crate::tracks;
-use crate::tracks::Movie;
 use boxes::seek;
 use boxes::seek::Seen;
 use boxes::walk;
@@ -16,7 +15,7 @@ ghost use Rattle.boxes.specs.Containers.{LONGEST};
 ghost use Rattle.movie.specs.Movie.{tracks as tracksOf};
 ghost use Rattle.movie.specs.Entries.{entries as entriesOfFile};
 ghost use Rattle.movie.specs.Named.{PlacedAs, NamedAs};
-ghost use Rattle.layout.specs.Tracks.{LaidOut, Spread};
+ghost use Rattle.layout.specs.Every.{TracksAt};
 ghost use Rattle.layout.specs.Entries.{listSlot, ListAt, ListsAt};
 
 // How many tracks there are, and of the first four what stands past the front of their `stsd`s, with the count of entries in it.
@@ -29,14 +28,11 @@ pub struct Lists {
 }
 
 // The list of track t, from 0.
-fn list(file: &[u8], m: Movie, t: usize) -> Slot
-    requires { ⌜ LaidOut (now file) m × Spread (now file) m × (t < 4) ⌝ }
+fn list(file: &[u8], e: Tracks, t: usize) -> Slot
+    requires { ⌜ TracksAt (now file) e × (t < 4) ⌝ }
     ensures { λ r. ⌜ ListAt (now (file .entry)) t r ⌝ }
 {
-    if m.tracks <= t {
-        return gather::none();
-    }
-    let k = track::lay(file, tracks::track_slot(m, t));
+    let k = every::track(e, t);
     let stsd = k.stsd;
     if stsd.to - stsd.from < walk::FRONT {
         return gather::none();
@@ -54,16 +50,16 @@ fn list(file: &[u8], m: Movie, t: usize) -> Slot
 }
 
 // Those of a file.
-pub fn lay(file: &[u8], m: Movie) -> Lists
-    requires { ⌜ LaidOut (now file) m × Spread (now file) m ⌝ }
+pub fn lay(file: &[u8], e: Tracks) -> Lists
+    requires { ⌜ TracksAt (now file) e ⌝ }
     ensures { λ r. ⌜ ListsAt (now (file .entry)) r ⌝ }
 {
     Lists {
-        tracks: m.tracks,
-        one: list(file, m, 0),
-        two: list(file, m, 1),
-        three: list(file, m, 2),
-        four: list(file, m, 3),
+        tracks: e.count,
+        one: list(file, e, 0),
+        two: list(file, e, 1),
+        three: list(file, e, 2),
+        four: list(file, e, 3),
     }
 }
 

@@ -1,0 +1,13 @@
+-- Four tracks, one after the other.
+use borrow.Author.Needs.{needs}
+use Rattle.layout.proofs.every.lay.Statement.{statement}
+use Rattle.layout.proofs.every.lay.Tie as tie
+
+pub lay-spec : {M : Type 1} → statement M
+lay-spec = tie.close (tie.spec
+    (λ c κs. search needs)
+    (λ c κs. search needs)
+    (λ c κs. search needs)
+    (λ c κs. search needs)
+    (λ c. let p = c .before .before .before .before .before .pre in
+    record { count = p .0 .tracks; one = c .before .before .before .track-at .ensures; two = c .before .before .track-at2 .ensures; three = c .before .track-at3 .ensures; four = c .track-at4 .ensures }))
