@@ -27,9 +27,9 @@ module _ (c : ℕ) (ftyp : List ℕ) {b : List ℕ} {r : ℕ} (f : b ≡ ftyp) (
 
 -- ---- a track's entries
 
-pub one-is : (b : List ℕ) {list : List ℕ} {n r : ℕ} → list ≡ listIn b → n ≡ count ANY (boxes list) → r ≡ oneIf (isEq n 1) → r ≡ oneIf (oneEntry b)
+pub one-is : (b : List ℕ) {n r : ℕ} → n ≡ count ANY (boxes (listIn b)) → r ≡ oneIf (isEq n 1) → r ≡ oneIf (oneEntry b)
 unfolding oneEntry
-one-is b f g e = e ∙ rw (g, f)
+one-is b g e = e ∙ rw g
 
 pub plain-is : (b : List ℕ) {list : List ℕ} {n r : ℕ} → list ≡ listIn b → n ≡ count AVC1 (boxes list) → r ≡ oneIf (isEq n 0) → r ≡ oneIf (noAvc1 b)
 unfolding noAvc1

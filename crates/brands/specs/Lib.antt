@@ -1,2 +1,3 @@
 pub mod Brands
+pub mod Own
 pub mod Calls

@@ -2,54 +2,76 @@
 use crate::compatible;
 use boxes::seek;
 use boxes::seek::Seen;
+use layout::entries;
+use layout::entries::Lists;
+use layout::every;
+use layout::every::Tracks;
+use layout::gather;
 ghost use mathlib.Core.Path.{_≡_};
+ghost use Prim.Native.Nat.{_≤_, _<_};
 ghost use Rattle.wire.specs.Clauses.{oneIf};
 ghost use Rattle.boxes.specs.Boxes.{boxes};
-ghost use Rattle.movie.specs.Movie.{tracks};
-ghost use Rattle.brands.specs.Brands.{handled as handledOf, oneEntry, single as singleOf, singleTo, noAvc1, noAvc1To, few as fewOf, early as earlyOf, second as secondOf, ready as readyOf};
+ghost use Rattle.movie.specs.Movie.{tracks, track};
+ghost use Rattle.layout.specs.Every.{TracksAt};
+ghost use Rattle.layout.specs.Entries.{ListsAt};
+ghost use Rattle.brands.specs.Brands.{handled as handledOf, oneEntry, single as singleOf, singleTo, noAvc1, noAvc1To};
+ghost use Rattle.brands.specs.Brands.{few as fewOf, early as earlyOf, second as secondOf, ready as readyOf};
+ghost use Rattle.brands.specs.Own.{OwnAt};
+
+// What `3gp4` and `3gp5`, what `3gp6`, and what `3gr6` asks.
+pub struct Own {
+    pub early: usize,
+    pub few: usize,
+    pub ready: usize,
+}
 
 // How many tracks have handler h.
-fn handled(file: &[u8], h: usize) -> usize
+fn handled(file: &[u8], e: Tracks, h: usize) -> usize
+    requires { ⌜ TracksAt (now file) e × (tracks (now file) ≤ 4) ⌝ }
     ensures { λ r. ⌜ r ≡ handledOf h (now (file .entry)) ⌝ }
 {
-    let n = movie::tracks(file);
+    let n = e.count;
     let mut t = 0;
     let mut sum = 0;
     while t < n {
-        sum += compatible::equal(movie::handler(movie::track(file, t)), h);
+        sum += compatible::equal(every::handler(file, e, t), h);
         t += 1;
     }
     sum
 }
 
-// Whether a track has one sample entry.
-fn one_entry(track: &[u8]) -> usize
-    ensures { λ r. ⌜ r ≡ oneIf (oneEntry (now (track .entry))) ⌝ }
+// Whether track t has one sample entry.
+fn one_entry(file: &[u8], l: Lists, t: usize) -> usize
+    requires { ⌜ ListsAt (now file) l × (t < 4) ⌝ }
+    ensures { λ r. ⌜ r ≡ oneIf (oneEntry (track (now (file .entry)) t)) ⌝ }
 {
-    compatible::equal(seek::count(movie::entry::list(track), seek::ANY), 1)
+    let s = entries::list_slot(l, t);
+    compatible::equal(s.n, 1)
 }
 
 // Whether it has one if it is to have one.
-fn single(track: &[u8]) -> usize
-    ensures { λ r. ⌜ r ≡ oneIf (singleOf (now (track .entry))) ⌝ }
+fn single(file: &[u8], e: Tracks, l: Lists, t: usize) -> usize
+    requires { ⌜ TracksAt (now file) e × ListsAt (now file) l × (t < 4) ⌝ }
+    ensures { λ r. ⌜ r ≡ oneIf (singleOf (track (now (file .entry)) t)) ⌝ }
 {
-    let h = movie::handler(track);
+    let h = every::handler(file, e, t);
     if h == codes::VIDE {
-        return one_entry(track);
+        return one_entry(file, l, t);
     }
     if h == codes::SOUN {
-        return one_entry(track);
+        return one_entry(file, l, t);
     }
     1
 }
 
-fn all_single(file: &[u8]) -> usize
+fn all_single(file: &[u8], e: Tracks, l: Lists) -> usize
+    requires { ⌜ TracksAt (now file) e × ListsAt (now file) l × (tracks (now file) ≤ 4) ⌝ }
     ensures { λ r. ⌜ r ≡ oneIf (singleTo (now (file .entry)) (tracks (now (file .entry)))) ⌝ }
 {
-    let n = movie::tracks(file);
+    let n = e.count;
     let mut t = 0;
     while t < n {
-        if single(movie::track(file, t)) == 0 {
+        if single(file, e, l, t) == 0 {
             return 0;
         }
         t += 1;
@@ -57,20 +79,23 @@ fn all_single(file: &[u8]) -> usize
     1
 }
 
-// Whether a track has no `avc1` entry.
-fn no_avc1(track: &[u8]) -> usize
-    ensures { λ r. ⌜ r ≡ oneIf (noAvc1 (now (track .entry))) ⌝ }
+// Whether track t has no `avc1` entry.
+fn no_avc1(file: &[u8], l: Lists, t: usize) -> usize
+    requires { ⌜ ListsAt (now file) l × (t < 4) ⌝ }
+    ensures { λ r. ⌜ r ≡ oneIf (noAvc1 (track (now (file .entry)) t)) ⌝ }
 {
-    compatible::equal(seek::count(movie::entry::list(track), codes::AVC1), 0)
+    let s = entries::list_slot(l, t);
+    compatible::equal(seek::count(gather::bytes(file, s), codes::AVC1), 0)
 }
 
-fn no_avc1_in(file: &[u8]) -> usize
+fn no_avc1_in(file: &[u8], l: Lists) -> usize
+    requires { ⌜ ListsAt (now file) l × (tracks (now file) ≤ 4) ⌝ }
     ensures { λ r. ⌜ r ≡ oneIf (noAvc1To (now (file .entry)) (tracks (now (file .entry)))) ⌝ }
 {
-    let n = movie::tracks(file);
+    let n = l.tracks;
     let mut t = 0;
     while t < n {
-        if no_avc1(movie::track(file, t)) == 0 {
+        if no_avc1(file, l, t) == 0 {
             return 0;
         }
         t += 1;
@@ -79,29 +104,31 @@ fn no_avc1_in(file: &[u8]) -> usize
 }
 
 // What `3gp4`, `3gp5` and `3gp6` ask of the tracks.
-pub fn few(file: &[u8]) -> usize
+fn few(file: &[u8], e: Tracks, l: Lists) -> usize
+    requires { ⌜ TracksAt (now file) e × ListsAt (now file) l × (tracks (now file) ≤ 4) ⌝ }
     ensures { λ r. ⌜ r ≡ oneIf (fewOf (now (file .entry))) ⌝ }
 {
-    if 1 < handled(file, codes::VIDE) {
+    if 1 < handled(file, e, codes::VIDE) {
         return 0;
     }
-    if 1 < handled(file, codes::SOUN) {
+    if 1 < handled(file, e, codes::SOUN) {
         return 0;
     }
-    if 1 < handled(file, codes::TEXT) {
+    if 1 < handled(file, e, codes::TEXT) {
         return 0;
     }
-    all_single(file)
+    all_single(file, e, l)
 }
 
-// What `3gp4` and `3gp5` ask.
-pub fn early(file: &[u8]) -> usize
+// What `3gp4` and `3gp5` ask besides.
+fn early(file: &[u8], l: Lists, few: usize) -> usize
+    requires { ⌜ ListsAt (now file) l × (tracks (now file) ≤ 4) × (few ≡ oneIf (fewOf (now file))) ⌝ }
     ensures { λ r. ⌜ r ≡ oneIf (earlyOf (now (file .entry))) ⌝ }
 {
-    if few(file) == 0 {
+    if few == 0 {
         return 0;
     }
-    no_avc1_in(file)
+    no_avc1_in(file, l)
 }
 
 // The code of the second box, 0 where there is none.
@@ -115,8 +142,21 @@ fn second(file: &[u8]) -> usize
 }
 
 // Whether `moov` is right after `ftyp`.
-pub fn ready(file: &[u8]) -> usize
+fn ready(file: &[u8]) -> usize
     ensures { λ r. ⌜ r ≡ oneIf (readyOf (now (file .entry))) ⌝ }
 {
     compatible::equal(second(file), codes::MOOV)
+}
+
+// All of them.
+pub fn asked(file: &[u8], e: Tracks, l: Lists) -> Own
+    requires { ⌜ TracksAt (now file) e × ListsAt (now file) l × (tracks (now file) ≤ 4) ⌝ }
+    ensures { λ r. ⌜ OwnAt (now (file .entry)) r ⌝ }
+{
+    let few = few(file, e, l);
+    Own {
+        early: early(file, l, few),
+        few,
+        ready: ready(file),
+    }
 }

@@ -1,35 +1,42 @@
 // The brands that a file answers to.
 mod compatible;
-mod conditions;
+pub mod conditions;
 
+use conditions::Own;
 use judge::Judgement;
+use layout::entries;
+use layout::every;
 use rule::Answer;
 ghost use mathlib.Core.Path.{_≡_};
 ghost use Rattle.wire.specs.Clauses.{oneIf};
+ghost use Rattle.judge.specs.Acceptance.{Meets};
 ghost use Rattle.brands.specs.Brands.{ownConditions, brandHolds};
+ghost use Rattle.brands.specs.Own.{OwnAt};
 ghost use Rattle.brands.specs.Calls.{brandAnswer};
 
 // Whether a brand's own conditions hold: 1 or 0, and 0 for any other code.
-fn own(file: &[u8], code: usize) -> usize
+fn own(file: &[u8], o: Own, code: usize) -> usize
+    requires { ⌜ OwnAt (now file) o ⌝ }
     ensures { λ r. ⌜ r ≡ oneIf (ownConditions code (now (file .entry))) ⌝ }
 {
     if code == codes::GP4 {
-        return conditions::early(file);
+        return o.early;
     }
     if code == codes::GP5 {
-        return conditions::early(file);
+        return o.early;
     }
     if code == codes::GP6 {
-        return conditions::few(file);
+        return o.few;
     }
     if code == codes::GR6 {
-        return conditions::ready(file);
+        return o.ready;
     }
     0
 }
 
-// Whether a brand's answer is yes, of any bytes: 1 or 0.
-pub fn brand_holds(file: &[u8], code: usize) -> usize
+// Whether a brand's answer is yes: 1 or 0.
+pub fn brand_holds(file: &[u8], o: Own, code: usize) -> usize
+    requires { ⌜ OwnAt (now file) o ⌝ }
     ensures { λ r. ⌜ r ≡ oneIf (brandHolds code (now (file .entry))) ⌝ }
 {
     let ftyp = boxes::seek::payload(file, codes::FTYP, 0);
@@ -39,7 +46,17 @@ pub fn brand_holds(file: &[u8], code: usize) -> usize
     if compatible::times(ftyp, codes::ISOM) == 0 {
         return 0;
     }
-    own(file, code)
+    own(file, o, code)
+}
+
+// The same of an accepted file, looked at for this alone.
+fn brand_of(file: &[u8], code: usize) -> usize
+    requires { ⌜ Meets (now file) ⌝ }
+    ensures { λ r. ⌜ r ≡ oneIf (brandHolds code (now (file .entry))) ⌝ }
+{
+    let e = every::lay(file);
+    let l = entries::lay(file, e);
+    brand_holds(file, conditions::asked(file, e, l), code)
 }
 
 // The brand answer of a file: 1 for yes, 0 for no.
@@ -47,7 +64,7 @@ pub fn brand(file: &[u8], code: usize) -> Answer
     ensures { λ r. ⌜ r ≡ brandAnswer (now (file .entry)) code ⌝ }
 {
     match judge::judge(file) {
-        Judgement::Accepted => Answer::Done(brand_holds(file, code)),
+        Judgement::Accepted => Answer::Done(brand_of(file, code)),
         Judgement::Refused(n, p) => Answer::Refused(n, p),
     }
 }

@@ -1,7 +1,7 @@
 -- The entry of a number, from the lists of the tracks. Assumes nothing.
 use Prim.Native.Nat.{ℕ, _+_, _-_, _≤_, _<_}
 use native.Mathlib.Omega.{arith}
-use mathlib.Core.Path.{_≡_, refl, ap, _∙_}
+use mathlib.Core.Path.{_≡_, refl, sym, ap, subst, _∙_}
 use mathlib.Core.List.{List, [], _++_}
 use lib.ListN.{length, drop, length-drop, drop-of-length-le}
 use lib.Seq.{drop-append-le, drop-append-add}
@@ -16,6 +16,7 @@ use Rattle.movie.specs.Stsds.{Stsd, stsdsFrom, stsds}
 use Rattle.movie.specs.Entries.{entriesIn, entries}
 use Rattle.movie.specs.Named.{listIn, InTrack, NamedAs}
 use Rattle.movie.specs.declared.entry.Named.the-variants.{Missing}
+use Rattle.layout.specs.declared.gather.Slot.{Slot}
 use Rattle.layout.specs.declared.entries.Lists.{Lists}
 use Rattle.layout.specs.Entries.{listSlot, ListAt, ListsAt}
 use Rattle.layout.proofs.Few.{by-four}
@@ -65,3 +66,6 @@ module _ {xs : List ℕ} {i t left : ℕ} (k : Left xs i t left) where
 pub list-of : {xs : List ℕ} {l : Lists} → ListsAt xs l → (t : ℕ) → t < 4 → ListAt xs t (listSlot l t)
 unfolding listSlot
 list-of {xs} k t h = by-four (λ j s. ListAt xs j s) (k .one) (k .two) (k .three) (k .four) t h
+
+pub list-got : {xs : List ℕ} {l : Lists} → ListsAt xs l → (t : ℕ) → t < 4 → {s : Slot} → s ≡ listSlot l t → ListAt xs t s
+list-got {xs} k t h q = subst (ListAt xs t) (sym q) (list-of k t h)

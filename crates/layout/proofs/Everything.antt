@@ -10,7 +10,8 @@ use Rattle.boxes.specs.Boxes.{HEAD, FRONT, boxes}
 use Rattle.boxes.specs.Seek.{ANY, count, find, startIn}
 use Rattle.boxes.proofs.Numbered.{nth-none, found-short}
 use Rattle.movie.specs.Ways.{toStsd, follow, placeAlong}
-use Rattle.movie.specs.Movie.{movie, tracks, track, mdia, minf}
+use Rattle.wire.specs.Numbers.{word}
+use Rattle.movie.specs.Movie.{movie, tracks, track, mdia, minf, sampleTable, handler, scale}
 use Rattle.movie.specs.Named.{listIn, listStart}
 use Rattle.layout.specs.declared.gather.Slot.{Slot}
 use Rattle.layout.specs.declared.track.Track.{Track}
@@ -68,3 +69,18 @@ track-place {xs} {m} {t} {s} p a four h e l z =
 pub track-of : {xs : List ℕ} {e : Tracks} → TracksAt xs e → (t : ℕ) → t < 4 → {k : Track} → k ≡ trackOf e t → TrackAt xs t k
 unfolding trackOf
 track-of {xs} k t h q = subst (TrackAt xs t) (sym q) (by-four (λ j s. TrackAt xs j s) (k .one) (k .two) (k .three) (k .four) t h)
+
+-- ---- what it says
+
+module _ {xs : List ℕ} {t : ℕ} {k : Track} (a : TrackAt xs t k) {ys : List ℕ} {r : ℕ} where
+  pub handler-is : ys ≡ slotIn xs (k .hdlr) → r ≡ word 4 ys 8 → r ≡ handler (track xs t)
+  unfolding handler
+  handler-is f e = e ∙ rw (f, a .laid .hdlr .is)
+
+  pub scale-is : ys ≡ slotIn xs (k .mdhd) → r ≡ word 4 ys 12 → r ≡ scale (track xs t)
+  unfolding scale
+  scale-is f e = e ∙ rw (f, a .laid .mdhd .is)
+
+pub times-are : {xs : List ℕ} {t : ℕ} {k : Track} → TrackAt xs t k → {ys : List ℕ} → ys ≡ slotIn xs (k .stts) → ys ≡ sampleTable STTS (track xs t)
+unfolding sampleTable
+times-are a f = f ∙ a .laid .stts .is

@@ -9,7 +9,7 @@ use boxes::walk;
 use movie::entry::EntryAt;
 use movie::entry::Named;
 ghost use mathlib.Core.Path.{_≡_};
-ghost use Prim.Native.Nat.{_+_, _≤_, _<_};
+ghost use Prim.Native.Nat.{_+_, _*_, _≤_, _<_};
 ghost use lib.ListN.{length};
 ghost use Rattle.boxes.specs.Containers.{LONGEST};
 ghost use Rattle.movie.specs.Movie.{tracks as tracksOf};
@@ -64,7 +64,7 @@ pub fn lay(file: &[u8], e: Tracks) -> Lists
 }
 
 // The one of track t.
-fn list_slot(l: Lists, t: usize) -> Slot
+pub fn list_slot(l: Lists, t: usize) -> Slot
     ensures { λ r. ⌜ r ≡ listSlot l t ⌝ }
 {
     if t == 0 {
@@ -117,7 +117,7 @@ pub fn entry(file: &[u8], l: Lists, i: usize) -> Named
 // How many entries the file has.
 pub fn count(file: &[u8], l: Lists) -> usize
     requires { ⌜ ListsAt (now file) l × (tracksOf (now file) ≤ 4) × (length (now file) ≤ LONGEST) ⌝ }
-    ensures { λ r. ⌜ r ≡ length (entriesOfFile (now (file .entry))) ⌝ }
+    ensures { λ r. ⌜ (r ≡ length (entriesOfFile (now (file .entry)))) × (r ≤ 4 * LONGEST) ⌝ }
 {
     let n = l.tracks;
     let mut t = 0;

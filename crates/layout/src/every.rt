@@ -4,8 +4,11 @@ use crate::track;
 use crate::track::Track;
 use crate::tracks;
 use crate::tracks::Movie;
+use wire::number;
 ghost use mathlib.Core.Path.{_≡_};
-ghost use Prim.Native.Nat.{_<_};
+ghost use Prim.Native.Nat.{_^_, _<_};
+ghost use Rattle.codes.specs.Codes.{STTS};
+ghost use Rattle.movie.specs.Movie.{track as trackIn, sampleTable, handler as handlerOf, scale as scaleOf};
 ghost use Rattle.layout.specs.Tracks.{LaidOut, Spread};
 ghost use Rattle.layout.specs.Every.{blankOf, trackOf, TrackAt, TracksAt};
 
@@ -48,8 +51,8 @@ fn track_at(file: &[u8], m: Movie, t: usize) -> Track
     track::lay(file, tracks::track_slot(m, t))
 }
 
-// Those of a file.
-pub fn lay(file: &[u8], m: Movie) -> Tracks
+// The first four.
+fn four(file: &[u8], m: Movie) -> Tracks
     requires { ⌜ LaidOut (now file) m × Spread (now file) m ⌝ }
     ensures { λ r. ⌜ TracksAt (now (file .entry)) r ⌝ }
 {
@@ -60,6 +63,13 @@ pub fn lay(file: &[u8], m: Movie) -> Tracks
         three: track_at(file, m, 2),
         four: track_at(file, m, 3),
     }
+}
+
+// Those of a file.
+pub fn lay(file: &[u8]) -> Tracks
+    ensures { λ r. ⌜ TracksAt (now (file .entry)) r ⌝ }
+{
+    four(file, tracks::lay(file))
 }
 
 // The one of a number, of four.
@@ -76,4 +86,33 @@ pub fn track(e: Tracks, t: usize) -> Track
         return e.three;
     }
     e.four
+}
+
+// What a track says: its handler, and its time scale.
+pub fn handler(file: &[u8], e: Tracks, t: usize) -> usize
+    requires { ⌜ TracksAt (now file) e × (t < 4) ⌝ }
+    ensures { λ r. ⌜ (r ≡ handlerOf (trackIn (now (file .entry)) t)) × (r < 2 ^ 32) ⌝ }
+{
+    let k = track(e, t);
+    let hdlr = k.hdlr;
+    number::word32(gather::bytes(file, hdlr), 8)
+}
+
+pub fn scale(file: &[u8], e: Tracks, t: usize) -> usize
+    requires { ⌜ TracksAt (now file) e × (t < 4) ⌝ }
+    ensures { λ r. ⌜ (r ≡ scaleOf (trackIn (now (file .entry)) t)) × (r < 2 ^ 32) ⌝ }
+{
+    let k = track(e, t);
+    let mdhd = k.mdhd;
+    number::word32(gather::bytes(file, mdhd), 12)
+}
+
+// The `stts` of a track.
+pub fn times(file: &[u8], e: Tracks, t: usize) -> &[u8]
+    requires { ⌜ TracksAt (now file) e × (t < 4) ⌝ }
+    ensures { λ r. ⌜ now r ≡ sampleTable STTS (trackIn (now (file .entry)) t) ⌝ }
+{
+    let k = track(e, t);
+    let stts = k.stts;
+    gather::bytes(file, stts)
 }

@@ -136,26 +136,125 @@ pub fn firsts(file: &[u8], whole: Slot, a: usize, b: usize, c: usize, d: usize, 
     )
 }
 
-// Those of one code, of two, and of three.
+// The same of one code, of two and of three: fewer slots are filled in less time.
 pub fn one(file: &[u8], whole: Slot, a: usize) -> Five
     requires { ⌜ Lies (now file) whole × (0 < a) ⌝ }
     ensures { λ r. ⌜ Gathered (now (file .entry)) whole (firstOf a) (firstOf a) (firstOf a) (firstOf a) (firstOf a) r ⌝ }
 {
-    firsts(file, whole, a, a, a, a, a)
+    let part = bytes(file, whole);
+    let none = none();
+    let mut i = none;
+    let mut w = Walk { at: 0 };
+    loop {
+        match w.step(part) {
+            Step::Found(x, next) => {
+                i = note(i, Want { code: a, nth: 0 }, x, whole.from);
+                w = next;
+            }
+            Step::End => {
+                return Five {
+                    a: i,
+                    b: i,
+                    c: i,
+                    d: i,
+                    e: i,
+                    tiled: 1,
+                };
+            }
+            Step::Broken(_) => {
+                return Five {
+                    a: i,
+                    b: i,
+                    c: i,
+                    d: i,
+                    e: i,
+                    tiled: 0,
+                };
+            }
+        }
+    }
 }
 
 pub fn two(file: &[u8], whole: Slot, a: usize, b: usize) -> Five
     requires { ⌜ Lies (now file) whole × (0 < a) × (0 < b) ⌝ }
     ensures { λ r. ⌜ Gathered (now (file .entry)) whole (firstOf a) (firstOf b) (firstOf b) (firstOf b) (firstOf b) r ⌝ }
 {
-    firsts(file, whole, a, b, b, b, b)
+    let part = bytes(file, whole);
+    let none = none();
+    let mut i = none;
+    let mut j = none;
+    let mut w = Walk { at: 0 };
+    loop {
+        match w.step(part) {
+            Step::Found(x, next) => {
+                i = note(i, Want { code: a, nth: 0 }, x, whole.from);
+                j = note(j, Want { code: b, nth: 0 }, x, whole.from);
+                w = next;
+            }
+            Step::End => {
+                return Five {
+                    a: i,
+                    b: j,
+                    c: j,
+                    d: j,
+                    e: j,
+                    tiled: 1,
+                };
+            }
+            Step::Broken(_) => {
+                return Five {
+                    a: i,
+                    b: j,
+                    c: j,
+                    d: j,
+                    e: j,
+                    tiled: 0,
+                };
+            }
+        }
+    }
 }
 
 pub fn three(file: &[u8], whole: Slot, a: usize, b: usize, c: usize) -> Five
     requires { ⌜ Lies (now file) whole × (0 < a) × (0 < b) × (0 < c) ⌝ }
     ensures { λ r. ⌜ Gathered (now (file .entry)) whole (firstOf a) (firstOf b) (firstOf c) (firstOf c) (firstOf c) r ⌝ }
 {
-    firsts(file, whole, a, b, c, c, c)
+    let part = bytes(file, whole);
+    let none = none();
+    let mut i = none;
+    let mut j = none;
+    let mut k = none;
+    let mut w = Walk { at: 0 };
+    loop {
+        match w.step(part) {
+            Step::Found(x, next) => {
+                i = note(i, Want { code: a, nth: 0 }, x, whole.from);
+                j = note(j, Want { code: b, nth: 0 }, x, whole.from);
+                k = note(k, Want { code: c, nth: 0 }, x, whole.from);
+                w = next;
+            }
+            Step::End => {
+                return Five {
+                    a: i,
+                    b: j,
+                    c: k,
+                    d: k,
+                    e: k,
+                    tiled: 1,
+                };
+            }
+            Step::Broken(_) => {
+                return Five {
+                    a: i,
+                    b: j,
+                    c: k,
+                    d: k,
+                    e: k,
+                    tiled: 0,
+                };
+            }
+        }
+    }
 }
 
 // Whether boxes tile the container, and each of five codes has one box: 1 or 0.

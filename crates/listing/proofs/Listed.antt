@@ -20,6 +20,7 @@ use Rattle.movie.specs.Movie.{tracks, track, sampleTable, handler, scale}
 use Rattle.movie.specs.Entries.{Entry, entries}
 use Rattle.movie.specs.Named.{entryAs, NamedAs}
 use Rattle.movie.proofs.Asking.{named-at, named-none}
+use Rattle.rule_shape.proofs.Descent.{tracks-few}
 use Rattle.judge.specs.Acceptance.{Meets}
 use Rattle.brands.specs.Brands.{brandHolds}
 use Rattle.read_tracks.specs.Tracks.{Readable}
@@ -31,6 +32,10 @@ use Rattle.listing.specs.Rest.{Rest}
 use Rattle.listing.proofs.Pieces.{rest-all, rest-more, rest-none}
 
 -- ---- tracks
+
+-- an accepted file has 1 to 4
+pub few-tracks : {xs : List ℕ} → Meets xs → tracks xs ≤ 4
+few-tracks {xs} m = tracks-few xs (m .three) .1
 
 pub track-read : (xs : List ℕ) → Meets xs → (t : ℕ) {b : List ℕ} → t < tracks xs → b ≡ track xs t → Readable b
 track-read xs m t h e = rw e (readable xs m t h)

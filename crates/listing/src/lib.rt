@@ -2,7 +2,10 @@
 mod line;
 mod lines;
 
+use brands::conditions;
 use judge::Judgement;
+use layout::entries;
+use layout::every;
 use rule::Answer;
 ghost use Rattle.rule.specs.Results.{Exact};
 ghost use Rattle.rule.specs.Results.Result.{gives};
@@ -26,11 +29,14 @@ fn list_accepted(file: &[u8], out: &mut [u8]) -> Answer
     requires { ⌜ Meets (now file) ⌝ }
     ensures { λ r. ⌜ Exact (gives (acceptedLines (now (file .entry)))) (now (out .entry)) r (now (out .exit)) ⌝ }
 {
-    let m = lines::put_accepted(&mut out[0..0], file);
+    let e = every::lay(file);
+    let l = entries::lay(file, e);
+    let o = conditions::asked(file, e, l);
+    let m = lines::put_accepted(&mut out[0..0], file, e, l, o);
     if out.len() < m {
         return Answer::Refused(25, 0);
     }
-    Answer::Done(lines::put_accepted(out, file))
+    Answer::Done(lines::put_accepted(out, file, e, l, o))
 }
 
 // The listing of any file: only 25 is refused.

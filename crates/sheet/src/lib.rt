@@ -3,7 +3,7 @@ use entry_heads::kind;
 use judge::Judgement;
 use layout::entries;
 use layout::entries::Lists;
-use layout::tracks;
+use layout::every;
 use movie::entry::EntryAt;
 use movie::entry::Named;
 use rule::Answer;
@@ -138,7 +138,7 @@ fn sheet_of(file: &[u8], out: &mut [u8]) -> Answer
     requires { ⌜ SheetFits (now file) ⌝ }
     ensures { λ r. ⌜ Exact (gives (sheetOf (now (file .entry)))) (now (out .entry)) r (now (out .exit)) ⌝ }
 {
-    let l = entries::lay(file, tracks::lay(file));
+    let l = entries::lay(file, every::lay(file));
     let mut none = [0u8; 1];
     let span = put_sheet(&mut none, file, l);
     if out.len() < span {

@@ -1,6 +1,7 @@
+-- The judgement, and then the brand of an accepted file.
 use borrow.Author.Needs.{needs}
+use Rattle.judge.proofs.Calls.{met, answer-accepted, answer-refused}
 use Rattle.brands.specs.Calls.{brandAnswer}
-use Rattle.judge.proofs.Calls.{answer-accepted, answer-refused}
 use Rattle.rule.specs.declared.Answer.the-variants.{Done}
 use mathlib.Core.Path.{ap}
 use Rattle.brands.proofs.brand.Statement.{statement}
@@ -11,7 +12,7 @@ unfolding brandAnswer
 brand-spec = tie.close (tie.spec
     (λ c κs. search needs)
     (λ c. search needs)
-    (λ c κs. search needs)
+    (λ c κs. met _ (c .before .before .judge .ensures) (c .enum-told .given .1))
     (λ c. search needs)
-    (λ c. answer-accepted _ (c .before .before .before .judge .ensures) _ (c .before .enum-told .given .1) (ap Done (c .brand-holds .ensures)))
+    (λ c. answer-accepted _ (c .before .before .before .judge .ensures) _ (c .before .enum-told .given .1) (ap Done (c .brand-of .ensures)))
     (λ c. answer-refused _ (c .before .before .before .judge .ensures) _ (c .before .n .given .1)))

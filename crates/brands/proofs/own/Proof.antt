@@ -1,4 +1,4 @@
-use borrow.Author.Needs.{needs}
+-- Each brand by its code.
 use Rattle.brands.specs.Brands.{ownConditions}
 use Rattle.rule_tracks.proofs.Answers.{answer-yea, answer-nay}
 use Rattle.wire.proofs.Clauses.{nay}
@@ -10,12 +10,8 @@ use Rattle.brands.proofs.own.Tie as tie
 pub own-spec : {M : Type 1} → statement M
 unfolding ownConditions
 own-spec = tie.close (tie.spec
-    (λ c κs. search needs)
-    (λ c. answer-yea _ _ _ _ (omega arith) (c .early .ensures))
-    (λ c κs. search needs)
-    (λ c. answer-nay _ _ _ _ (omega arith) (answer-yea _ _ _ _ (omega arith) (c .early2 .ensures)))
-    (λ c κs. search needs)
-    (λ c. answer-nay _ _ _ _ (omega arith) (answer-nay _ _ _ _ (omega arith) (answer-yea _ _ _ _ (omega arith) (c .few .ensures))))
-    (λ c κs. search needs)
-    (λ c. answer-nay _ _ _ _ (omega arith) (answer-nay _ _ _ _ (omega arith) (answer-nay _ _ _ _ (omega arith) (answer-yea _ _ _ _ (omega arith) (c .ready .ensures)))))
+    (λ c. answer-yea _ _ _ _ (omega arith) (c .before .pre .early))
+    (λ c. answer-nay _ _ _ _ (omega arith) (answer-yea _ _ _ _ (omega arith) (c .before .before .pre .early)))
+    (λ c. answer-nay _ _ _ _ (omega arith) (answer-nay _ _ _ _ (omega arith) (answer-yea _ _ _ _ (omega arith) (c .before .before .before .pre .few))))
+    (λ c. answer-nay _ _ _ _ (omega arith) (answer-nay _ _ _ _ (omega arith) (answer-nay _ _ _ _ (omega arith) (answer-yea _ _ _ _ (omega arith) (c .before .before .before .before .pre .ready)))))
     (λ c. answer-nay _ _ _ _ (omega arith) (answer-nay _ _ _ _ (omega arith) (answer-nay _ _ _ _ (omega arith) (answer-nay _ _ _ _ (omega arith) (nay _ refl))))))

@@ -15,4 +15,4 @@ put-sheet-spec = tie.close (tie.spec
     (λ c κs. search needs)
     (λ c κs. search needs)
     (λ c. search needs)
-    (λ c. sheet-put _ (c .before .before .before .before .before .before .before .before .before .before .before .before .before .before .before .before .before .before .before .before .before .before .before .before .before .before .before .pre .0) (c .before .before .before .before .before .before .before .before .before .before .before .before .before .before .before .before .before .before .before .before .before .before .before .before .count .ensures) (c .before .before .before .before .before .before .before .before .before .before .before .before .before .before .before .before .before .before .before .before .before .before .put-number .ensures .0) (c .before .before .before .before .before .before .before .before .before .before .before .before .before .before .before .before .before .before .put-number2 .ensures .0) (c .before .before .before .before .before .before .before .before .before .before .before .before .before .before .put-number3 .ensures .0) (c .before .before .before .before .before .before .before .before .before .before .put-slots .ensures .0) (c .before .before .before .before .before .before .put-number4 .ensures .0) (c .before .before .put-bodies .ensures .0)))
+    (λ c. sheet-put _ (c .before .before .before .before .before .before .before .before .before .before .before .before .before .before .before .before .before .before .before .before .before .before .before .before .before .before .before .pre .0) (c .before .before .before .before .before .before .before .before .before .before .before .before .before .before .before .before .before .before .before .before .before .before .before .before .count .ensures .0) (c .before .before .before .before .before .before .before .before .before .before .before .before .before .before .before .before .before .before .before .before .before .before .put-number .ensures .0) (c .before .before .before .before .before .before .before .before .before .before .before .before .before .before .before .before .before .before .put-number2 .ensures .0) (c .before .before .before .before .before .before .before .before .before .before .before .before .before .before .put-number3 .ensures .0) (c .before .before .before .before .before .before .before .before .before .before .put-slots .ensures .0) (c .before .before .before .before .before .before .put-number4 .ensures .0) (c .before .before .put-bodies .ensures .0)))

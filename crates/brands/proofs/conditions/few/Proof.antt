@@ -1,3 +1,4 @@
+-- Three counts, and then the tracks.
 use borrow.Author.Needs.{needs}
 use Rattle.brands.specs.Brands.{few}
 use Rattle.wire.proofs.Clauses.{nay, fails, is-le, not-le, holds, decides}

@@ -1,8 +1,9 @@
+-- By its handler.
 use borrow.Author.Needs.{needs}
 use Rattle.brands.specs.Brands.{single}
 use Rattle.rule_tracks.proofs.Answers.{answer-yea, answer-nay}
 use Rattle.wire.proofs.Clauses.{yea}
-use mathlib.Core.Path.{refl}
+use mathlib.Core.Path.{refl, sym}
 use native.Mathlib.Omega.{arith}
 use Rattle.brands.proofs.conditions.single.Statement.{statement}
 use Rattle.brands.proofs.conditions.single.Tie as tie
@@ -12,7 +13,7 @@ unfolding single
 single-spec = tie.close (tie.spec
     (λ c κs. search needs)
     (λ c κs. search needs)
-    (λ c. answer-yea _ _ _ _ (omega arith) (c .one-entry .ensures))
+    (λ c. answer-yea _ _ _ _ (omega (arith, c .before .before .handler .ensures .0)) (c .one-entry .ensures))
     (λ c κs. search needs)
-    (λ c. answer-nay _ _ _ _ (omega arith) (answer-yea _ _ _ _ (omega arith) (c .one-entry2 .ensures)))
-    (λ c. answer-nay _ _ _ _ (omega arith) (answer-nay _ _ _ _ (omega arith) (yea _ refl))))
+    (λ c. answer-nay _ _ _ _ (omega (arith, c .before .before .before .handler .ensures .0)) (answer-yea _ _ _ _ (omega (arith, c .before .before .before .handler .ensures .0)) (c .one-entry2 .ensures)))
+    (λ c. answer-nay _ _ _ _ (omega (arith, c .before .before .handler .ensures .0)) (answer-nay _ _ _ _ (omega (arith, c .before .before .handler .ensures .0)) (yea _ refl))))

@@ -26,4 +26,6 @@ count-spec = tie.close (tie.spec Inv μ
     (λ c. let p = c .before .before .before .before .before .pre in
     let a = list-of (p .0) (c .before .before .before .loop .t) (omega (arith, p .0 .tracks, p .1)) in
     rw (c .before .list-slot .ensures) (tally-more (c .before .before .before .loop .inv) a (p .2) (omega (arith, p .0 .tracks))))
-    (λ c. let p = c .before .before .before .pre in tally-end (c .before .loop .inv) (omega (arith, p .0 .tracks))))
+    (λ c. let p = c .before .before .before .pre in
+    let i = c .before .loop .inv in
+    (tally-end i (omega (arith, p .0 .tracks)), omega (arith, i .few, i .most, p .1))))

@@ -1,14 +1,15 @@
+-- The entry of that number, printed where there is one.
 use borrow.Author.Needs.{needs}
-use Rattle.movie.proofs.Asking.{named-at}
-use Rattle.listing.proofs.Listed.{entry-found, entry-missing}
 use native.Mathlib.Omega.{arith}
+use Rattle.movie.proofs.Asking.{named-at}
+use Rattle.listing.proofs.Listed.{few-tracks, entry-found, entry-missing}
 use Rattle.listing.proofs.lines.put_entry.Statement.{statement}
 use Rattle.listing.proofs.lines.put_entry.Tie as tie
 
 pub put-entry-spec : {M : Type 1} → statement M
 put-entry-spec = tie.close (tie.spec
     (λ c. search needs)
-    (λ c κs. search needs)
+    (λ c κs. let p = c .before .before .pre in (p .1, few-tracks (p .0), p .0 .most))
     (λ c. search needs)
     (λ c κs. (named-at _ _ _ (c .before .before .before .before .entry .ensures) _ (c .before .before .e .given .1) .inside, omega arith))
     (λ c. search needs)

@@ -1,10 +1,10 @@
 -- Four tracks, one after the other.
 use borrow.Author.Needs.{needs}
-use Rattle.layout.proofs.every.lay.Statement.{statement}
-use Rattle.layout.proofs.every.lay.Tie as tie
+use Rattle.layout.proofs.every.four.Statement.{statement}
+use Rattle.layout.proofs.every.four.Tie as tie
 
-pub lay-spec : {M : Type 1} → statement M
-lay-spec = tie.close (tie.spec
+pub four-spec : {M : Type 1} → statement M
+four-spec = tie.close (tie.spec
     (λ c κs. search needs)
     (λ c κs. search needs)
     (λ c κs. search needs)
