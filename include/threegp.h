@@ -25,7 +25,7 @@
      25  the room is shorter than the result
      30  the sheet is malformed
 
-   The library needs one symbol of the C library, memmove, and no heap. Stack is the most bytes that a call took when it was measured
+   The library needs two symbols of the C library, memcpy and memmove, and no heap. Stack is the most bytes that a call took when it was measured
    (docs/PERFORMANCE.md says on which files), and no bound. */
 #ifndef THREEGP_H
 #define THREEGP_H
