@@ -17,7 +17,7 @@ use Rattle.layout.specs.declared.gather.Slot.{Slot}
 use Rattle.layout.specs.declared.track.Track.{Track}
 use Rattle.layout.specs.declared.tracks.Movie.{Movie}
 use Rattle.layout.specs.Slots.{slotIn, nowhere, Lies}
-use Rattle.layout.specs.Track.{At, Listed}
+use Rattle.layout.specs.Track.{At, StsdPlaced}
 use Rattle.layout.specs.Tracks.{trackSlot, Spread}
 use Rattle.layout.specs.Entries.{ListAt}
 use Rattle.layout.proofs.Slots.{slot-part, slot-length}
@@ -58,7 +58,7 @@ blank-at xs t e h =
 
 -- where the `stsd` of a track stands
 pub track-place : {xs : List ℕ} {m : Movie} {t : ℕ} {s : Slot} {k : Track} → Spread xs m → slotIn xs (trackSlot m t) ≡ track xs t → t < 4 → t < tracks xs
-    → s ≡ trackSlot m t → Listed xs s k
+    → s ≡ trackSlot m t → StsdPlaced xs s k
     → 0 < length (follow toStsd (track xs t)) → k .stsd .from ≡ startIn MOOV 0 (boxes xs) + startIn TRAK t (movie xs) + placeAlong toStsd (track xs t) + HEAD
 track-place {xs} {m} {t} {s} p a four h e l z =
     let i : slotIn xs s ≡ track xs t = ap (slotIn xs) e ∙ a in

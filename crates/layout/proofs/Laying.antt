@@ -17,15 +17,15 @@ use Rattle.movie.specs.Movie.{mdia, minf}
 use Rattle.layout.specs.declared.gather.Slot.{Slot}
 use Rattle.layout.specs.declared.gather.Five.{Five}
 use Rattle.layout.specs.declared.track.Track.{Track}
-use Rattle.layout.specs.Slots.{slotIn, firstOf, Stands, Gathered, Alone, Both}
-use Rattle.layout.specs.Track.{At, Has, Shaped, Laid, Listed}
+use Rattle.layout.specs.Slots.{slotIn, firstWith, Stands, Gathered, Alone, Both}
+use Rattle.layout.specs.Track.{At, Has, Shaped, Laid, StsdPlaced}
 use Rattle.layout.proofs.Shaped.{trak-shape, mdia-shape, minf-shape, dinf-shape, stbl-shape, gathered-has}
 
-pub at-in : {xs zs : List ℕ} {o : Slot} {c : ℕ} {s : Slot} → Stands xs o (firstOf c) s → slotIn xs o ≡ zs → At xs (find c (boxes zs)) s
+pub at-in : {xs zs : List ℕ} {o : Slot} {c : ℕ} {s : Slot} → Stands xs o (firstWith c) s → slotIn xs o ≡ zs → At xs (find c (boxes zs)) s
 at-in {c = c} k e = record { lies = k .lies; is = k .is ∙ ap (λ (l : List ℕ). find c (boxes l)) e }
 
 -- the place of a box that is there
-pub place-in : {xs zs : List ℕ} {o : Slot} (c : ℕ) {s : Slot} → Stands xs o (firstOf c) s → slotIn xs o ≡ zs → 0 < length (find c (boxes zs))
+pub place-in : {xs zs : List ℕ} {o : Slot} (c : ℕ) {s : Slot} → Stands xs o (firstWith c) s → slotIn xs o ≡ zs → 0 < length (find c (boxes zs))
     → s .from ≡ o .from + startIn c 0 (boxes zs)
 place-in {zs = zs} {o} c k e h =
     let n = nth-there c 0 (boxes zs) (λ q. let l = ap length q in omega arith) in
@@ -41,11 +41,11 @@ start-eight c (some {x} {l} e a) h =
     (λ m. rw (place-miss c x l m (λ y. y .head) 0, place-miss c x l m (λ y. 0) 0) (omega (arith, start-eight c a (omega arith))))
 
 module _ {xs : List ℕ} {trak : Slot} {t m i d s : Five}
-    (gt : Gathered xs trak (firstOf TKHD) (firstOf MDIA) (firstOf MDIA) (firstOf MDIA) (firstOf MDIA) t)
-    (gm : Gathered xs (t .b) (firstOf MDHD) (firstOf HDLR) (firstOf MINF) (firstOf MINF) (firstOf MINF) m)
-    (gi : Gathered xs (m .c) (firstOf DINF) (firstOf STBL) (firstOf STBL) (firstOf STBL) (firstOf STBL) i)
-    (gd : Gathered xs (i .a) (firstOf DREF) (firstOf DREF) (firstOf DREF) (firstOf DREF) (firstOf DREF) d)
-    (gs : Gathered xs (i .b) (firstOf STSD) (firstOf STTS) (firstOf STSC) (firstOf STSZ) (firstOf STCO) s) where
+    (gt : Gathered xs trak (firstWith TKHD) (firstWith MDIA) (firstWith MDIA) (firstWith MDIA) (firstWith MDIA) t)
+    (gm : Gathered xs (t .b) (firstWith MDHD) (firstWith HDLR) (firstWith MINF) (firstWith MINF) (firstWith MINF) m)
+    (gi : Gathered xs (m .c) (firstWith DINF) (firstWith STBL) (firstWith STBL) (firstWith STBL) (firstWith STBL) i)
+    (gd : Gathered xs (i .a) (firstWith DREF) (firstWith DREF) (firstWith DREF) (firstWith DREF) (firstWith DREF) d)
+    (gs : Gathered xs (i .b) (firstWith STSD) (firstWith STTS) (firstWith STSC) (firstWith STSZ) (firstWith STCO) s) where
   abbrev b : List ℕ
   b = slotIn xs trak
 
@@ -102,7 +102,7 @@ module _ {xs : List ℕ} {trak : Slot} {t m i d s : Five}
           stco = at-in (gs .fifth) stbl-is;
         }
 
-  pub listed : (q : ℕ) → Listed xs trak (record {
+  pub listed : (q : ℕ) → StsdPlaced xs trak (record {
     shaped = q;
     tkhd = t .a;
     mdhd = m .a;

@@ -17,7 +17,7 @@ use Rattle.rule_shape.specs.Three.{first}
 use Rattle.layout.specs.declared.gather.Slot.{Slot}
 use Rattle.layout.specs.declared.gather.Five.{Five}
 use Rattle.layout.specs.declared.tracks.Movie.{Movie}
-use Rattle.layout.specs.Slots.{slotIn, firstOf, Stands, Gathered, Alone, Both}
+use Rattle.layout.specs.Slots.{slotIn, firstWith, Stands, Gathered, Alone, Both}
 use Rattle.layout.specs.Track.{At, Has}
 use Rattle.layout.specs.Tracks.{wholeOf, wanted, trackSlot, Peopled, Framed, LaidOut, Spread}
 use Rattle.layout.proofs.Shaped.{moov-shape, file-shape, one-of, gathered-has}
@@ -30,9 +30,9 @@ whole-is xs = let z : length xs - 0 ≡ length xs = omega arith in rw z (take-le
 pub all-is : {xs : List ℕ} {s : Slot} → s ≡ wholeOf xs → slotIn xs s ≡ xs
 all-is {xs} e = ap (slotIn xs) e ∙ whole-is xs
 
-module _ {xs : List ℕ} {s : Slot} (e : s ≡ wholeOf xs) {f m : Five} (gf : Gathered xs s (firstOf FTYP) (firstOf MOOV) (firstOf MOOV) (firstOf MOOV)
-    (firstOf MOOV) f)
-    (gm : Gathered xs (f .b) (firstOf MVHD) (wanted 0) (wanted 1) (wanted 2) (wanted 3) m) where
+module _ {xs : List ℕ} {s : Slot} (e : s ≡ wholeOf xs) {f m : Five} (gf : Gathered xs s (firstWith FTYP) (firstWith MOOV) (firstWith MOOV) (firstWith MOOV)
+    (firstWith MOOV) f)
+    (gm : Gathered xs (f .b) (firstWith MVHD) (wanted 0) (wanted 1) (wanted 2) (wanted 3) m) where
   moov-at : At xs (find MOOV (boxes xs)) (f .b)
   moov-at = at-in (gf .second) (all-is e)
 

@@ -16,7 +16,7 @@ use Rattle.layout.specs.declared.gather.Slot.{Slot}
 use Rattle.layout.specs.declared.track.Track.{Track}
 use Rattle.layout.specs.declared.tracks.Movie.{Movie}
 use Rattle.layout.specs.Slots.{slotIn, nowhere, Lies}
-use Rattle.layout.specs.Track.{At, Listed}
+use Rattle.layout.specs.Track.{At, StsdPlaced}
 use Rattle.layout.specs.Tracks.{trackSlot, Spread}
 use Rattle.layout.specs.Entries.{ListAt}
 use Rattle.layout.proofs.Slots.{slot-part, slot-length}

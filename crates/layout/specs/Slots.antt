@@ -31,8 +31,8 @@ pub record Stands (xs : List ℕ) (o : Slot) (w : Want) (s : Slot) : Type 0 wher
 abbrev pub nowhere : Slot
 nowhere = record { n = 0; from = 0; to = 0 }
 
-abbrev pub firstOf : ℕ → Want
-firstOf c = record { code = c; nth = 0 }
+abbrev pub firstWith : ℕ → Want
+firstWith c = record { code = c; nth = 0 }
 
 -- the slot of a wanted box, past one more box of a part that starts at place p
 unfoldable pub noteOf : Slot → Want → BoxAt → ℕ → Slot

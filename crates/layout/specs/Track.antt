@@ -45,5 +45,5 @@ pub record Laid (xs b : List ℕ) (t : Track) : Type 0 where
   pub stco : At xs (follow (toTable STCO) b) (t .stco)
 
 -- and where its `stsd` starts in the file, of the track that is the slot o
-pub record Listed (xs : List ℕ) (o : Slot) (t : Track) : Type 0 where
+pub record StsdPlaced (xs : List ℕ) (o : Slot) (t : Track) : Type 0 where
   pub place : 0 < length (follow toStsd (slotIn xs o)) → t .stsd .from ≡ o .from + placeAlong toStsd (slotIn xs o) + HEAD

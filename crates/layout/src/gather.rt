@@ -5,7 +5,7 @@ use boxes::walk::Walk;
 ghost use mathlib.Core.Path.{_≡_};
 ghost use Prim.Native.Nat.{_+_, _^_, _≤_, _<_};
 ghost use lib.ListN.{length};
-ghost use Rattle.layout.specs.Slots.{slotIn, nowhere, firstOf, noteOf, Lies, Gathered, Alone, Both};
+ghost use Rattle.layout.specs.Slots.{slotIn, nowhere, firstWith, noteOf, Lies, Gathered, Alone, Both};
 
 // How many boxes have a code, and where in the file the payload of one of them stands.
 pub struct Slot {
@@ -123,7 +123,7 @@ pub fn gather(file: &[u8], whole: Slot, a: Want, b: Want, c: Want, d: Want, e: W
 // The same of the first boxes of five codes.
 pub fn firsts(file: &[u8], whole: Slot, a: usize, b: usize, c: usize, d: usize, e: usize) -> Five
     requires { ⌜ Lies (now file) whole × (0 < a) × (0 < b) × (0 < c) × (0 < d) × (0 < e) ⌝ }
-    ensures { λ r. ⌜ Gathered (now (file .entry)) whole (firstOf a) (firstOf b) (firstOf c) (firstOf d) (firstOf e) r ⌝ }
+    ensures { λ r. ⌜ Gathered (now (file .entry)) whole (firstWith a) (firstWith b) (firstWith c) (firstWith d) (firstWith e) r ⌝ }
 {
     gather(
         file,
@@ -139,7 +139,7 @@ pub fn firsts(file: &[u8], whole: Slot, a: usize, b: usize, c: usize, d: usize, 
 // The same of one code, of two and of three: fewer slots are filled in less time.
 pub fn one(file: &[u8], whole: Slot, a: usize) -> Five
     requires { ⌜ Lies (now file) whole × (0 < a) ⌝ }
-    ensures { λ r. ⌜ Gathered (now (file .entry)) whole (firstOf a) (firstOf a) (firstOf a) (firstOf a) (firstOf a) r ⌝ }
+    ensures { λ r. ⌜ Gathered (now (file .entry)) whole (firstWith a) (firstWith a) (firstWith a) (firstWith a) (firstWith a) r ⌝ }
 {
     let part = bytes(file, whole);
     let none = none();
@@ -177,7 +177,7 @@ pub fn one(file: &[u8], whole: Slot, a: usize) -> Five
 
 pub fn two(file: &[u8], whole: Slot, a: usize, b: usize) -> Five
     requires { ⌜ Lies (now file) whole × (0 < a) × (0 < b) ⌝ }
-    ensures { λ r. ⌜ Gathered (now (file .entry)) whole (firstOf a) (firstOf b) (firstOf b) (firstOf b) (firstOf b) r ⌝ }
+    ensures { λ r. ⌜ Gathered (now (file .entry)) whole (firstWith a) (firstWith b) (firstWith b) (firstWith b) (firstWith b) r ⌝ }
 {
     let part = bytes(file, whole);
     let none = none();
@@ -217,7 +217,7 @@ pub fn two(file: &[u8], whole: Slot, a: usize, b: usize) -> Five
 
 pub fn three(file: &[u8], whole: Slot, a: usize, b: usize, c: usize) -> Five
     requires { ⌜ Lies (now file) whole × (0 < a) × (0 < b) × (0 < c) ⌝ }
-    ensures { λ r. ⌜ Gathered (now (file .entry)) whole (firstOf a) (firstOf b) (firstOf c) (firstOf c) (firstOf c) r ⌝ }
+    ensures { λ r. ⌜ Gathered (now (file .entry)) whole (firstWith a) (firstWith b) (firstWith c) (firstWith c) (firstWith c) r ⌝ }
 {
     let part = bytes(file, whole);
     let none = none();

@@ -3,7 +3,7 @@ use crate::gather;
 use crate::gather::Slot;
 ghost use mathlib.Core.Path.{_≡_};
 ghost use Rattle.layout.specs.Slots.{slotIn, Lies};
-ghost use Rattle.layout.specs.Track.{Laid, Listed};
+ghost use Rattle.layout.specs.Track.{Laid, StsdPlaced};
 
 // The boxes that rule 3 names, and whether each stands there alone and boxes tile each container: 1 or 0.
 pub struct Track {
@@ -22,7 +22,7 @@ pub struct Track {
 // Those of the track whose payload is a slot of the file.
 pub fn lay(file: &[u8], trak: Slot) -> Track
     requires { ⌜ Lies (now file) trak ⌝ }
-    ensures { λ r. ⌜ Laid (now (file .entry)) (slotIn (now (file .entry)) trak) r × Listed (now (file .entry)) trak r ⌝ }
+    ensures { λ r. ⌜ Laid (now (file .entry)) (slotIn (now (file .entry)) trak) r × StsdPlaced (now (file .entry)) trak r ⌝ }
 {
     let t = gather::two(file, trak, codes::TKHD, codes::MDIA);
     let m = gather::three(file, t.b, codes::MDHD, codes::HDLR, codes::MINF);

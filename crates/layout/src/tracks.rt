@@ -9,7 +9,7 @@ ghost use Rattle.wire.specs.Clauses.{isEq, oneIf};
 ghost use Rattle.codes.specs.Codes.{FTYP};
 ghost use Rattle.boxes.specs.Boxes.{boxes};
 ghost use Rattle.rule_shape.specs.Three.{first};
-ghost use Rattle.layout.specs.Slots.{firstOf, Lies, Gathered};
+ghost use Rattle.layout.specs.Slots.{firstWith, Lies, Gathered};
 ghost use Rattle.layout.specs.Tracks.{wholeOf, wanted, trackSlot, Peopled, LaidOut, Spread};
 
 // The boxes that rule 3 names, the first four tracks, how many there are, and whether all is as rules 2 and 3 want it: 1 or 0.
@@ -68,7 +68,7 @@ fn led(file: &[u8]) -> usize
 // The first box of a code in a `moov`, and its first four tracks.
 pub fn with_tracks(file: &[u8], moov: Slot, code: usize) -> Five
     requires { ⌜ Lies (now file) moov × (0 < code) ⌝ }
-    ensures { λ r. ⌜ Gathered (now (file .entry)) moov (firstOf code) (wanted 0) (wanted 1) (wanted 2) (wanted 3) r ⌝ }
+    ensures { λ r. ⌜ Gathered (now (file .entry)) moov (firstWith code) (wanted 0) (wanted 1) (wanted 2) (wanted 3) r ⌝ }
 {
     gather::gather(
         file,

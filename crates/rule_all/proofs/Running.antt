@@ -15,14 +15,14 @@ use Rattle.rule_headers.specs.Identities.{identity, fresh, different}
 use Rattle.rule_lists.specs.Five.{MOST}
 use Rattle.rule_all.specs.declared.TrackSays.{TrackSays}
 use Rattle.rule_all.specs.Track.{Good, Judged}
-use Rattle.rule_all.specs.Tracks.{entriesOf, Again, Tracked}
+use Rattle.rule_all.specs.Tracks.{entriesOn, Again, Tracked}
 
 -- the first i are good, their IDs differ, and the last three of those are at hand
 pub record Run (xs : List ℕ) (i total one two three : ℕ) : Type 0 where
   pub most : i ≤ tracks xs
   pub each : (j : ℕ) → j < i → Good (boxes xs) (track xs j)
   pub fresh : allTo (λ j. fresh (movie xs) j j) i ≡ true
-  pub sum : total ≡ sumTo (entriesOf xs) i
+  pub sum : total ≡ sumTo (entriesOn xs) i
   pub few : total ≤ MOST
   pub first : 1 ≤ i → one ≡ identity (movie xs) (i - 1)
   pub second : 2 ≤ i → two ≡ identity (movie xs) (i - 2)
@@ -68,7 +68,7 @@ module _ {xs : List ℕ} {i total one two three : ℕ} (k : Run xs i total one t
           most = omega arith;
           each = λ n l. eq-or n i (λ e. rw e (j .good z)) (λ e. k .each n (omega arith));
           fresh = all-more _ i (k .fresh) (new a q);
-          sum = omega (arith, k .sum, sum-more (entriesOf xs) i, j .entries z);
+          sum = omega (arith, k .sum, sum-more (entriesOn xs) i, j .entries z);
           few = m;
           first = λ l. rw p own;
           second = λ l. rw s (k .first (omega arith));
@@ -82,7 +82,7 @@ module _ {xs : List ℕ} {i total one two three : ℕ} (k : Run xs i total one t
       record {
         each = λ z n l. k .each n (omega arith);
         differ = λ z. subst (λ (n : ℕ). allTo (λ j. fresh (movie xs) j j) n ≡ true) e (k .fresh);
-        few = λ z. subst (λ (n : ℕ). sumTo (entriesOf xs) n ≤ MOST) e (omega (arith, k .sum, k .few));
+        few = λ z. subst (λ (n : ℕ). sumTo (entriesOn xs) n ≤ MOST) e (omega (arith, k .sum, k .few));
       }
 
 pub run-broken : (xs : List ℕ) → Tracked xs 0

@@ -37,7 +37,7 @@ use Rattle.rule_tracks.specs.Eight.{eightIn}
 use Rattle.rule_entries.specs.Ten.{aroundOf, entriesFine, stsdsFine, tenIn}
 use Rattle.rule_all.specs.All.{allRules}
 use Rattle.rule_all.specs.Track.{Good}
-use Rattle.rule_all.specs.Tracks.{entriesOf}
+use Rattle.rule_all.specs.Tracks.{entriesOn}
 use Rattle.rule_all.proofs.Held.{leaf-file, leaf-moov}
 use Rattle.rule_all.proofs.Within.{sole-each, once, numbered, in-moov, in-file}
 
@@ -99,7 +99,7 @@ module _ (l : List Box) {xs : List ℕ} (h : Has MOOV xs) (head : form MOOV MVHD
       })
 
 pub file-all : (l : List Box) (xs : List ℕ) → Framed xs → form FILE FTYP (find FTYP (boxes xs)) ≡ true → form MOOV MVHD (find MVHD (movie xs)) ≡ true
-    → ((i : ℕ) → i < tracks xs → Good l (track xs i)) → different (movie xs) ≡ true → sumTo (entriesOf xs) (tracks xs) ≤ MOST
+    → ((i : ℕ) → i < tracks xs → Good l (track xs i)) → different (movie xs) ≡ true → sumTo (entriesOn xs) (tracks xs) ≤ MOST
     → allIn (allRules l) DEPTH FILE xs ≡ true
 unfolding needed tracksFine sevenIn eightIn tenIn track ifEq
 file-all l xs h front head each differ few =

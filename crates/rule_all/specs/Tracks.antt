@@ -12,8 +12,8 @@ use Rattle.rule_lists.specs.Five.{MOST}
 use Rattle.rule_all.specs.Track.{Good}
 
 -- how many sample entries the `stsd` of track i, from 0, counts
-abbrev pub entriesOf : List ℕ → ℕ → ℕ
-entriesOf xs i = storedCount (follow toStsd (track xs i))
+abbrev pub entriesOn : List ℕ → ℕ → ℕ
+entriesOn xs i = storedCount (follow toStsd (track xs i))
 
 -- an answer of 0 says that an ID is none of the last three, as many as there are after i tracks
 pub record Again (r identity i one two three : ℕ) : Type 0 where
@@ -25,4 +25,4 @@ pub record Again (r identity i one two three : ℕ) : Type 0 where
 pub record Tracked (xs : List ℕ) (r : ℕ) : Type 0 where
   pub each : (r ≡ 0 → ⊥) → (i : ℕ) → i < tracks xs → Good (boxes xs) (track xs i)
   pub differ : (r ≡ 0 → ⊥) → different (movie xs) ≡ true
-  pub few : (r ≡ 0 → ⊥) → sumTo (entriesOf xs) (tracks xs) ≤ MOST
+  pub few : (r ≡ 0 → ⊥) → sumTo (entriesOn xs) (tracks xs) ≤ MOST

@@ -1,3 +1,4 @@
+-- The code is listed, `isom` is listed, and then the conditions.
 use borrow.Author.Needs.{needs}
 use Rattle.brands.proofs.Holding.{listed-yea, listed-nay}
 use Rattle.brands.specs.Brands.{brandHolds}

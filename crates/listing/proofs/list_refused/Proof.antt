@@ -1,3 +1,4 @@
+-- A run into no room tells the length; then 25, or the line is written.
 use borrow.Author.Needs.{needs}
 use Rattle.listing.proofs.Pieces.{too-short, all-written}
 use native.Mathlib.Omega.{arith}

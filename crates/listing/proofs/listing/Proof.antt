@@ -1,3 +1,4 @@
+-- The judgement, and then the lines of it.
 use borrow.Author.Needs.{needs}
 use Rattle.judge.proofs.Calls.{met}
 use Rattle.listing.proofs.Pieces.{listed-accepted, listed-refused}

@@ -1,3 +1,4 @@
+-- The entry of that number, where there is one.
 use borrow.Author.Needs.{needs}
 use Rattle.movie.proofs.Asking.{named-at}
 use Rattle.sheet.proofs.Slots.{one-at, one-none, body-one, body-none}

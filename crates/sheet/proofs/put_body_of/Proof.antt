@@ -1,3 +1,4 @@
+-- The bytes at its place.
 use borrow.Author.Needs.{needs}
 use Rattle.sheet.proofs.Slots.{part-is}
 use Rattle.wire.proofs.Writing.{pen-is}

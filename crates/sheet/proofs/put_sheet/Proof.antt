@@ -1,3 +1,4 @@
+-- Front, slots, zeros and bodies, one after the other.
 use borrow.Author.Needs.{needs}
 use Rattle.sheet.proofs.Writing.{sheet-put}
 use Rattle.sheet.proofs.put_sheet.Statement.{statement}

@@ -1,3 +1,4 @@
+-- Five numbers, one after the other.
 use borrow.Author.Needs.{needs}
 use Rattle.sheet.proofs.Slots.{slot-is}
 use Rattle.wire.proofs.Writing.{pen-then, pen-is}

@@ -1,3 +1,4 @@
+-- The slot of that number, where there is an entry.
 use borrow.Author.Needs.{needs}
 use Rattle.movie.proofs.Asking.{named-at}
 use Rattle.sheet.proofs.Slots.{one-at, one-none, slot-one, slot-none}

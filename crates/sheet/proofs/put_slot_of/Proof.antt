@@ -1,3 +1,4 @@
+-- What the entry says, as a slot.
 use borrow.Author.Needs.{needs}
 use Rattle.sheet.proofs.Slots.{kind-byte, slot-of, part-is}
 use native.Mathlib.Omega.{arith}

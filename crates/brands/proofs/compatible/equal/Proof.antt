@@ -1,3 +1,4 @@
+-- Two numbers are the same, or not.
 use Rattle.wire.proofs.Clauses.{yea, nay, is-eq, not-eq}
 use mathlib.Core.Path.{sym}
 use native.Mathlib.Omega.{arith}

@@ -1,3 +1,4 @@
+-- The second box is `moov`.
 use borrow.Author.Needs.{needs}
 use Rattle.brands.proofs.Holding.{ready-is}
 use Rattle.brands.proofs.conditions.ready.Statement.{statement}

@@ -1,3 +1,4 @@
+-- The box of number 1, or none.
 use borrow.Author.Needs.{needs}
 use Rattle.brands.proofs.Holding.{second-is, second-none}
 use Rattle.brands.proofs.conditions.second.Statement.{statement}

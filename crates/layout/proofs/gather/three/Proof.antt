@@ -4,7 +4,7 @@ use Prim.Native.Nat.{_-_, _^_, _≤_, _<_}
 use Rattle.boxes.proofs.Walking.{ran, ended, broke}
 use Rattle.boxes.specs.Boxes.{after}
 use Rattle.layout.proofs.Noting.{Noted, noted-none, note-fits, noted-more, stands, tiled-yea, tiled-nay}
-use Rattle.layout.specs.Slots.{firstOf}
+use Rattle.layout.specs.Slots.{firstWith}
 use lib.ListN.{length, drop}
 use mathlib.Core.Path.{_≡_, refl, _∙_}
 use native.Mathlib.Omega.{arith}
@@ -13,7 +13,7 @@ use Rattle.layout.proofs.gather.three.Tie as tie
 
 abbrev Inv : tie.InvT-loop
 Inv file whole a b c part i₀ j₀ k₀ w₀ i j k w =
-    Noted file part (whole .from) (firstOf a) (w .at) i × Noted file part (whole .from) (firstOf b) (w .at) j × Noted file part (whole .from) (firstOf c) (w .at) k
+    Noted file part (whole .from) (firstWith a) (w .at) i × Noted file part (whole .from) (firstWith b) (w .at) j × Noted file part (whole .from) (firstWith c) (w .at) k
     × (after part ≡ after (drop (w .at) part)) × (w .at ≤ length part) × (length file < 2 ^ 63)
 
 abbrev μ : tie.MeasureT-loop

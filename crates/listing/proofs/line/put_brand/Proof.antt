@@ -1,3 +1,4 @@
+-- The parts of the line.
 use borrow.Author.Needs.{needs}
 use Rattle.listing.specs.Lines.{brandLine}
 use Rattle.wire.proofs.Writing.{pen-then}

@@ -1,3 +1,4 @@
+-- A code of a kind, or `other`.
 use borrow.Author.Needs.{needs}
 use Rattle.listing.specs.Lines.{codeText}
 use Rattle.wire.proofs.Tests.{eq-yea, eq-nay}

@@ -1,3 +1,4 @@
+-- The name of each handler.
 use borrow.Author.Needs.{needs}
 use Rattle.listing.specs.Lines.{handlerText}
 use Rattle.wire.proofs.Tests.{eq-yea, eq-nay}

@@ -1,3 +1,4 @@
+-- The parts of the first half.
 use borrow.Author.Needs.{needs}
 use Rattle.listing.specs.Lines.{entryNamed}
 use Rattle.wire.proofs.Writing.{pen-then}

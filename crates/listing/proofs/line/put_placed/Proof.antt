@@ -1,3 +1,4 @@
+-- The parts of the second half.
 use borrow.Author.Needs.{needs}
 use Rattle.listing.specs.Lines.{entryPlaced}
 use Rattle.wire.proofs.Writing.{pen-then}

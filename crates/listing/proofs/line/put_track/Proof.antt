@@ -1,3 +1,4 @@
+-- The parts of the line, one after the other.
 use borrow.Author.Needs.{needs}
 use Rattle.listing.specs.Lines.{trackLine}
 use Rattle.wire.proofs.Writing.{pen-then}

@@ -1,3 +1,4 @@
+-- One of two texts.
 use borrow.Author.Needs.{needs}
 use Rattle.listing.specs.Lines.{yesText}
 use Rattle.wire.proofs.Tests.{eq-yea, eq-nay}

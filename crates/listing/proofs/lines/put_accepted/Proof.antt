@@ -1,3 +1,4 @@
+-- The first line, the tracks, the entries and the brands.
 use borrow.Author.Needs.{needs}
 use Rattle.listing.specs.Listing.{acceptedLines}
 use Rattle.wire.proofs.Writing.{pen-then}

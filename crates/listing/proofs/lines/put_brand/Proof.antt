@@ -1,3 +1,4 @@
+-- Yes or no, printed.
 use borrow.Author.Needs.{needs}
 use Rattle.listing.proofs.Listed.{brand-line}
 use Rattle.listing.proofs.lines.put_brand.Statement.{statement}

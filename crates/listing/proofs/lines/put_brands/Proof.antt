@@ -1,3 +1,4 @@
+-- Four lines, one after the other.
 use borrow.Author.Needs.{needs}
 use Rattle.listing.specs.Listing.{brandLines}
 use Rattle.wire.proofs.Writing.{pen-then}

@@ -1,3 +1,4 @@
+-- Both halves of the line.
 use borrow.Author.Needs.{needs}
 use Rattle.listing.proofs.Listed.{found-line}
 use mathlib.Core.Path.{refl}
