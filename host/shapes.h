@@ -80,13 +80,18 @@ static void put_empties(size_t count)
 
 enum { SAMPLE = 32, TIME = 1600000000 };
 
+/* The order in which the chunks of a track stand in the file. */
+enum order { RISING, FALLING, JUMPING };
+
 /* What a file has. The chunks of its tracks take turns, and every `mdat` has as many turns. */
 struct plan {
-    size_t outside, inside; /* empty boxes before the first `mdat`, and in `moov` before the tracks */
+    size_t outside, between, inside; /* empty boxes before the first `mdat`, between any two, and in `moov` before the tracks */
     size_t mdats, tracks;
     size_t chunks, samples; /* of a track, of a chunk */
+    size_t turns;           /* of an `mdat`; 0: as the chunks are spread over all of them */
+    enum order order;
     bool listed;            /* the size of every sample is listed, else it is common */
-    bool same;              /* all chunks are the same bytes */
+    bool same;              /* every `mdat` has one turn, and the chunks go round among them */
 };
 
 #define REFERENCE "000000000000 0001 "
@@ -108,14 +113,28 @@ static const struct {
 
 static size_t turns_of(const struct plan *plan)
 {
-    return plan->same ? 1 : plan->chunks / plan->mdats;
+    return plan->same ? 1 : plan->turns != 0 ? plan->turns : plan->chunks / plan->mdats;
+}
+
+/* Which turn a chunk has. */
+static size_t turn_of(const struct plan *plan, size_t chunk)
+{
+    if (plan->same)
+        return chunk % plan->mdats;
+    switch (plan->order) {
+    case FALLING:
+        return plan->chunks - 1 - chunk;
+    case JUMPING:
+        return chunk * 7919 % plan->chunks;
+    default:
+        return chunk;
+    }
 }
 
 static size_t chunk_place(const struct plan *plan, size_t payload, size_t track, size_t chunk)
 {
-    if (plan->same)
-        return payload;
-    return payload + (chunk * plan->tracks + track) * plan->samples * SAMPLE + chunk / turns_of(plan) * 8;
+    size_t turn = turn_of(plan, chunk);
+    return payload + (turn * plan->tracks + track) * plan->samples * SAMPLE + turn / turns_of(plan) * 8 * (1 + plan->between);
 }
 
 static void put_entries(size_t track)
@@ -185,6 +204,8 @@ static size_t put_media(const struct plan *plan, size_t spare)
 {
     size_t payload = length + 8;
     for (size_t left = plan->mdats; left != 0; left--) {
+        if (left != plan->mdats)
+            put_empties(plan->between);
         size_t start = open_box("mdat");
         put_zeros(turns_of(plan) * plan->tracks * plan->samples * SAMPLE + (left == 1 ? spare : 0));
         close_box(start);
@@ -236,10 +257,22 @@ static const struct shape shapes[] = {
 };
 enum { SHAPES = sizeof shapes / sizeof *shapes };
 
-/* The most that chunks times boxes can be: every chunk of two tracks is looked up behind all the empty boxes. */
+/* Many `mdat`s, whose chunks are looked up in every order. */
+static const struct shape chopped[] = {
+    {"rising", "one", {.mdats = MANY, .tracks = 1, .chunks = MANY, .samples = 1}},
+    {"falling", "one", {.mdats = MANY, .tracks = 1, .chunks = MANY, .samples = 1, .order = FALLING}},
+    {"jumping", "one", {.mdats = MANY, .tracks = 1, .chunks = MANY, .samples = 1, .order = JUMPING}},
+    {"two tracks in turn", "one", {.mdats = MANY, .tracks = 2, .chunks = MANY, .samples = 1}},
+    {"rising", "ten", {.mdats = MANY, .tracks = 1, .chunks = MANY, .samples = 1, .turns = 10}},
+    {"falling", "ten", {.mdats = MANY, .tracks = 1, .chunks = MANY, .samples = 1, .turns = 10, .order = FALLING}},
+    {"jumping", "ten", {.mdats = MANY, .tracks = 1, .chunks = MANY, .samples = 1, .turns = 10, .order = JUMPING}},
+};
+enum { CHOPPED = sizeof chopped / sizeof *chopped };
+
+/* The slowest that we know: the chunks of two tracks go back and forth between two `mdat`s, and the empty boxes of a whole stride stand before each. */
 static const struct shape worst = {
     "The slowest file that we know", "",
-    {.outside = MANY, .mdats = 1, .tracks = 2, .chunks = 65536, .samples = 1, .same = true}};
+    {.outside = MANY, .between = 31, .mdats = 2, .tracks = 2, .chunks = 65536, .samples = 1, .same = true}};
 
 static struct plan plan_of(const struct shape *shape, size_t number)
 {
@@ -247,7 +280,7 @@ static struct plan plan_of(const struct shape *shape, size_t number)
     size_t *counts[] = {&plan.outside, &plan.inside, &plan.mdats, &plan.chunks, &plan.samples};
     for (size_t k = 0; k < sizeof counts / sizeof *counts; k++)
         if (*counts[k] == MANY)
-            *counts[k] = number;
+            *counts[k] = number * (counts[k] == &plan.chunks && plan.turns != 0 ? plan.turns : 1);
     return plan;
 }
 

@@ -887,6 +887,54 @@ def rule8_files():
     yield "0-mdat-before-moov-only", [f[0], Box("mdat", bytes(32)), f[1]], None
 
 
+def chopped(mdats, chunks, data=24, runs=((1, 1, 1),), number=1):
+    """A movie of many mdats, and a track of chunks of one sample: (which mdat, how far into it, how many bytes)."""
+    offsets = [(8 + data) * m + o for m, o, _ in chunks]
+    track = tabled([(len(chunks), 1)], runs, [n for _, _, n in chunks], offsets)
+    track.body[0] = tkhd(number)
+    return movie(track, data=data) + [Box("mdat", bytes([m % 256]) * data) for m in range(1, mdats)]
+
+
+def chopped_files():
+    """Chunks that are looked up among many mdats, in every order: with boxes that start at and around multiples of 256."""
+    for mdats in (2, 15, 16, 17, 18, 40, 300):
+        rising = list(range(mdats))
+        ways = {"rising": rising, "falling": rising[::-1], "jumping": [7 * m % mdats for m in rising], "last-first": [mdats - 1, *rising]}
+        ways["back-and-forth"] = [m for pair in zip(rising, rising[::-1]) for m in pair]
+        for way, order in ways.items():
+            yield "0-chopped-%d-%s" % (mdats, way), chopped(mdats, [(m, m % 3, 20) for m in order]), None
+        f = chopped(mdats, [(m, 24, 0) for m in rising[::-1]])
+        yield "0-chopped-%d-nothing-at-ends" % mdats, f, None
+        f = chopped(mdats, [(m, 24, 0) for m in rising[::-1]] + [(mdats - 1, 25, 0)])
+        yield "8-chopped-%d-nothing-past-the-end" % mdats, f, get(f, "stco")
+        for way in ("rising", "falling", "jumping"):
+            f = chopped(mdats, [(m, int(m == mdats // 2), 24) for m in ways[way]])
+            yield "8-chopped-%d-%s-a-byte-late" % (mdats, way), f, get(f, "stco")
+            f = chopped(mdats, [(m, -int(m == mdats // 2), 24) for m in ways[way]])
+            yield "8-chopped-%d-%s-a-byte-early" % (mdats, way), f, get(f, "stco")
+        f = chopped(mdats, [(m, 0, 24) for m in rising[::2]])
+        f[1].body += chopped(mdats, [(m, 0, 24) for m in rising[1::2][::-1]], number=2)[1].body[1:]
+        yield "0-chopped-%d-two-tracks" % mdats, f, None
+        runs = [(k + 1, 1, 1) for k in rising]
+        yield "0-chopped-%d-runs" % mdats, chopped(mdats, [(m, 0, 24) for m in rising[::-1]], runs=runs), None
+        f = chopped(mdats, [(0, 0, 24)])
+        f[1:1] = [Box("free")] * mdats
+        yield "0-chopped-%d-behind-boxes" % mdats, f, None
+        f = chopped(mdats, [(m, 0, 24) for m in rising[::-1]])
+        yield "0-chopped-%d-moov-last" % mdats, [f[0], *f[2:], f[1]], None
+        for offset in (0, 1, 8, 2**32 - 1):
+            f = [f[0], *movie()[1:2], *[Box("free")] * mdats]
+            get(f, "stco").body = [w(0, 1, offset)]
+            yield "8-no-mdat-of-%d-at-%d" % (mdats, offset), f, get(f, "stco")
+        f = movie()[:2]
+        f[1:1] = [Box("free")] * mdats
+        inner = Box("mdat", bytes(32))
+        f[-1].body.append(inner)
+        build(f)
+        get(f, "stco").body = [w(0, 1, inner.place + 8)]
+        yield "8-mdat-in-moov-behind-%d" % mdats, f, get(f, "stco")
+
+
 def rule9_files():
     bad = {"flags-0": url(payload=w(0)), "version-1": url(payload=w(0x1000001)), "payload-5": url(payload=w(1) + b"\0")}
     bad.update({"payload-3": url(payload=bytes(3)), "empty": url(payload=b""), "urn": url("urn "), "code": url("url\0")})
@@ -1175,7 +1223,7 @@ def wanted(name, place):
 def cases():
     for group in (whole, loose, rule1_files, rule2_files, rule3_files, rule4_files, rule5_files, rule6_files):
         yield from group()
-    for group in (rule7_files, rule8_files, rule9_files, rule10_files, pairs, orders):
+    for group in (rule7_files, rule8_files, chopped_files, rule9_files, rule10_files, pairs, orders):
         yield from group()
 
 

@@ -4,14 +4,13 @@ use native.Mathlib.Omega.{arith}
 use mathlib.Core.Path.{_≡_, sym, _∙_}
 use mathlib.Core.Bool.{true, false}
 use mathlib.Core.List.{List}
-use Rattle.wire.specs.Clauses.{oneIf}
 use Rattle.wire.proofs.Sums.{all-none, all-more, all-of, all-at, all-fails}
 use Rattle.boxes.specs.Box.{Box}
 use Rattle.boxes.proofs.Reading.{All, Headed}
 use Rattle.sample_tables.specs.Tables.{items}
 use Rattle.sample_tables.specs.Sizes.{sampleCount, bytesFrom, Held}
 use Rattle.sample_tables.specs.Runs.{perChunk, runOf}
-use Rattle.sample_tables.specs.Chunks.{samplesIn, firstSample, offsetAt, chunkAt, extentOf, extentAt}
+use Rattle.sample_tables.specs.Chunks.{samplesIn, firstSample, offsetAt, chunkAt, extentOf, extentAt, Covers}
 use Rattle.sample_tables.proofs.Chunks.{first-more, first-mono}
 use Rattle.sample_tables.proofs.Sizes.{held-in}
 use Rattle.sample_tables.proofs.Rules.{extent-offset}
@@ -21,17 +20,22 @@ use Rattle.mdat.proofs.Inside.{lies-at}
 
 -- ---- the tables
 
--- the samples of chunk k, by its run and its first sample
-module _ {stsc stsz stco : List ℕ} (r : Ready stsc stsz stco) (k : ℕ) {run first samples : ℕ} (p : run ≡ runOf stsc k)
-    (f : first ≡ firstSample stsc k) (s : samples ≡ perChunk stsc run) where
+-- the samples of chunk k of a run, by its first sample
+module _ {stsc stsz stco : List ℕ} (r : Ready stsc stsz stco) {i from end : ℕ} (v : Covers stsc (items stco) i from end) (k : ℕ) (h : from ≤ k) (g : k < end)
+    {first samples : ℕ} (f : first ≡ firstSample stsc k) (s : samples ≡ perChunk stsc i) where
   pub first-after : first + samples ≡ firstSample stsc (k + 1)
   unfolding samplesIn
-  first-after = rw (s, p, f) (sym (first-more stsc k))
+  first-after = rw (s, v .own k h g, f) (sym (first-more stsc k))
 
-  pub ready-held : k < items stco → Held stsz first samples
-  ready-held h =
-      let m : first + samples ≤ sampleCount stsz = omega (arith, first-after, r .total, first-mono stsc (k + 1) (items stco) (omega arith)) in
+  pub ready-held : Held stsz first samples
+  ready-held =
+      let m : first + samples ≤ sampleCount stsz = omega (arith, first-after, r .total, first-mono stsc (k + 1) (items stco) (omega (arith, v .within))) in
       record { few = omega (arith, r .few); listed = λ z. held-in stsz z first (r .sizes) samples m }
+
+  -- rule 8 of it, by the bytes of its samples
+  pub chunk-is : (l : List Box) {offset bytes : ℕ} → bytes ≡ bytesFrom stsz first samples → offset ≡ offsetAt stco k → chunkIn l stsc stsz stco k ≡ lies l 0 offset bytes
+  unfolding chunkIn extentOf chunkAt samplesIn
+  chunk-is l b o = rw (o, b, s, f, v .own k h g)
 
 -- the first sample past a run
 pub run-few : {stsc stsz stco : List ℕ} → Ready stsc stsz stco → (end : ℕ) → end ≤ items stco → firstSample stsc end ≤ 65536
@@ -60,12 +64,6 @@ module _ (l : List Box) (stsc stsz stco : List ℕ) where
   pub eight-of : ((k : ℕ) → k < items stco → chunkIn l stsc stsz stco k ≡ true) → chunksLie l stsc stsz stco ≡ true
   unfolding chunksIn
   eight-of = all-of (chunkIn l stsc stsz stco) (items stco)
-
-  -- the answer of one chunk
-  pub chunk-answer : (k : ℕ) {run first samples offset bytes r : ℕ} → run ≡ runOf stsc k → first ≡ firstSample stsc k → samples ≡ perChunk stsc run
-      → bytes ≡ bytesFrom stsz first samples → offset ≡ offsetAt stco k → r ≡ oneIf (lies l 0 offset bytes) → r ≡ oneIf (chunkIn l stsc stsz stco k)
-  unfolding chunkIn extentOf chunkAt samplesIn
-  chunk-answer k p f s b o q = q ∙ rw (o, b, s, f, p)
 
   -- where relocation finds it
   pub chunk-in : All Headed l → (k : ℕ) → chunkIn l stsc stsz stco k ≡ true → inAt l (offsetAt stco k) (extentAt stsc stsz stco k .bytes) ≡ true

@@ -1,4 +1,4 @@
--- Bytes that lie inside a payload: what the loop over the walk cites, and that rule 8 and relocation mean the same by it. Assumes nothing.
+-- Bytes that lie inside a payload, by the first box and past it, and that rule 8 and relocation mean the same by it. Assumes nothing.
 use Prim.Native.Nat.{ℕ, _+_, _-_, _≤_, _<_}
 use native.Mathlib.Omega.{arith}
 use mathlib.Core.Path.{_≡_, refl, sym, ap, _∙_}
@@ -24,7 +24,7 @@ use Rattle.mdat.proofs.Payloads.{mdat-or, resolve-here, resolve-past, m
 use Rattle.mdat.proofs.Behind.{behind-some}
 
 -- the n bytes from place o on lie in the payload of a box, by its code, its payload's place and its end
-abbrev held : (code start end o n : ℕ) → Bool
+abbrev pub held : (code start end o n : ℕ) → Bool
 held code start end o n = every (isEq code MDAT ∷ isLe start o ∷ isLe (o + n) end ∷ [])
 
 -- a box further on has them so much further on
@@ -44,14 +44,14 @@ passed : (ts : List Bool) (t : Bool) → false ≡ every ts → pick (every ts) 
 passed ts t e = rw (← e)
 
 -- no box has what stands before it
-lies-before : {l : List Box} → All Headed l → (p o n : ℕ) → o ≤ p → lies l p o n ≡ false
+pub lies-before : {l : List Box} → All Headed l → (p o n : ℕ) → o ≤ p → lies l p o n ≡ false
 unfolding lies
 lies-before none p o n h = refl
 lies-before (some {x} {l} g a) p o n h = passed _ _ (fails 1 _ (not-le _ _ (omega arith))) ∙ lies-before a (p + size x) o n (omega arith)
 
 module _ (x : Box) (l : List Box) (p o n : ℕ) where
   -- up to its end the first box decides
-  lies-here : All Headed l → o ≤ p + size x → lies (x ∷ l) p o n ≡ held (x .code) (p + x .head) (p + size x) o n
+  pub lies-here : All Headed l → o ≤ p + size x → lies (x ∷ l) p o n ≡ held (x .code) (p + x .head) (p + size x) o n
   unfolding lies
   lies-here a h = rw (lies-before a (p + size x) o n h) (go (held (x .code) (p + x .head) (p + size x) o n))
     where
@@ -60,39 +60,9 @@ module _ (x : Box) (l : List Box) (p o n : ℕ) where
       go false = refl
 
   -- past it the others
-  lies-past : p + size x < o → lies (x ∷ l) p o n ≡ lies l (p + size x) o n
+  pub lies-past : p + size x < o → lies (x ∷ l) p o n ≡ lies l (p + size x) o n
   unfolding lies
   lies-past h = passed _ _ (fails 2 _ (not-le _ _ (omega arith)))
-
--- ---- over the walk
-
--- place o is not before place at, and is judged by the boxes from there on
-pub record Ahead (xs : List ℕ) (o n at : ℕ) : Type 0 where
-  pub left : lies (boxes xs) 0 o n ≡ lies (boxes (drop at xs)) at o n
-  pub below : at ≤ o
-
-pub ahead-all : (xs : List ℕ) (o n : ℕ) → Ahead xs o n 0
-ahead-all xs o n = record { left = refl; below = omega arith }
-
-module _ {xs : List ℕ} {o n at : ℕ} (a : Ahead xs o n at) where
-  pub ahead-over : Over xs at → false ≡ lies (boxes xs) 0 o n
-  unfolding lies
-  ahead-over v = sym (a .left ∙ rw (v .list))
-
-  module _ {b : BoxAt} {w : Walk} (s : Ran xs at b w) where
-    pub ahead-more : {end : ℕ} → end ≡ b .at + b .span → end < o → Ahead xs o n end
-    ahead-more {end} q h =
-        let i : w .at ≡ end = omega (arith, s .next, s .start) in
-        let e : at + size (boxAt xs b) ≡ end = omega (arith, ran-size s, s .start) in
-        record {
-          left = a .left ∙ rw (s .list) (lies-past (boxAt xs b) (boxes (drop (w .at) xs)) at o n (omega arith) ∙ rw (e, i));
-          below = omega arith;
-        }
-
-    pub ahead-here : o ≤ b .at + b .span → lies (boxes xs) 0 o n ≡ held (b .code) (b .at + b .head) (b .at + b .span) o n
-    ahead-here h =
-        a .left ∙ rw (s .list) (lies-here (boxAt xs b) (boxes (drop (w .at) xs)) at o n (heads (drop (w .at) xs)) (omega (arith, ran-size s, s .start))
-        ∙ rw (ran-size s, ← s .start))
 
 -- ---- as relocation finds it
 

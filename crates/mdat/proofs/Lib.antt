@@ -1,6 +1,9 @@
 pub mod Payloads
 pub mod Behind
 pub mod Inside
+pub mod Starts
+pub mod Searching
+pub mod Indexing
 pub mod Places
 pub mod Resolving
 pub mod Relocating

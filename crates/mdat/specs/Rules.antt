@@ -35,7 +35,6 @@ pub record Ready (stsc stsz stco : List ℕ) : Type 0 where
   pub few : sampleCount stsz ≤ 65536
   pub total : samplesOver stsc (items stco) ≡ sampleCount stsz
 
--- what an answer says of the chunks from one to another: 0 where one of them doesn't lie inside
-pub record Between (l : List Box) (stsc stsz stco : List ℕ) (from end r : ℕ) : Type 0 where
-  pub broken : r ≡ 0 → chunksLie l stsc stsz stco ≡ false
-  pub kept : (r ≡ 0 → ⊥) → chunksIn l stsc stsz stco from ≡ true → chunksIn l stsc stsz stco end ≡ true
+-- where the chunks before one lie inside, those before another do too
+abbrev pub Goes : List Box → (stsc stsz stco : List ℕ) → (from end : ℕ) → Type 0
+Goes l stsc stsz stco from end = chunksIn l stsc stsz stco from ≡ true → chunksIn l stsc stsz stco end ≡ true
