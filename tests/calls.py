@@ -805,6 +805,10 @@ def plain_files():
     yield "200-chunks", files.build(files.movie(files.trak(tables=many + [files.stco(*[k % 32 for k in range(200)])])))
     most = [files.stts((65536, 2**32 - 1)), files.stsc((1, 256, 1)), Box("stsz", w(0, 1, 65536)), files.stco(*[0] * 256)]
     yield "65536-samples", files.build(files.movie(files.trak(tables=most), data=256))
+    for before in (0, 18, 40):
+        mdats = [media(24, k) for k in range(40)]
+        moov = Box("moov", files.mvhd(), chunked(1, [files.samr()], b"soun", 8000, [(mdats[7 * k % 40], k % 3, 20) for k in range(40)]))
+        yield "chopped-%d-before-moov" % before, made([files.ftyp("isom", "3gp6"), *mdats[:before], moov, *mdats[before:]])
     empty = Box("mdat")
     moov = Box("moov", files.mvhd(), chunked(1, [visual("s263", d263())], b"vide", 15, [(empty, 0, 0)]))
     yield "empty-mdat-before-moov", made([files.ftyp("isom", "3gp6"), Box("free", b"12"), empty, moov])
