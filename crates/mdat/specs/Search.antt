@@ -1,7 +1,7 @@
 -- Where a chunk is looked for: a start can only make the search shorter.
 use Prim.Native.Nat.{ℕ, _+_, _-_, _*_, _≤_, _<_}
 use mathlib.Core.Path.{_≡_}
-use mathlib.Core.Bool.{true}
+use mathlib.Core.Bool.{Bool, true, false}
 use mathlib.Core.List.{List, [], _∷_, _++_}
 use lib.ListN.{length, drop, getD}
 use Rattle.wire.specs.Tests.{pick}
@@ -53,6 +53,10 @@ looked xs hit miss far Far = far
 
 pub record LookedAs (xs : List ℕ) (hit miss far : Type 0) (r : Looked) : Type 0 where
   pub says : looked xs hit miss far r
+
+-- the same of a test that holds or fails
+abbrev pub TestedAs : List ℕ → Bool → (far : Type 0) → Looked → Type 0
+TestedAs xs t far r = LookedAs xs (t ≡ true) (t ≡ false) far r
 
 -- of any file with the index: r is a start for place o, where a box starts at `end`
 pub record Nearest (index : List ℕ) (end o r : ℕ) : Type 0 where

@@ -8,14 +8,14 @@ use sample_tables::run;
 use sample_tables::size;
 use sample_tables::table;
 ghost use mathlib.Core.Path.{_≡_};
-ghost use mathlib.Core.Bool.{true, false};
+ghost use mathlib.Core.Bool.{false};
 ghost use lib.ListN.{length};
 ghost use Rattle.wire.specs.Clauses.{oneIf};
 ghost use Rattle.boxes.specs.Boxes.{boxes};
 ghost use Rattle.sample_tables.specs.Tables.{items};
 ghost use Rattle.sample_tables.specs.Chunks.{firstSample, Covers};
 ghost use Rattle.mdat.specs.Rules.{Ready, Goes, chunksLie};
-ghost use Rattle.mdat.specs.Search.{Media, Index, LookedAs};
+ghost use Rattle.mdat.specs.Search.{Media, Index, LookedAs, TestedAs};
 
 // Where the chunks of run i lie, those from one to an end: each inside the payload of one `mdat` of the file, and the last in this one.
 fn run_lies(
@@ -59,7 +59,7 @@ fn run_lies(
 // The same of all chunks of a track, run by run.
 fn all_lie(file: &[u8], index: &[u32], stsc: &[u8], stsz: &[u8], stco: &[u8]) -> Looked
     requires { ⌜ Ready (now stsc) (now stsz) (now stco) × Index (now file) (now index) ⌝ }
-    ensures { λ r. ⌜ LookedAs (now (file .entry)) (chunksLie (boxes (now (file .entry))) (now (stsc .entry)) (now (stsz .entry)) (now (stco .entry)) ≡ true) (chunksLie (boxes (now (file .entry))) (now (stsc .entry)) (now (stsz .entry)) (now (stco .entry)) ≡ false) (length (now (index .entry)) ≡ 0) r ⌝ }
+    ensures { λ r. ⌜ TestedAs (now (file .entry)) (chunksLie (boxes (now (file .entry))) (now (stsc .entry)) (now (stsz .entry)) (now (stco .entry))) (length (now (index .entry)) ≡ 0) r ⌝ }
 {
     let n = table::items(stsc);
     let chunks = table::items(stco);

@@ -4,14 +4,13 @@ use boxes::walk::BoxAt;
 use boxes::walk::Step;
 use boxes::walk::Walk;
 ghost use mathlib.Core.Path.{_≡_};
-ghost use mathlib.Core.Bool.{true, false};
 ghost use mathlib.Core.List.{[], _∷_};
 ghost use Prim.Native.Nat.{_+_, _^_, _≤_, _<_};
 ghost use lib.ListN.{length};
 ghost use Rattle.wire.specs.Clauses.{isLe, every, oneIf};
 ghost use Rattle.boxes.specs.Boxes.{boxes};
 ghost use Rattle.mdat.specs.Rules.{lies};
-ghost use Rattle.mdat.specs.Search.{Start, Media, Index, heldBy, LookedAs};
+ghost use Rattle.mdat.specs.Search.{Start, Media, Index, heldBy, TestedAs};
 
 // The bytes from a place to another; none where it ends before it starts.
 pub struct Payload {
@@ -81,7 +80,7 @@ fn past(b: BoxAt) -> usize
 // Looks for so many bytes from a place on in the boxes from a start on, at most so many of them.
 fn search(file: &[u8], from: usize, most: usize, offset: usize, bytes: usize) -> Looked
     requires { ⌜ Start (now file) offset from ⌝ }
-    ensures { λ r. ⌜ LookedAs (now (file .entry)) (lies (boxes (now (file .entry))) 0 offset bytes ≡ true) (lies (boxes (now (file .entry))) 0 offset bytes ≡ false) (most ≤ length (now (file .entry))) r ⌝ }
+    ensures { λ r. ⌜ TestedAs (now (file .entry)) (lies (boxes (now (file .entry))) 0 offset bytes) (most ≤ length (now (file .entry))) r ⌝ }
 {
     let mut w = Walk { at: from };
     let mut i = 0;
@@ -119,7 +118,7 @@ fn most(file: &[u8], index: &[u32]) -> usize
 // Whether so many bytes from a place on lie inside the payload of one `mdat` of the file: first the last payload, then what is near.
 pub fn find(file: &[u8], index: &[u32], last: Payload, offset: usize, bytes: usize) -> Looked
     requires { ⌜ Media (now file) last × Index (now file) (now index) ⌝ }
-    ensures { λ r. ⌜ LookedAs (now (file .entry)) (lies (boxes (now (file .entry))) 0 offset bytes ≡ true) (lies (boxes (now (file .entry))) 0 offset bytes ≡ false) (length (now (index .entry)) ≡ 0) r ⌝ }
+    ensures { λ r. ⌜ TestedAs (now (file .entry)) (lies (boxes (now (file .entry))) 0 offset bytes) (length (now (index .entry)) ≡ 0) r ⌝ }
 {
     if within(last, offset, bytes) != 0 {
         return Looked::In(last);
