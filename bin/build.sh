@@ -26,7 +26,7 @@ build() {
     touch "$program"
 }
 
-# Sets kit and, where this machine is no x86-64, emulator. The kit's place is kept, since to ask for it takes longer than a listing.
+# Sets kit and, where this machine is no x86-64, emulator. The kit's place is kept, since to ask for it takes longer than a listing; the shell knows the machine.
 find_kit() {
     local place=$home/target/kit machine
     kit='' emulator=''
@@ -36,6 +36,6 @@ find_kit() {
         mkdir -p "$home/target"
         printf '%s\n' "$kit" 2>/dev/null >"$place" || true
     fi
-    machine=$(uname -m)
+    machine=${MACHTYPE%%-*}
     [ "$machine" = x86_64 ] || emulator=$kit/on/$machine/toolchain/bin/qemu-x86_64
 }
