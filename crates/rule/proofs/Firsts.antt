@@ -6,16 +6,20 @@ use mathlib.Core.Bool.{Bool, true, false}
 use mathlib.Core.List.{List, [], _∷_}
 use lib.ListN.{drop}
 use Rattle.wire.proofs.Tests.{eq-any}
+use Rattle.boxes.specs.declared.walk.Walk.{Walk}
+use Rattle.boxes.specs.declared.walk.BoxAt.{BoxAt}
 use Rattle.boxes.specs.Box.{Box, size}
 use Rattle.boxes.specs.Boxes.{boxes, after}
 use Rattle.boxes.specs.Containers.{kindIn}
+use Rattle.boxes.specs.Walk.{boxAt, Ran, Over}
 use Rattle.rule.specs.declared.Verdict.{Verdict}
 use Rattle.rule.specs.declared.Verdict.the-variants.{Fine, Bad}
 use Rattle.rule.specs.Verdict.{sooner, unless}
 use Rattle.rule.specs.Judge.{judgeList, judgeBox, judgeIn}
 use Rattle.rule.specs.Rule.{Rule, placed}
+use Rattle.rule.proofs.Places.{sooner-right, unless-yea, unless-nay}
 use Rattle.rule.proofs.Bounds.{named}
-use Rattle.rule.proofs.Traverse.{Found}
+use Rattle.rule.proofs.Traverse.{Found, found-more, found-over}
 
 -- no place before m is named
 pub record From (m : ℕ) (v : Verdict) : Type 0 where
@@ -86,3 +90,20 @@ module _ (r : Rule) where
   -- a box of it, where nothing is broken before
   pub first-box : (d k : ℕ) {xs : List ℕ} {base p at : ℕ} {whole : Verdict} → Found (boxFirst d k) (placed r .end (after xs)) xs base whole (Bad p) at → p ≤ base + at → Bad p ≡ whole
   first-box d k {xs} {base} {p} {at} i h = sooner-settled (base + at) p _ h (left-from d k xs (boxes (drop at xs)) (base + at)) ∙ sym (i .is)
+
+-- ---- a list of boxes, each with a test of its own
+
+module _ (t : Box → Bool) {xs : List ℕ} {base at : ℕ} {whole : Verdict} (i : Found (λ x q. unless (t x) q) (λ q. Fine) xs base whole Fine at) where
+  module _ {b : BoxAt} {w : Walk} (s : Ran xs at b w) where
+    pub listed-more : t (boxAt xs b) ≡ true → Found (λ x q. unless (t x) q) (λ q. Fine) xs base whole Fine (w .at)
+    listed-more e = found-more (λ x q. unless (t x) q) (λ q. Fine) xs base i s (unless-yea _ _ (sym e)) (sooner-right Fine Fine refl)
+
+    pub listed-bad : t (boxAt xs b) ≡ false → Bad (base + b .at) ≡ whole
+    listed-bad e =
+        let j = found-more (λ x q. unless (t x) q) (λ q. Fine) xs base i s (unless-nay _ _ (sym e)) (sooner-right Fine (Bad (base + b .at)) refl) in
+        sooner-settled (base + w .at) (base + b .at) _ (omega (arith, s .next))
+        (from-list (base + w .at) (λ x q. unless (t x) q) (λ q. Fine) (λ x q. from-unless q (t x) q (omega arith)) from-fine (boxes (drop (w .at) xs)) (base + w .at) (omega arith))
+        ∙ sym (j .is)
+
+  pub listed-over : Over xs at → Fine ≡ whole
+  listed-over o = sooner-right Fine Fine refl ∙ found-over (λ x q. unless (t x) q) (λ q. Fine) xs base i o
