@@ -13,8 +13,8 @@ use Rattle.movie.specs.Movie.{movie, tracks as tracksOf, track}
 use Rattle.layout.specs.declared.gather.Slot.{Slot}
 use Rattle.layout.specs.declared.gather.Want.{Want}
 use Rattle.layout.specs.declared.gather.Five.{Five}
-use Rattle.layout.specs.declared.tracks.Ends.{Ends}
-use Rattle.layout.specs.declared.tracks.Four.{Four}
+use Rattle.layout.specs.declared.moov.Ends.{Ends}
+use Rattle.layout.specs.declared.moov.Four.{Four}
 use Rattle.layout.specs.declared.tracks.Movie.{Movie}
 use Rattle.layout.specs.Slots.{noteOf}
 use Rattle.layout.specs.Track.{At, Has}

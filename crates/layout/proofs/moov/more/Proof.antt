@@ -4,8 +4,8 @@ use Rattle.layout.specs.Slots.{noteOf}
 use Rattle.wire.proofs.Tests.{eq-yea, eq-nay}
 use mathlib.Core.Path.{refl}
 use native.Mathlib.Omega.{arith}
-use Rattle.layout.proofs.tracks.more.Statement.{statement}
-use Rattle.layout.proofs.tracks.more.Tie as tie
+use Rattle.layout.proofs.moov.more.Statement.{statement}
+use Rattle.layout.proofs.moov.more.Tie as tie
 
 pub more-spec : {M : Type 1} → statement M
 unfolding noteOf

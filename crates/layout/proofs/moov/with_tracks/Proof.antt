@@ -9,8 +9,8 @@ use Rattle.layout.specs.Tracks.{wanted, slotOf}
 use lib.ListN.{length, drop}
 use mathlib.Core.Path.{_≡_, refl, sym, subst, _∙_}
 use native.Mathlib.Omega.{arith}
-use Rattle.layout.proofs.tracks.with_tracks.Statement.{statement}
-use Rattle.layout.proofs.tracks.with_tracks.Tie as tie
+use Rattle.layout.proofs.moov.with_tracks.Statement.{statement}
+use Rattle.layout.proofs.moov.with_tracks.Tie as tie
 
 abbrev Inv : tie.InvT-loop
 Inv file moov code part i₀ f₀ w₀ i f w =
