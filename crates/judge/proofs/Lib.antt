@@ -1,5 +1,6 @@
 pub mod One
 pub mod Answers
+pub mod Shapes
 pub mod Order
 pub mod Exact
 pub mod Refusals

@@ -4,7 +4,7 @@ use native.Mathlib.Omega.{arith}
 use mathlib.Core.Path.{_≡_, refl, sym, ap, _∙_}
 use mathlib.Core.List.{List, [], _∷_}
 use lib.ListN.{length}
-use Rattle.wire.specs.Tests.{ifEq}
+use Rattle.wire.specs.Tests.{ifEq, ifLt}
 use Rattle.boxes.specs.Box.{Box}
 use Rattle.boxes.specs.Boxes.{boxes}
 use Rattle.boxes.specs.Containers.{FILE, DEPTH, LONGEST}
@@ -29,7 +29,7 @@ use Rattle.judge.specs.One.{one, oneRule}
 use Rattle.judge.specs.declared.Judgement.{Judgement}
 use Rattle.judge.specs.declared.Judgement.the-variants.{Accepted, Refused}
 use Rattle.judge.specs.Judgement.{unlessBroken, judgedFrom, judged}
-use Rattle.judge.specs.Asked.{leafBy, nodeBy, endBy, judgeBy, verdictOf}
+use Rattle.judge.specs.Asked.{shapedBy, tiledBy, leafBy, nodeBy, judgeBy, verdictOf}
 use Rattle.judge.proofs.One.{one-holds, one-short, one-long}
 
 -- k rules from number n on, as code asks them
@@ -42,7 +42,7 @@ abbrev readJudges : List Box → List Judge
 readJudges l = two ∷ three ∷ four ∷ five ∷ six ∷ askedSeven ∷ askedEight l ∷ nine ∷ ten ∷ []
 
 by-number : (l : List Box) → readJudges l ≡ asked 9 2 l
-unfolding leafBy nodeBy endBy ifEq unless
+unfolding shapedBy tiledBy leafBy nodeBy judgeBy ifEq ifLt unless
 by-number l = refl
 
 -- a rule is read where the rules before it hold

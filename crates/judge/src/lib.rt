@@ -1,5 +1,6 @@
 // The judgement of a file: rules 1 to 10.
 mod rules;
+mod shape;
 
 use boxes::containers;
 use rule::Verdict;
@@ -23,6 +24,9 @@ fn verdict_of(n: usize, file: &[u8]) -> Verdict
     requires { ⌜ length (now file) ≤ LONGEST ⌝ }
     ensures { λ r. ⌜ r ≡ verdictOf n (now (file .entry)) ⌝ }
 {
+    if n < 4 {
+        return shape::first_in(n, file, 0, 0, containers::FILE, containers::DEPTH);
+    }
     rules::judge_in(n, file, file, 0, 0, containers::FILE, containers::DEPTH)
 }
 
@@ -61,7 +65,7 @@ pub fn editable(file: &[u8]) -> usize
     if rule_all::edit::edits_hold(file) != 0 {
         return 1;
     }
-    match verdict_of(23, file) {
+    match shape::first_in(23, file, 0, 0, containers::FILE, containers::DEPTH) {
         Verdict::Fine => 1,
         Verdict::Bad(_) => 0,
     }

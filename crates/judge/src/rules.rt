@@ -1,4 +1,4 @@
-// One traversal for every rule, in file order.
+// Rules 4 to 10: one traversal for each, in file order.
 use boxes::containers;
 use boxes::walk;
 use boxes::walk::BoxAt;
@@ -11,7 +11,7 @@ ghost use lib.ListN.{length};
 ghost use Rattle.boxes.specs.Boxes.{boxes};
 ghost use Rattle.boxes.specs.Walk.{boxAt};
 ghost use Rattle.rule.specs.Judge.{judgeBox, judgeIn};
-ghost use Rattle.judge.specs.Asked.{unlessAnswer, leafBy, nodeBy, judgeBy};
+ghost use Rattle.judge.specs.Asked.{unlessAnswer, leafBy, nodeBy, boxesBy};
 
 // Broken at a place where an answer is 0.
 fn unless(answer: usize, place: usize) -> Verdict
@@ -48,9 +48,6 @@ fn node_by(n: usize, file: &[u8], k: usize, part: &[u8], home: usize, base: usiz
     requires { ⌜ base + length (now part) < 2 ^ 60 ⌝ }
     ensures { λ r. ⌜ r ≡ nodeBy n (boxes (now (file .entry))) k (now (part .entry)) home base ⌝ }
 {
-    if n == 3 {
-        return unless(rule_shape::shape_of(k, part), home);
-    }
     if n == 4 {
         return rule_headers::identities::tracks_in(k, part, base);
     }
@@ -66,9 +63,6 @@ fn node_by(n: usize, file: &[u8], k: usize, part: &[u8], home: usize, base: usiz
     if n == 10 {
         return rule_entries::ten_at(k, part, base);
     }
-    if n == 23 {
-        return unless(rule_shape::editable_of(k, part), home);
-    }
     Verdict::Fine
 }
 
@@ -83,7 +77,7 @@ fn judge_box(
     depth: usize,
 ) -> Verdict
     requires { ⌜ (b .head ≤ b .span) × (b .at + b .span ≤ length (now part)) × (base + length (now part) < 2 ^ 60) × (0 < depth) ⌝ }
-    ensures { λ r. ⌜ r ≡ judgeBox (judgeBy n (boxes (now (file .entry)))) (judgeIn (judgeBy n (boxes (now (file .entry)))) (depth - 1)) k (boxAt (now (part .entry)) b) (base + b .at) ⌝ }
+    ensures { λ r. ⌜ r ≡ judgeBox (boxesBy n (boxes (now (file .entry)))) (judgeIn (boxesBy n (boxes (now (file .entry)))) (depth - 1)) k (boxAt (now (part .entry)) b) (base + b .at) ⌝ }
 {
     let place = base + b.at;
     let start = place + b.head;
@@ -105,7 +99,7 @@ pub fn judge_in(
     depth: usize,
 ) -> Verdict
     requires { ⌜ base + length (now part) < 2 ^ 60 ⌝ }
-    ensures { λ r. ⌜ r ≡ judgeIn (judgeBy n (boxes (now (file .entry)))) depth k (now (part .entry)) home base ⌝ }
+    ensures { λ r. ⌜ r ≡ judgeIn (boxesBy n (boxes (now (file .entry)))) depth k (now (part .entry)) home base ⌝ }
 {
     if depth == 0 {
         return Verdict::Fine;
@@ -121,10 +115,7 @@ pub fn judge_in(
             Step::End => {
                 return found;
             }
-            Step::Broken(p) => {
-                if n == 2 {
-                    return rule::sooner(found, Verdict::Bad(base + p));
-                }
+            Step::Broken(_) => {
                 return found;
             }
         }

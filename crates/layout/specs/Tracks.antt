@@ -5,6 +5,7 @@ use mathlib.Core.List.{List}
 use lib.ListN.{length}
 use Rattle.wire.specs.Tests.{ifEq}
 use Rattle.codes.specs.Codes.{FTYP, MOOV, MVHD, TRAK}
+use Rattle.boxes.specs.declared.walk.BoxAt.{BoxAt}
 use Rattle.boxes.specs.Boxes.{boxes}
 use Rattle.boxes.specs.Containers.{FILE}
 use Rattle.boxes.specs.Seek.{find, startIn}
@@ -12,7 +13,10 @@ use Rattle.movie.specs.Movie.{movie, tracks as tracksOf, track}
 use Rattle.layout.specs.declared.gather.Slot.{Slot}
 use Rattle.layout.specs.declared.gather.Want.{Want}
 use Rattle.layout.specs.declared.gather.Five.{Five}
+use Rattle.layout.specs.declared.moov.Ends.{Ends}
+use Rattle.layout.specs.declared.moov.Four.{Four}
 use Rattle.layout.specs.declared.tracks.Movie.{Movie}
+use Rattle.layout.specs.Slots.{noteOf}
 use Rattle.layout.specs.Track.{At, Has}
 
 -- the file as a slot
@@ -22,6 +26,21 @@ wholeOf xs = record { n = 1; from = 0; to = length xs }
 -- track i of a `moov`, from 0
 abbrev pub wanted : ℕ → Want
 wanted i = record { code = TRAK; nth = i }
+
+-- of so many boxes one that stands there
+abbrev pub slotOf : ℕ → Ends → Slot
+slotOf n e = record { n = n; from = e .from; to = e .to }
+
+-- what was found of a code, and of tracks with one count
+abbrev pub fiveOf : Slot → Four → ℕ → Five
+fiveOf i f t = record { a = i; b = slotOf (f .n) (f .one); c = slotOf (f .n) (f .two); d = slotOf (f .n) (f .three); e = slotOf (f .n) (f .four); tiled = t }
+
+-- the first four tracks past one more box of a part that starts at place p
+pub record Further (f : Four) (b : BoxAt) (p : ℕ) (r : Four) : Type 0 where
+  pub one : slotOf (r .n) (r .one) ≡ noteOf (slotOf (f .n) (f .one)) (wanted 0) b p
+  pub two : slotOf (r .n) (r .two) ≡ noteOf (slotOf (f .n) (f .two)) (wanted 1) b p
+  pub three : slotOf (r .n) (r .three) ≡ noteOf (slotOf (f .n) (f .three)) (wanted 2) b p
+  pub four : slotOf (r .n) (r .four) ≡ noteOf (slotOf (f .n) (f .four)) (wanted 3) b p
 
 -- the slot of track i, from 0
 unfoldable pub trackSlot : Movie → ℕ → Slot

@@ -1,4 +1,4 @@
-// One walk over the boxes of a container, for five of them.
+// What a walk over the boxes of a container fills, and one for five codes.
 use boxes::walk::BoxAt;
 use boxes::walk::Step;
 use boxes::walk::Walk;
@@ -52,7 +52,7 @@ pub fn bytes(file: &[u8], s: Slot) -> &[u8]
 }
 
 // The slot of a wanted box, past one more box of a part that starts at base.
-fn note(s: Slot, want: Want, b: BoxAt, base: usize) -> Slot
+pub fn note(s: Slot, want: Want, b: BoxAt, base: usize) -> Slot
     requires { ⌜ (s .n < 2 ^ 63) × (b .head ≤ b .span) × (base + (b .at + b .span) < 2 ^ 63) ⌝ }
     ensures { λ r. ⌜ r ≡ noteOf s want b base ⌝ }
 {
@@ -73,10 +73,10 @@ fn note(s: Slot, want: Want, b: BoxAt, base: usize) -> Slot
     }
 }
 
-// What a container, which is a slot of the file, has of five wanted boxes.
-pub fn gather(file: &[u8], whole: Slot, a: Want, b: Want, c: Want, d: Want, e: Want) -> Five
-    requires { ⌜ Lies (now file) whole × (0 < a .code) × (0 < b .code) × (0 < c .code) × (0 < d .code) × (0 < e .code) ⌝ }
-    ensures { λ r. ⌜ Gathered (now (file .entry)) whole a b c d e r ⌝ }
+// What a container, which is a slot of the file, has of five codes, and the first box of each.
+pub fn firsts(file: &[u8], whole: Slot, a: usize, b: usize, c: usize, d: usize, e: usize) -> Five
+    requires { ⌜ Lies (now file) whole × (0 < a) × (0 < b) × (0 < c) × (0 < d) × (0 < e) ⌝ }
+    ensures { λ r. ⌜ Gathered (now (file .entry)) whole (firstWith a) (firstWith b) (firstWith c) (firstWith d) (firstWith e) r ⌝ }
 {
     let part = bytes(file, whole);
     let none = none();
@@ -89,148 +89,11 @@ pub fn gather(file: &[u8], whole: Slot, a: Want, b: Want, c: Want, d: Want, e: W
     loop {
         match w.step(part) {
             Step::Found(x, next) => {
-                i = note(i, a, x, whole.from);
-                j = note(j, b, x, whole.from);
-                k = note(k, c, x, whole.from);
-                l = note(l, d, x, whole.from);
-                m = note(m, e, x, whole.from);
-                w = next;
-            }
-            Step::End => {
-                return Five {
-                    a: i,
-                    b: j,
-                    c: k,
-                    d: l,
-                    e: m,
-                    tiled: 1,
-                };
-            }
-            Step::Broken(_) => {
-                return Five {
-                    a: i,
-                    b: j,
-                    c: k,
-                    d: l,
-                    e: m,
-                    tiled: 0,
-                };
-            }
-        }
-    }
-}
-
-// The same of the first boxes of five codes.
-pub fn firsts(file: &[u8], whole: Slot, a: usize, b: usize, c: usize, d: usize, e: usize) -> Five
-    requires { ⌜ Lies (now file) whole × (0 < a) × (0 < b) × (0 < c) × (0 < d) × (0 < e) ⌝ }
-    ensures { λ r. ⌜ Gathered (now (file .entry)) whole (firstWith a) (firstWith b) (firstWith c) (firstWith d) (firstWith e) r ⌝ }
-{
-    gather(
-        file,
-        whole,
-        Want { code: a, nth: 0 },
-        Want { code: b, nth: 0 },
-        Want { code: c, nth: 0 },
-        Want { code: d, nth: 0 },
-        Want { code: e, nth: 0 },
-    )
-}
-
-// The same of one code, of two and of three: fewer slots are filled in less time.
-pub fn one(file: &[u8], whole: Slot, a: usize) -> Five
-    requires { ⌜ Lies (now file) whole × (0 < a) ⌝ }
-    ensures { λ r. ⌜ Gathered (now (file .entry)) whole (firstWith a) (firstWith a) (firstWith a) (firstWith a) (firstWith a) r ⌝ }
-{
-    let part = bytes(file, whole);
-    let none = none();
-    let mut i = none;
-    let mut w = Walk { at: 0 };
-    loop {
-        match w.step(part) {
-            Step::Found(x, next) => {
-                i = note(i, Want { code: a, nth: 0 }, x, whole.from);
-                w = next;
-            }
-            Step::End => {
-                return Five {
-                    a: i,
-                    b: i,
-                    c: i,
-                    d: i,
-                    e: i,
-                    tiled: 1,
-                };
-            }
-            Step::Broken(_) => {
-                return Five {
-                    a: i,
-                    b: i,
-                    c: i,
-                    d: i,
-                    e: i,
-                    tiled: 0,
-                };
-            }
-        }
-    }
-}
-
-pub fn two(file: &[u8], whole: Slot, a: usize, b: usize) -> Five
-    requires { ⌜ Lies (now file) whole × (0 < a) × (0 < b) ⌝ }
-    ensures { λ r. ⌜ Gathered (now (file .entry)) whole (firstWith a) (firstWith b) (firstWith b) (firstWith b) (firstWith b) r ⌝ }
-{
-    let part = bytes(file, whole);
-    let none = none();
-    let mut i = none;
-    let mut j = none;
-    let mut w = Walk { at: 0 };
-    loop {
-        match w.step(part) {
-            Step::Found(x, next) => {
-                i = note(i, Want { code: a, nth: 0 }, x, whole.from);
-                j = note(j, Want { code: b, nth: 0 }, x, whole.from);
-                w = next;
-            }
-            Step::End => {
-                return Five {
-                    a: i,
-                    b: j,
-                    c: j,
-                    d: j,
-                    e: j,
-                    tiled: 1,
-                };
-            }
-            Step::Broken(_) => {
-                return Five {
-                    a: i,
-                    b: j,
-                    c: j,
-                    d: j,
-                    e: j,
-                    tiled: 0,
-                };
-            }
-        }
-    }
-}
-
-pub fn three(file: &[u8], whole: Slot, a: usize, b: usize, c: usize) -> Five
-    requires { ⌜ Lies (now file) whole × (0 < a) × (0 < b) × (0 < c) ⌝ }
-    ensures { λ r. ⌜ Gathered (now (file .entry)) whole (firstWith a) (firstWith b) (firstWith c) (firstWith c) (firstWith c) r ⌝ }
-{
-    let part = bytes(file, whole);
-    let none = none();
-    let mut i = none;
-    let mut j = none;
-    let mut k = none;
-    let mut w = Walk { at: 0 };
-    loop {
-        match w.step(part) {
-            Step::Found(x, next) => {
                 i = note(i, Want { code: a, nth: 0 }, x, whole.from);
                 j = note(j, Want { code: b, nth: 0 }, x, whole.from);
                 k = note(k, Want { code: c, nth: 0 }, x, whole.from);
+                l = note(l, Want { code: d, nth: 0 }, x, whole.from);
+                m = note(m, Want { code: e, nth: 0 }, x, whole.from);
                 w = next;
             }
             Step::End => {
@@ -238,8 +101,8 @@ pub fn three(file: &[u8], whole: Slot, a: usize, b: usize, c: usize) -> Five
                     a: i,
                     b: j,
                     c: k,
-                    d: k,
-                    e: k,
+                    d: l,
+                    e: m,
                     tiled: 1,
                 };
             }
@@ -248,8 +111,8 @@ pub fn three(file: &[u8], whole: Slot, a: usize, b: usize, c: usize) -> Five
                     a: i,
                     b: j,
                     c: k,
-                    d: k,
-                    e: k,
+                    d: l,
+                    e: m,
                     tiled: 0,
                 };
             }

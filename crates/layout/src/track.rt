@@ -1,4 +1,5 @@
 // Where the boxes of a track stand, by one walk over each of its containers.
+use crate::fewer;
 use crate::gather;
 use crate::gather::Slot;
 ghost use mathlib.Core.Path.{_≡_};
@@ -24,10 +25,10 @@ pub fn lay(file: &[u8], trak: Slot) -> Track
     requires { ⌜ Lies (now file) trak ⌝ }
     ensures { λ r. ⌜ Laid (now (file .entry)) (slotIn (now (file .entry)) trak) r × StsdPlaced (now (file .entry)) trak r ⌝ }
 {
-    let t = gather::two(file, trak, codes::TKHD, codes::MDIA);
-    let m = gather::three(file, t.b, codes::MDHD, codes::HDLR, codes::MINF);
-    let i = gather::two(file, m.c, codes::DINF, codes::STBL);
-    let d = gather::one(file, i.a, codes::DREF);
+    let t = fewer::two(file, trak, codes::TKHD, codes::MDIA);
+    let m = fewer::three(file, t.b, codes::MDHD, codes::HDLR, codes::MINF);
+    let i = fewer::two(file, m.c, codes::DINF, codes::STBL);
+    let d = fewer::one(file, i.a, codes::DREF);
     let s = gather::firsts(
         file,
         i.b,

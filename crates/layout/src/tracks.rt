@@ -1,16 +1,16 @@
 // Where the tracks of a file stand, by one walk over its boxes and one over those of `moov`.
+use crate::fewer;
 use crate::gather;
 use crate::gather::Five;
 use crate::gather::Slot;
-use crate::gather::Want;
+use crate::moov;
 ghost use mathlib.Core.Path.{_≡_};
-ghost use Prim.Native.Nat.{_<_};
 ghost use Rattle.wire.specs.Clauses.{isEq, oneIf};
 ghost use Rattle.codes.specs.Codes.{FTYP};
 ghost use Rattle.boxes.specs.Boxes.{boxes};
 ghost use Rattle.rule_shape.specs.Three.{first};
-ghost use Rattle.layout.specs.Slots.{firstWith, Lies, Gathered};
-ghost use Rattle.layout.specs.Tracks.{wholeOf, wanted, trackSlot, Peopled, LaidOut, Spread};
+ghost use Rattle.layout.specs.Slots.{Lies};
+ghost use Rattle.layout.specs.Tracks.{wholeOf, trackSlot, Peopled, LaidOut, Spread};
 
 // The boxes that rule 3 names, the first four tracks, how many there are, and whether all is as rules 2 and 3 want it: 1 or 0.
 pub struct Movie {
@@ -65,41 +65,13 @@ fn led(file: &[u8]) -> usize
     1
 }
 
-// The first box of a code in a `moov`, and its first four tracks.
-pub fn with_tracks(file: &[u8], moov: Slot, code: usize) -> Five
-    requires { ⌜ Lies (now file) moov × (0 < code) ⌝ }
-    ensures { λ r. ⌜ Gathered (now (file .entry)) moov (firstWith code) (wanted 0) (wanted 1) (wanted 2) (wanted 3) r ⌝ }
-{
-    gather::gather(
-        file,
-        moov,
-        Want { code, nth: 0 },
-        Want {
-            code: codes::TRAK,
-            nth: 0,
-        },
-        Want {
-            code: codes::TRAK,
-            nth: 1,
-        },
-        Want {
-            code: codes::TRAK,
-            nth: 2,
-        },
-        Want {
-            code: codes::TRAK,
-            nth: 3,
-        },
-    )
-}
-
 // Those of a file.
 pub fn lay(file: &[u8]) -> Movie
     ensures { λ r. ⌜ LaidOut (now (file .entry)) r × Spread (now (file .entry)) r ⌝ }
 {
-    let f = gather::two(file, whole(file), codes::FTYP, codes::MOOV);
+    let f = fewer::two(file, whole(file), codes::FTYP, codes::MOOV);
     let moov = f.b;
-    let m = with_tracks(file, moov, codes::MVHD);
+    let m = moov::with_tracks(file, moov, codes::MVHD);
     let ftyp = f.a;
     let mvhd = m.a;
     let one = m.b;

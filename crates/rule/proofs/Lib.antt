@@ -6,3 +6,4 @@ pub mod Traverse
 pub mod Results
 pub mod Alike
 pub mod Bounds
+pub mod Firsts

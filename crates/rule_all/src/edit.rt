@@ -1,6 +1,8 @@
 // Refusal 23 by one walk over each container. An answer other than 0 says that an edit takes it.
+use layout::fewer;
 use layout::gather;
 use layout::gather::Slot;
+use layout::moov;
 use layout::tracks;
 ghost use Rattle.codes.specs.Codes.{MOOV, TRAK, MDIA, STBL};
 ghost use Rattle.boxes.specs.Containers.{FILE, DEPTH};
@@ -14,7 +16,7 @@ fn stbl_edits(file: &[u8], stbl: Slot) -> usize
     requires { ⌜ Lies (now file) stbl ⌝ }
     ensures { λ r. ⌜ Sure r (allIn editableRule 1 STBL (slotIn (now (file .entry)) stbl)) ⌝ }
 {
-    let g = gather::two(file, stbl, codes::CO64, codes::SAIO);
+    let g = fewer::two(file, stbl, codes::CO64, codes::SAIO);
     if g.a.n != 0 {
         return 0;
     }
@@ -29,11 +31,11 @@ fn mdia_edits(file: &[u8], mdia: Slot) -> usize
     requires { ⌜ Lies (now file) mdia ⌝ }
     ensures { λ r. ⌜ Sure r (allIn editableRule 3 MDIA (slotIn (now (file .entry)) mdia)) ⌝ }
 {
-    let g = gather::one(file, mdia, codes::MINF);
+    let g = fewer::one(file, mdia, codes::MINF);
     if 1 < g.a.n {
         return 0;
     }
-    let h = gather::one(file, g.a, codes::STBL);
+    let h = fewer::one(file, g.a, codes::STBL);
     if 1 < h.a.n {
         return 0;
     }
@@ -45,7 +47,7 @@ fn trak_edits(file: &[u8], trak: Slot) -> usize
     requires { ⌜ Lies (now file) trak ⌝ }
     ensures { λ r. ⌜ Sure r (allIn editableRule 4 TRAK (slotIn (now (file .entry)) trak)) ⌝ }
 {
-    let g = gather::two(file, trak, codes::MDIA, codes::META);
+    let g = fewer::two(file, trak, codes::MDIA, codes::META);
     if g.b.n != 0 {
         return 0;
     }
@@ -63,7 +65,7 @@ fn moov_edits(file: &[u8], moov: Slot) -> usize
     requires { ⌜ Lies (now file) moov ⌝ }
     ensures { λ r. ⌜ Sure r (allIn editableRule 5 MOOV (slotIn (now (file .entry)) moov)) ⌝ }
 {
-    let g = tracks::with_tracks(file, moov, codes::META);
+    let g = moov::with_tracks(file, moov, codes::META);
     if g.a.n != 0 {
         return 0;
     }

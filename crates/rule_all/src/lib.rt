@@ -44,7 +44,7 @@ fn heads_fine(file: &[u8], m: Movie) -> usize
     forms::form(codes::MOOV, codes::MVHD, gather::bytes(file, mvhd))
 }
 
-// Whether an ID is one of those of the last three tracks, as many as there are: 1 or 0.
+// An answer of 0 says that an ID is none of those of the last three tracks, as many as there are.
 fn again(identity: usize, i: usize, one: usize, two: usize, three: usize) -> usize
     ensures { λ r. ⌜ Again r identity i one two three ⌝ }
 {
@@ -69,7 +69,7 @@ fn again(identity: usize, i: usize, one: usize, two: usize, three: usize) -> usi
     0
 }
 
-// Each track, that their IDs differ, and that they have at most 8 sample entries: 1 or 0.
+// An answer other than 0 says that each track is good, that their IDs differ, and that they have at most 8 sample entries.
 fn tracks_fine(file: &[u8], m: Movie) -> usize
     requires { ⌜ LaidOut (now file) m × (tracks (now file) ≤ 4) × (length (now file) ≤ LONGEST) ⌝ }
     ensures { λ r. ⌜ Tracked (now (file .entry)) r ⌝ }
@@ -100,7 +100,7 @@ fn tracks_fine(file: &[u8], m: Movie) -> usize
     1
 }
 
-// Whether a file meets rules 2 to 10.
+// An answer other than 0 says that a file meets rules 2 to 10.
 pub fn all_hold(file: &[u8]) -> usize
     requires { ⌜ length (now file) ≤ LONGEST ⌝ }
     ensures { λ r. ⌜ Sure r (allIn (allRules (boxes (now (file .entry)))) DEPTH FILE (now (file .entry))) ⌝ }

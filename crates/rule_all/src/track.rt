@@ -138,7 +138,7 @@ fn entries_fine(file: &[u8], t: Track) -> usize
     }
 }
 
-// Whether it meets all of them: 1 or 0.
+// An answer other than 0 says that it meets all of them.
 fn all_fine(file: &[u8], t: Track) -> usize
     requires { ⌜ Inside (now file) t × (length (now file) ≤ LONGEST) ⌝ }
     ensures { λ r. ⌜ AllFine (now (file .entry)) t r ⌝ }

@@ -29,19 +29,16 @@ use Rattle.rule.specs.declared.Verdict.{Verdict}
 use Rattle.rule.specs.declared.Verdict.the-variants.{Fine, Bad}
 use Rattle.rule.specs.Verdict.{sooner, unless}
 use Rattle.rule.specs.Judge.{judgeList}
-use Rattle.rule.proofs.Places.{sooner-none, unless-yea, unless-nay}
-use Rattle.rule.proofs.Traverse.{Found, found-none, found-more, found-over}
+use Rattle.rule.proofs.Places.{sooner-none}
+use Rattle.rule.proofs.Traverse.{Found, found-none, found-over}
+use Rattle.rule.proofs.Firsts.{listed-more, listed-bad, listed-over}
 use Rattle.rule_entries.specs.Ten.{aroundOf, meets, bytesOf, entryFine, entriesJudged, stsdsJudged}
 
 -- ---- one entry
 
-pub meets-yea : (a : Around) (xs : List ℕ) (p : ℕ) {r : ℕ} → r ≡ oneIf (entryRule a FRAMES xs) → (r ≡ 0 → ⊥) → Fine ≡ unless (meets a xs) p
+pub meets-is : (a : Around) (xs : List ℕ) {r : ℕ} → r ≡ oneIf (entryRule a FRAMES xs) → r ≡ oneIf (meets a xs)
 unfolding meets
-meets-yea a xs p e q = unless-yea _ p (sym (was-yea _ _ q e))
-
-pub meets-nay : (a : Around) (xs : List ℕ) (p : ℕ) {r : ℕ} → r ≡ oneIf (entryRule a FRAMES xs) → r ≡ 0 → Bad p ≡ unless (meets a xs) p
-unfolding meets
-meets-nay a xs p e q = unless-nay _ p (sym (was-nay _ _ q e))
+meets-is a xs e = e
 
 -- the bytes of a box that a step found are its header and its payload
 pub bytes-is : {xs : List ℕ} {at : ℕ} {b : BoxAt} {w : Walk} → Bytes xs → Ran xs at b w → bytesOf xs b ≡ header (boxAt xs b) ++ payload xs b
@@ -59,17 +56,27 @@ entryAt a x q = unless (entryFine a x) q
 abbrev pub noEnd : ℕ → Verdict
 noEnd q = Fine
 
-module _ (a : Around) (xs : List ℕ) (base : ℕ) where
-  pub entries-none : Found (entryAt a) noEnd xs base (entriesJudged a xs base) Fine 0
-  unfolding entriesJudged sooner
-  entries-none = found-none (entryAt a) noEnd xs base Fine
+-- every entry before a place meets its rule
+abbrev pub Met : Around → List ℕ → ℕ → ℕ → Type 0
+Met a xs base at = Found (entryAt a) noEnd xs base (entriesJudged a xs base) Fine at
 
-  pub entries-more : Bytes xs → {found : Verdict} {at : ℕ} → Found (entryAt a) noEnd xs base (entriesJudged a xs base) found at → {b : BoxAt} {w : Walk} → Ran xs at b w
-      → {v : Verdict} → v ≡ unless (meets a (bytesOf xs b)) (base + b .at) → {u : Verdict} → u ≡ sooner found v → Found (entryAt a) noEnd xs base (entriesJudged a xs base) u (w .at)
-  entries-more h i {b} s e q = found-more (entryAt a) noEnd xs base i s (e ∙ ap (λ (ys : List ℕ). unless (meets a ys) (base + b .at)) (bytes-is h s)) q
+pub entries-none : (a : Around) (xs : List ℕ) (base : ℕ) → Met a xs base 0
+unfolding entriesJudged sooner
+entries-none a xs base = found-none (entryAt a) noEnd xs base Fine
 
-  pub entries-over : {found : Verdict} {at : ℕ} → Found (entryAt a) noEnd xs base (entriesJudged a xs base) found at → Over xs at → found ≡ entriesJudged a xs base
-  entries-over {found} i o = sym (sooner-none found) ∙ found-over (entryAt a) noEnd xs base i o
+module _ (a : Around) {xs : List ℕ} {base at : ℕ} (i : Met a xs base at) where
+  module _ (h : Bytes xs) {b : BoxAt} {w : Walk} (s : Ran xs at b w) {r : ℕ} (e : r ≡ oneIf (meets a (bytesOf xs b))) where
+    own : r ≡ oneIf (entryFine a (boxAt xs b))
+    own = e ∙ ap (λ (ys : List ℕ). oneIf (meets a ys)) (bytes-is h s)
+
+    pub entries-more : (r ≡ 0 → ⊥) → Met a xs base (w .at)
+    entries-more z = listed-more (entryFine a) i s (was-yea _ _ z own)
+
+    pub entries-bad : r ≡ 0 → Bad (base + b .at) ≡ entriesJudged a xs base
+    entries-bad z = listed-bad (entryFine a) i s (was-nay _ _ z own)
+
+  pub entries-over : Over xs at → Fine ≡ entriesJudged a xs base
+  entries-over o = listed-over (entryFine a) i o
 
 -- ---- a box of `moov`
 

@@ -10,12 +10,12 @@ ghost use mathlib.Core.Path.{_≡_};
 ghost use Prim.Native.Nat.{_+_, _^_, _<_, _≤_};
 ghost use mathlib.Core.List.{[], _∷_};
 ghost use lib.ListN.{length};
+ghost use Rattle.wire.specs.Clauses.{oneIf};
 ghost use Rattle.boxes.specs.Boxes.{HEAD, FRONT, boxes};
 ghost use Rattle.boxes.specs.Walk.{boxAt};
 ghost use Rattle.movie.specs.Ways.{toStsd, placeAlong};
 ghost use Rattle.movie.specs.Stsds.{stsdsFrom};
 ghost use Rattle.movie.specs.Named.{listIn};
-ghost use Rattle.rule.specs.Verdict.{unless};
 ghost use Rattle.rule_entries.specs.Ten.{aroundOf, meets, bytesOf, entriesJudged, stsdsJudged, tenAt};
 
 // The scale, the handler and the data references of a track.
@@ -29,37 +29,35 @@ fn around_of(track: &[u8]) -> Around
     }
 }
 
-// One entry of a list that starts at base.
-fn entry_at(list: &[u8], b: BoxAt, base: usize, around: Around) -> Verdict
-    requires { ⌜ (b .head ≤ b .span) × (b .at + b .span ≤ length (now list)) × (base + length (now list) < 2 ^ 63) ⌝ }
-    ensures { λ r. ⌜ r ≡ unless (meets around (bytesOf (now (list .entry)) b)) (base + b .at) ⌝ }
+// Whether one entry of a list meets its rule: 1 or 0.
+fn entry_meets(list: &[u8], b: BoxAt, around: Around) -> usize
+    requires { ⌜ (b .head ≤ b .span) × (b .at + b .span ≤ length (now list)) ⌝ }
+    ensures { λ r. ⌜ r ≡ oneIf (meets around (bytesOf (now (list .entry)) b)) ⌝ }
 {
     let from = b.at;
     let to = b.at + b.span;
-    if entry::entry_rule(&list[from..to], around, entry::FRAMES) == 0 {
-        return Verdict::Bad(base + from);
-    }
-    Verdict::Fine
+    entry::entry_rule(&list[from..to], around, entry::FRAMES)
 }
 
-// The first entry of a list that breaks its rule.
+// The first entry of a list that starts at base which breaks its rule.
 pub fn entries_from(list: &[u8], base: usize, around: Around) -> Verdict
     requires { ⌜ base + length (now list) < 2 ^ 63 ⌝ }
     ensures { λ r. ⌜ r ≡ entriesJudged around (now (list .entry)) base ⌝ }
 {
-    let mut found = Verdict::Fine;
     let mut w = Walk { at: 0 };
     loop {
         match w.step(list) {
             Step::Found(b, next) => {
-                found = rule::sooner(found, entry_at(list, b, base, around));
+                if entry_meets(list, b, around) == 0 {
+                    return Verdict::Bad(base + b.at);
+                }
                 w = next;
             }
             Step::End => {
-                return found;
+                return Verdict::Fine;
             }
             Step::Broken(_) => {
-                return found;
+                return Verdict::Fine;
             }
         }
     }

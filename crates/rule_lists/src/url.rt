@@ -1,18 +1,16 @@
 // Rule 9: what a `dref` lists.
 use boxes::walk;
-use boxes::walk::BoxAt;
 use boxes::walk::Step;
 use boxes::walk::Walk;
 use rule::Verdict;
 use wire::lend;
 use wire::number;
 ghost use mathlib.Core.Path.{_≡_};
-ghost use Prim.Native.Nat.{_+_, _^_, _≤_, _<_};
+ghost use Prim.Native.Nat.{_+_, _^_, _<_};
 ghost use lib.ListN.{length};
 ghost use Rattle.wire.specs.Clauses.{oneIf};
 ghost use Rattle.boxes.specs.Boxes.{boxes};
-ghost use Rattle.boxes.specs.Walk.{boxAt};
-ghost use Rattle.rule_lists.specs.Nine.{isUrl, urlAt, urlsFrom, urlsIn};
+ghost use Rattle.rule_lists.specs.Nine.{isUrl, urlsFrom, urlsIn};
 
 // Whether a box is a `url ` of this file: 1 or 0.
 fn is_url(code: usize, body: &[u8]) -> usize
@@ -30,35 +28,25 @@ fn is_url(code: usize, body: &[u8]) -> usize
     1
 }
 
-// The same of a box that was found in a part that starts at place base.
-fn url_at(part: &[u8], b: BoxAt, base: usize) -> Verdict
-    requires { ⌜ (b .head ≤ b .span) × (b .at + b .span ≤ length (now part)) × (base + length (now part) < 2 ^ 64) ⌝ }
-    ensures { λ r. ⌜ r ≡ urlAt (boxAt (now (part .entry)) b) (base + b .at) ⌝ }
-{
-    if is_url(b.code, walk::body(part, b)) == 0 {
-        return Verdict::Bad(base + b.at);
-    }
-    Verdict::Fine
-}
-
-// The same of every box.
+// The first box of a part that starts at place base which is none.
 fn urls_from(part: &[u8], base: usize) -> Verdict
     requires { ⌜ base + length (now part) < 2 ^ 64 ⌝ }
     ensures { λ r. ⌜ r ≡ urlsFrom (boxes (now (part .entry))) base ⌝ }
 {
     let mut w = Walk { at: 0 };
-    let mut found = Verdict::Fine;
     loop {
         match w.step(part) {
             Step::Found(b, next) => {
-                found = rule::sooner(found, url_at(part, b, base));
+                if is_url(b.code, walk::body(part, b)) == 0 {
+                    return Verdict::Bad(base + b.at);
+                }
                 w = next;
             }
             Step::End => {
-                return found;
+                return Verdict::Fine;
             }
             Step::Broken(_) => {
-                return found;
+                return Verdict::Fine;
             }
         }
     }

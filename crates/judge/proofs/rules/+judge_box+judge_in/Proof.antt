@@ -1,13 +1,13 @@
 -- The cycle of calls {judge_box, judge_in}. At depth d the measures are 2d and 2d + 1.
 use Prim.Native.Nat.{ℕ, _+_, _-_, _*_, _<_}
 use Rattle.boxes.proofs.Walking.{ran, ended, broke}
-use Rattle.boxes.specs.Boxes.{boxes, after}
-use Rattle.judge.proofs.Answers.{box-leaf, box-node, judge-shallow, judge-start, end-tiled, end-passed, end-torn}
-use Rattle.judge.specs.Asked.{endBy, judgeBy}
+use Rattle.boxes.specs.Boxes.{boxes}
+use Rattle.judge.proofs.Answers.{box-leaf, box-node, judge-shallow, judge-start, end-passed}
+use Rattle.judge.specs.Asked.{boxesBy}
 use Rattle.rule.proofs.Traverse.{Found, found-more}
+use Rattle.rule.specs.declared.Verdict.the-variants.{Fine}
 use Rattle.rule.specs.Judge.{judgeBox, judgeIn}
-use lib.ListN.{length, drop, length-take, length-drop}
-use mathlib.Core.Path.{_≡_, refl, _∙_}
+use lib.ListN.{length, length-take, length-drop}
 use native.Mathlib.Omega.{arith}
 use borrow.Author.Needs.{needs}
 use borrow.Fn.Kinds.{In}
@@ -46,7 +46,7 @@ abbrev judge-in-below : ℕ → In 2 judge-in-kinds.ps
 judge-in-below t = and 2 judge-in-kinds.ps (falls 2 judge-in-kinds.ps _<_ μ-judge-in t) judge-in.Pre
 
 abbrev judge-in-Inv-loop : judge-in-lts.InvT-loop
-judge-in-Inv-loop n file part home base k depth found₀ w₀ found w = Found (judgeBox (judgeBy n (boxes file)) (judgeIn (judgeBy n (boxes file)) (depth - 1)) k) (endBy n (after part)) part base (judgeIn (judgeBy n (boxes file)) depth k part home base) found (w .at) × (after part ≡ after (drop (w .at) part))
+judge-in-Inv-loop n file part home base k depth found₀ w₀ found w = Found (judgeBox (boxesBy n (boxes file)) (judgeIn (boxesBy n (boxes file)) (depth - 1)) k) (λ p. Fine) part base (judgeIn (boxesBy n (boxes file)) depth k part home base) found (w .at)
 
 abbrev judge-in-μ-loop : judge-in-lts.MeasureT-loop
 judge-in-μ-loop n file part home base k depth found₀ w₀ found w = length part - w .at
@@ -59,25 +59,22 @@ pub +judge-box+judge-in-spec : {M : Type 1} → statement M
     (λ c κs. search needs)
     (λ c κs. search needs)
     (λ c κs. rw (c .body .ensures, length-take, length-drop) (omega arith))
-    (λ c. let a = c .before .before .before .before .before .before .before .before .args in box-leaf (judgeBy (a .n) (boxes (a .file .now))) _ _ _ _ (c .before .before .before .kind-in .ensures) (c .before .before .if1 .taken) (rw (c .before .body .ensures) at (c .leaf-by .ensures)))
+    (λ c. let a = c .before .before .before .before .before .before .before .before .args in box-leaf (boxesBy (a .n) (boxes (a .file .now))) _ _ _ _ (c .before .before .before .kind-in .ensures) (c .before .before .if1 .taken) (rw (c .before .body .ensures) at (c .leaf-by .ensures)))
     (λ c κs. search needs)
     (λ c. search needs)
     (λ c κs. (omega arith, rw (c .body2 .ensures, length-take, length-drop) (omega arith)))
-    (λ c. let a = c .before .before .before .before .before .before .before .before .args in box-node (judgeBy (a .n) (boxes (a .file .now))) _ _ _ _ (c .before .before .before .kind-in .ensures) (c .before .before .if1 .left) (rw (c .before .body2 .ensures) at (c .judge-in .ensures))))
+    (λ c. let a = c .before .before .before .before .before .before .before .before .args in box-node (boxesBy (a .n) (boxes (a .file .now))) _ _ _ _ (c .before .before .before .kind-in .ensures) (c .before .before .if1 .left) (rw (c .before .body2 .ensures) at (c .judge-in .ensures))))
     (λ t. judge-in-lts.spec (node-by-reads.Asked, node-by-reads.Learnt, step-reads.Asked, step-reads.Learnt, judge-box-below t, judge-box.Post, sooner-reads.Asked, sooner-reads.Learnt) (judge-in-at t) judge-in.Post judge-in-Inv-loop judge-in-μ-loop
     (λ c. judge-shallow _ _ _ _ _ _ (c .if1 .taken))
     (λ c κs. search needs)
-    (λ c. (judge-start _ _ _ _ _ _ (c .before .if1 .left) (c .node-by .ensures), refl))
+    (λ c. judge-start _ _ _ _ _ _ (c .before .if1 .left) (c .node-by .ensures))
     (λ c κs. search needs)
     (λ c. search needs)
     (λ c κs. let s = ran _ _ _ _ _ (c .before .before .before .step .ensures) (c .before .b .given .1) in (omega arith, (s .least, omega arith, omega arith, omega arith)))
     (λ c κs. search needs)
     (λ c. let s = ran _ _ _ _ _ (c .before .before .before .before .before .step .ensures) (c .before .before .before .b .given .1) in omega arith)
-    (λ c. let s = ran _ _ _ _ _ (c .before .before .before .before .before .step .ensures) (c .before .before .before .b .given .1) in let i = c .before .before .before .before .before .before .loop .inv in (found-more _ _ _ _ (i .0) s (c .before .judge-box .ensures) (c .sooner .ensures), i .1 ∙ s .rest))
+    (λ c. let s = ran _ _ _ _ _ (c .before .before .before .before .before .step .ensures) (c .before .before .before .b .given .1) in found-more _ _ _ _ (c .before .before .before .before .before .before .loop .inv) s (c .before .judge-box .ensures) (c .sooner .ensures))
     (λ c. search needs)
-    (λ c. let i = c .before .before .before .loop .inv in let o = ended _ _ _ (c .before .before .step .ensures) (c .enum-told .given .1) in end-tiled _ _ (i .0) (i .1) (o .0) (o .1))
+    (λ c. end-passed _ (c .before .before .before .loop .inv) (ended _ _ _ (c .before .before .step .ensures) (c .enum-told .given .1) .0))
     (λ c. search needs)
-    (λ c. let o = broke _ _ _ _ (c .before .before .before .before .step .ensures) (c .before .before .p .given .1) in omega arith)
-    (λ c κs. search needs)
-    (λ c. let i = c .before .before .before .before .before .before .loop .inv in let o = broke _ _ _ _ (c .before .before .before .before .before .step .ensures) (c .before .before .before .p .given .1) in end-torn _ _ (i .0) (i .1) (o .0) (o .1) (o .2) (c .before .if2 .taken) (c .sooner2 .ensures))
-    (λ c. let i = c .before .before .before .before .before .loop .inv in let o = broke _ _ _ _ (c .before .before .before .before .step .ensures) (c .before .before .p .given .1) in end-passed _ _ (i .0) (i .1) (o .0) (c .if2 .left)))
+    (λ c. end-passed _ (c .before .before .before .loop .inv) (broke _ _ _ _ (c .before .before .step .ensures) (c .enum-told2 .given .1) .0)))

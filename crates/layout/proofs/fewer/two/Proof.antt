@@ -8,8 +8,8 @@ use Rattle.layout.specs.Slots.{firstWith}
 use lib.ListN.{length, drop}
 use mathlib.Core.Path.{_≡_, refl, _∙_}
 use native.Mathlib.Omega.{arith}
-use Rattle.layout.proofs.gather.two.Statement.{statement}
-use Rattle.layout.proofs.gather.two.Tie as tie
+use Rattle.layout.proofs.fewer.two.Statement.{statement}
+use Rattle.layout.proofs.fewer.two.Tie as tie
 
 abbrev Inv : tie.InvT-loop
 Inv file whole a b part i₀ j₀ w₀ i j w =

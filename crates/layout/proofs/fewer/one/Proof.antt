@@ -8,8 +8,8 @@ use Rattle.layout.specs.Slots.{firstWith}
 use lib.ListN.{length, drop}
 use mathlib.Core.Path.{_≡_, refl, _∙_}
 use native.Mathlib.Omega.{arith}
-use Rattle.layout.proofs.gather.one.Statement.{statement}
-use Rattle.layout.proofs.gather.one.Tie as tie
+use Rattle.layout.proofs.fewer.one.Statement.{statement}
+use Rattle.layout.proofs.fewer.one.Tie as tie
 
 abbrev Inv : tie.InvT-loop
 Inv file whole a part i₀ w₀ i w =

@@ -8,8 +8,8 @@ use Rattle.layout.specs.Slots.{firstWith}
 use lib.ListN.{length, drop}
 use mathlib.Core.Path.{_≡_, refl, _∙_}
 use native.Mathlib.Omega.{arith}
-use Rattle.layout.proofs.gather.three.Statement.{statement}
-use Rattle.layout.proofs.gather.three.Tie as tie
+use Rattle.layout.proofs.fewer.three.Statement.{statement}
+use Rattle.layout.proofs.fewer.three.Tie as tie
 
 abbrev Inv : tie.InvT-loop
 Inv file whole a b c part i₀ j₀ k₀ w₀ i j k w =

@@ -4,24 +4,24 @@ use Prim.Native.Nat.{_-_, _^_, _≤_, _<_}
 use Rattle.boxes.proofs.Walking.{ran, ended, broke}
 use Rattle.boxes.specs.Boxes.{after}
 use Rattle.layout.proofs.Noting.{Noted, noted-none, note-fits, noted-more, stands, tiled-yea, tiled-nay}
-use Rattle.layout.specs.Slots.{Lies}
-use lib.ListN.{length, drop, length-take, length-drop}
+use Rattle.layout.specs.Slots.{firstWith}
+use lib.ListN.{length, drop}
 use mathlib.Core.Path.{_≡_, refl, _∙_}
 use native.Mathlib.Omega.{arith}
-use Rattle.layout.proofs.gather.gather.Statement.{statement}
-use Rattle.layout.proofs.gather.gather.Tie as tie
+use Rattle.layout.proofs.gather.firsts.Statement.{statement}
+use Rattle.layout.proofs.gather.firsts.Tie as tie
 
 abbrev Inv : tie.InvT-loop
 Inv file whole a b c d e part i₀ j₀ k₀ l₀ m₀ w₀ i j k l m w =
-    Noted file part (whole .from) a (w .at) i × Noted file part (whole .from) b (w .at) j × Noted file part (whole .from) c (w .at) k × Noted file part
-    (whole .from) d (w .at) l × Noted file part (whole .from) e (w .at) m
+    Noted file part (whole .from) (firstWith a) (w .at) i × Noted file part (whole .from) (firstWith b) (w .at) j × Noted file part (whole .from) (firstWith c) (w .at) k × Noted file part
+    (whole .from) (firstWith d) (w .at) l × Noted file part (whole .from) (firstWith e) (w .at) m
     × (after part ≡ after (drop (w .at) part)) × (w .at ≤ length part) × (length file < 2 ^ 63)
 
 abbrev μ : tie.MeasureT-loop
 μ file whole a b c d e part i₀ j₀ k₀ l₀ m₀ w₀ i j k l m w = length part - w .at
 
-pub gather-spec : {M : Type 1} → statement M
-gather-spec = tie.close (tie.spec Inv μ
+pub firsts-spec : {M : Type 1} → statement M
+firsts-spec = tie.close (tie.spec Inv μ
     (λ c κs. search needs)
     (λ c κs. search needs)
     (λ c. let p = c .before .before .before .pre in

@@ -1,0 +1,77 @@
+// Rules 2 and 3 and refusal 23, which look at containers alone and name each by its own place: the first that is broken is the answer.
+use boxes::containers;
+use boxes::walk;
+use boxes::walk::BoxAt;
+use boxes::walk::Step;
+use boxes::walk::Walk;
+use rule::Verdict;
+ghost use mathlib.Core.Path.{_≡_};
+ghost use Prim.Native.Nat.{_+_, _-_, _^_, _≤_, _<_};
+ghost use lib.ListN.{length};
+ghost use Rattle.wire.specs.Clauses.{oneIf};
+ghost use Rattle.boxes.specs.Walk.{boxAt};
+ghost use Rattle.rule.specs.Judge.{judgeBox, judgeIn};
+ghost use Rattle.rule.specs.Rule.{placed};
+ghost use Rattle.judge.specs.Asked.{shapedBy, shapeBy};
+
+// Whether a container of kind k has the boxes that rule n wants: 1 or 0.
+fn shaped(n: usize, k: usize, part: &[u8]) -> usize
+    ensures { λ r. ⌜ r ≡ oneIf (shapedBy n k (now (part .entry))) ⌝ }
+{
+    if n == 3 {
+        return rule_shape::shape_of(k, part);
+    }
+    if n == 23 {
+        return rule_shape::editable_of(k, part);
+    }
+    1
+}
+
+// A box of a container of kind k: an opaque one is not asked.
+fn first_box(n: usize, part: &[u8], b: BoxAt, base: usize, k: usize, depth: usize) -> Verdict
+    requires { ⌜ (b .head ≤ b .span) × (b .at + b .span ≤ length (now part)) × (base + length (now part) < 2 ^ 60) × (0 < depth) ⌝ }
+    ensures { λ r. ⌜ r ≡ judgeBox (placed (shapeBy n)) (judgeIn (placed (shapeBy n)) (depth - 1)) k (boxAt (now (part .entry)) b) (base + b .at) ⌝ }
+{
+    let place = base + b.at;
+    let start = place + b.head;
+    let kind = containers::kind_in(k, b.code);
+    if kind == 0 {
+        return Verdict::Fine;
+    }
+    first_in(n, walk::body(part, b), place, start, kind, depth - 1)
+}
+
+// All that a container of kind k holds, as deep as depth containers.
+pub fn first_in(n: usize, part: &[u8], home: usize, base: usize, k: usize, depth: usize) -> Verdict
+    requires { ⌜ (home ≤ base) × (base + length (now part) < 2 ^ 60) ⌝ }
+    ensures { λ r. ⌜ r ≡ judgeIn (placed (shapeBy n)) depth k (now (part .entry)) home base ⌝ }
+{
+    if depth == 0 {
+        return Verdict::Fine;
+    }
+    if shaped(n, k, part) == 0 {
+        return Verdict::Bad(home);
+    }
+    let mut w = Walk { at: 0 };
+    loop {
+        match w.step(part) {
+            Step::Found(b, next) => match first_box(n, part, b, base, k, depth) {
+                Verdict::Fine => {
+                    w = next;
+                }
+                Verdict::Bad(p) => {
+                    return Verdict::Bad(p);
+                }
+            },
+            Step::End => {
+                return Verdict::Fine;
+            }
+            Step::Broken(p) => {
+                if n == 2 {
+                    return Verdict::Bad(base + p);
+                }
+                return Verdict::Fine;
+            }
+        }
+    }
+}
