@@ -11,18 +11,28 @@ ghost use mathlib.Core.Path.{_≡_};
 ghost use Prim.Native.Nat.{_≤_, _<_};
 ghost use Rattle.wire.specs.Clauses.{oneIf};
 ghost use Rattle.boxes.specs.Boxes.{boxes};
-ghost use Rattle.movie.specs.Movie.{tracks, track};
+ghost use Rattle.movie.specs.Movie.{tracks, track, handler as handlerOf};
 ghost use Rattle.layout.specs.Every.{TracksAt};
 ghost use Rattle.layout.specs.Entries.{ListsAt};
 ghost use Rattle.brands.specs.Brands.{handled as handledOf, oneEntry, single as singleOf, singleTo, noAvc1, noAvc1To};
 ghost use Rattle.brands.specs.Brands.{few as fewOf, early as earlyOf, second as secondOf, ready as readyOf};
 ghost use Rattle.brands.specs.Own.{OwnAt};
 
-// What `3gp4` and `3gp5`, what `3gp6`, and what `3gr6` asks.
+// How often `isom` is listed; what `3gp4` and `3gp5`, what `3gp6`, and what `3gr6` asks.
 pub struct Own {
+    pub isom: usize,
     pub early: usize,
     pub few: usize,
     pub ready: usize,
+}
+
+// A track's handler.
+fn handler(file: &[u8], e: Tracks, t: usize) -> usize
+    requires { ⌜ TracksAt (now file) e × (t < 4) ⌝ }
+    ensures { λ r. ⌜ r ≡ handlerOf (track (now (file .entry)) t) ⌝ }
+{
+    let k = every::track(e, t);
+    k.handler
 }
 
 // How many tracks have handler h.
@@ -34,7 +44,7 @@ fn handled(file: &[u8], e: Tracks, h: usize) -> usize
     let mut t = 0;
     let mut sum = 0;
     while t < n {
-        sum += compatible::equal(every::handler(file, e, t), h);
+        sum += compatible::equal(handler(file, e, t), h);
         t += 1;
     }
     sum
@@ -54,7 +64,7 @@ fn single(file: &[u8], e: Tracks, l: Lists, t: usize) -> usize
     requires { ⌜ TracksAt (now file) e × ListsAt (now file) l × (t < 4) ⌝ }
     ensures { λ r. ⌜ r ≡ oneIf (singleOf (track (now (file .entry)) t)) ⌝ }
 {
-    let h = every::handler(file, e, t);
+    let h = handler(file, e, t);
     if h == codes::VIDE {
         return one_entry(file, l, t);
     }
@@ -155,6 +165,7 @@ pub fn asked(file: &[u8], e: Tracks, l: Lists) -> Own
 {
     let few = few(file, e, l);
     Own {
+        isom: compatible::times(seek::payload(file, codes::FTYP, 0), codes::ISOM),
         early: early(file, l, few),
         few,
         ready: ready(file),

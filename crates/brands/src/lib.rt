@@ -43,7 +43,7 @@ pub fn brand_holds(file: &[u8], o: Own, code: usize) -> usize
     if compatible::times(ftyp, code) == 0 {
         return 0;
     }
-    if compatible::times(ftyp, codes::ISOM) == 0 {
+    if o.isom == 0 {
         return 0;
     }
     own(file, o, code)

@@ -32,7 +32,7 @@ place-in {zs = zs} {o} c k e h =
     k .place (omega (arith, k .counted, ap (λ (l : List ℕ). count c (boxes l)) e)) ∙ ap (λ (l : List ℕ). o .from + startIn c 0 (boxes l)) e
 
 -- a payload starts past the header
-start-eight : (c : ℕ) {l : List Box} → All Headed l → 0 < count c l → startIn c 0 l ≡ placeIn c 0 l + HEAD
+pub start-eight : (c : ℕ) {l : List Box} → All Headed l → 0 < count c l → startIn c 0 l ≡ placeIn c 0 l + HEAD
 unfolding count startIn placeIn
 start-eight c none h = absurd (omega arith)
 start-eight c (some {x} {l} e a) h =

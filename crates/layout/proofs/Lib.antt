@@ -4,6 +4,7 @@ pub mod Shaped
 pub mod Laying
 pub mod Few
 pub mod LayingOut
+pub mod FirstBoxes
 pub mod Everything
 pub mod Listing
 pub mod Numbering

@@ -21,6 +21,9 @@ use Rattle.movie.specs.Entries.{Entry, entries}
 use Rattle.movie.specs.Named.{entryAs, NamedAs}
 use Rattle.movie.proofs.Asking.{named-at, named-none}
 use Rattle.rule_shape.proofs.Descent.{tracks-few}
+use Rattle.layout.specs.declared.every.ReadTrack.{ReadTrack}
+use Rattle.layout.specs.Slots.{slotIn}
+use Rattle.layout.specs.Every.{TrackAt}
 use Rattle.judge.specs.Acceptance.{Meets}
 use Rattle.brands.specs.Brands.{brandHolds}
 use Rattle.read_tracks.specs.Tracks.{Readable}
@@ -39,6 +42,11 @@ few-tracks {xs} m = tracks-few xs (m .three) .1
 
 pub track-read : (xs : List ℕ) → Meets xs → (t : ℕ) {b : List ℕ} → t < tracks xs → b ≡ track xs t → Readable b
 track-read xs m t h e = rw e (readable xs m t h)
+
+-- the slot of its `stts`
+pub stts-is : {xs : List ℕ} (t : ℕ) {k : ReadTrack} → TrackAt xs t k → {ys : List ℕ} → ys ≡ slotIn xs (k .stts) → ys ≡ sampleTable STTS (track xs t)
+unfolding sampleTable
+stts-is t a f = f ∙ a .stts .is
 
 pub line-of : (t : ℕ) (b : List ℕ) {stts : List ℕ} {h s : ℕ} {m : MediaTicks} → stts ≡ sampleTable STTS b → h ≡ handler b → m .0 ≡ mediaTicks stts → s ≡ scale b
     → {out after : List ℕ} {at r : ℕ} → Put (trackLine t h m s) out at r after → Put (lineOf t b) out at r after

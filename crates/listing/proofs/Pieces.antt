@@ -5,12 +5,12 @@ use mathlib.Core.Path.{_≡_, refl, sym, _∙_}
 use mathlib.Core.List.{List, [], _∷_, _++_}
 use lib.ListN.{length}
 use Rattle.wire.specs.Writing.{Put}
-use Rattle.wire.proofs.Writing.{pen-none, pen-then, pen-is}
+use Rattle.wire.proofs.Writing.{pen-none, pen-then, pen-is, pen-front}
 use Rattle.rule.specs.declared.Answer.{Answer}
 use Rattle.rule.specs.declared.Answer.the-variants.{Done, Refused}
 use Rattle.rule.specs.Results.{Exact}
 use Rattle.rule.specs.Results.Result.{gives}
-use Rattle.rule.proofs.Results.{told-short, told-wrote}
+use Rattle.rule.proofs.Results.{exact-wrote, told-short, told-wrote}
 use Rattle.judge.specs.declared.Judgement.{Judgement}
 use Rattle.judge.specs.declared.Judgement.the-variants as judgement
 use Rattle.judge.specs.Judgement.{judged}
@@ -39,6 +39,11 @@ module _ (xs out : List ℕ) {mid : List ℕ} {m : ℕ} (p : Put xs [] 0 m mid) 
 
   pub all-written : {left : List ℕ} {r : ℕ} → Put xs (mid ++ out) 0 r left → m ≤ length (mid ++ out) → Exact (gives xs) out (Done r) left
   all-written q h = told-wrote xs out p (rw (nowhere p) at h) (rw (nowhere p) at q)
+
+-- ---- a text that certainly has room
+
+pub at-once : (xs out : List ℕ) {left : List ℕ} {r : ℕ} → Put xs out 0 r left → r ≤ length out → Exact (gives xs) out (Done r) left
+at-once xs out p h = exact-wrote xs out (omega (arith, p .next)) (pen-front p h)
 
 -- ---- of a file that is judged
 

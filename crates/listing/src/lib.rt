@@ -24,7 +24,7 @@ fn list_refused(n: usize, p: usize, out: &mut [u8]) -> Answer
     Answer::Done(line::put_refused(out, n, p))
 }
 
-// An accepted file's lines, in the same way.
+// An accepted file's lines, in the same way unless there is room for the most that they can take.
 fn list_accepted(file: &[u8], out: &mut [u8]) -> Answer
     requires { ⌜ Meets (now file) ⌝ }
     ensures { λ r. ⌜ Exact (gives (acceptedLines (now (file .entry)))) (now (out .entry)) r (now (out .exit)) ⌝ }
@@ -32,6 +32,9 @@ fn list_accepted(file: &[u8], out: &mut [u8]) -> Answer
     let e = every::lay(file);
     let l = entries::lay(file, e);
     let o = conditions::asked(file, e, l);
+    if lines::OTHERS + lines::ENTRY * entries::count(file, l) <= out.len() {
+        return Answer::Done(lines::put_accepted(out, file, e, l, o));
+    }
     let m = lines::put_accepted(&mut out[0..0], file, e, l, o);
     if out.len() < m {
         return Answer::Refused(25, 0);

@@ -3,6 +3,10 @@ mod offset;
 mod said;
 
 use judge::Judgement;
+use layout::gather;
+use layout::track;
+use layout::tracks;
+use layout::tracks::Movie;
 use movie::MovieTicks;
 use rule::Answer;
 use sample_tables::time::MediaTicks;
@@ -12,6 +16,7 @@ ghost use Rattle.wire.specs.Clauses.{oneIf};
 ghost use Rattle.wire.specs.Tests.{pick};
 ghost use Rattle.rule.specs.Results.{asked, Exact};
 ghost use Rattle.rule.specs.Results.Result.{gives};
+ghost use Rattle.layout.specs.Tracks.{LaidOut};
 ghost use Rattle.judge.specs.Acceptance.{Meets};
 ghost use Rattle.read_tracks.specs.declared.MediaLength.the-variants as media;
 ghost use Rattle.read_tracks.specs.declared.MovieLength.the-variants as movie;
@@ -28,13 +33,14 @@ pub fn tracks(file: &[u8]) -> Answer
 }
 
 // Whether a file has a track of a number, from 1: 1 or 0.
-fn is_track(file: &[u8], track: usize) -> usize
+fn is_track(file: &[u8], m: Movie, track: usize) -> usize
+    requires { ⌜ LaidOut (now file) m ⌝ }
     ensures { λ r. ⌜ r ≡ oneIf (isTrack (now (file .entry)) track) ⌝ }
 {
     if track < 1 {
         return 0;
     }
-    if movie::tracks(file) < track {
+    if m.tracks < track {
         return 0;
     }
     1
@@ -50,10 +56,13 @@ fn media_in(file: &[u8], track: usize) -> MediaLength
     requires { ⌜ Meets (now file) ⌝ }
     ensures { λ r. ⌜ r ≡ pick (isTrack (now (file .entry)) track) (media.Ticks (mediaOf (trackBody (now (file .entry)) track))) (media.Refused 20 0) ⌝ }
 {
-    if is_track(file, track) == 0 {
+    let m = tracks::lay(file);
+    if is_track(file, m, track) == 0 {
         return MediaLength::Refused(20, 0);
     }
-    MediaLength::Ticks(said::media(movie::track(file, track - 1)))
+    let said = said::read(file, tracks::track_slot(m, track - 1));
+    let media = said.media;
+    MediaLength::Ticks(media)
 }
 
 pub fn media_ticks(file: &[u8], track: usize) -> MediaLength
@@ -72,12 +81,16 @@ pub enum MovieLength {
 }
 
 fn movie_in(file: &[u8], track: usize) -> MovieLength
+    requires { ⌜ Meets (now file) ⌝ }
     ensures { λ r. ⌜ r ≡ pick (isTrack (now (file .entry)) track) (movie.Ticks (movieOf (trackBody (now (file .entry)) track))) (movie.Refused 20 0) ⌝ }
 {
-    if is_track(file, track) == 0 {
+    let m = tracks::lay(file);
+    if is_track(file, m, track) == 0 {
         return MovieLength::Refused(20, 0);
     }
-    MovieLength::Ticks(movie::movie_ticks(movie::track(file, track - 1)))
+    let said = said::read(file, tracks::track_slot(m, track - 1));
+    let movie = said.movie;
+    MovieLength::Ticks(movie)
 }
 
 pub fn movie_ticks(file: &[u8], track: usize) -> MovieLength
@@ -94,13 +107,14 @@ fn track_in(file: &[u8], track: usize, out: &mut [u64]) -> Answer
     requires { ⌜ Meets (now file) ⌝ }
     ensures { λ r. ⌜ Exact (asked ((20, isTrack (now (file .entry)) track) ∷ []) (gives (numbersOf (saidBy (trackBody (now (file .entry)) track))))) (now (out .entry)) r (now (out .exit)) ⌝ }
 {
-    if is_track(file, track) == 0 {
+    let m = tracks::lay(file);
+    if is_track(file, m, track) == 0 {
         return Answer::Refused(20, 0);
     }
     if out.len() < 4 {
         return Answer::Refused(25, 0);
     }
-    Answer::Done(said::put(said::read(movie::track(file, track - 1)), out))
+    Answer::Done(said::put(said::read(file, tracks::track_slot(m, track - 1)), out))
 }
 
 // What a track says: its handler, media ticks, time scale and movie ticks.
@@ -118,10 +132,13 @@ fn offsets_in(file: &[u8], track: usize, list: &mut [u32]) -> Answer
     requires { ⌜ Meets (now file) ⌝ }
     ensures { λ r. ⌜ Exact (asked ((20, isTrack (now (file .entry)) track) ∷ []) (gives (offsetsOf (trackBody (now (file .entry)) track)))) (now (list .entry)) r (now (list .exit)) ⌝ }
 {
-    if is_track(file, track) == 0 {
+    let m = tracks::lay(file);
+    if is_track(file, m, track) == 0 {
         return Answer::Refused(20, 0);
     }
-    let stco = movie::table(movie::track(file, track - 1), codes::STCO);
+    let k = track::lay(file, tracks::track_slot(m, track - 1));
+    let slot = k.stco;
+    let stco = gather::bytes(file, slot);
     if list.len() < sample_tables::table::items(stco) {
         return Answer::Refused(25, 0);
     }

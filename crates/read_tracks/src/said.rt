@@ -1,11 +1,16 @@
 // What a track says, each number in its unit.
+use layout::gather;
+use layout::gather::Slot;
+use layout::track;
 use movie::MovieTicks;
 use sample_tables::time::MediaTicks;
+use wire::number;
 ghost use mathlib.Core.Path.{_≡_};
 ghost use Prim.Native.Nat.{_≤_};
 ghost use lib.ListN.{length};
 ghost use Rattle.wire.specs.Writing.{Wrote};
-ghost use Rattle.read_tracks.specs.Reads.{mediaOf, saidBy, numbersOf};
+ghost use Rattle.layout.specs.Slots.{slotIn, Lies};
+ghost use Rattle.read_tracks.specs.Reads.{saidBy, numbersOf};
 ghost use Rattle.read_tracks.specs.Tracks.{Readable};
 
 // A track's handler, its length in media ticks, their time scale, its length in movie ticks.
@@ -16,24 +21,21 @@ pub struct Said {
     pub movie: MovieTicks,
 }
 
-// A track's length in media ticks.
-pub fn media(track: &[u8]) -> MediaTicks
-    requires { ⌜ Readable (now track) ⌝ }
-    ensures { λ r. ⌜ r ≡ mediaOf (now (track .entry)) ⌝ }
+// What the track says whose payload is a slot of the file.
+pub fn read(file: &[u8], trak: Slot) -> Said
+    requires { ⌜ Lies (now file) trak × Readable (slotIn (now file) trak) ⌝ }
+    ensures { λ r. ⌜ r ≡ saidBy (slotIn (now (file .entry)) trak) ⌝ }
 {
-    sample_tables::time::media_ticks(movie::table(track, codes::STTS))
-}
-
-// What a track says.
-pub fn read(track: &[u8]) -> Said
-    requires { ⌜ Readable (now track) ⌝ }
-    ensures { λ r. ⌜ r ≡ saidBy (now (track .entry)) ⌝ }
-{
+    let k = track::lay(file, trak);
+    let hdlr = k.hdlr;
+    let stts = k.stts;
+    let mdhd = k.mdhd;
+    let tkhd = k.tkhd;
     Said {
-        handler: movie::handler(track),
-        media: media(track),
-        scale: movie::scale(track),
-        movie: movie::movie_ticks(track),
+        handler: number::word32(gather::bytes(file, hdlr), 8),
+        media: sample_tables::time::media_ticks(gather::bytes(file, stts)),
+        scale: number::word32(gather::bytes(file, mdhd), 12),
+        movie: MovieTicks(number::word32(gather::bytes(file, tkhd), 20) as u64),
     }
 }
 

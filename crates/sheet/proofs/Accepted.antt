@@ -14,7 +14,7 @@ use Rattle.movie.specs.Ways.{toStsd, follow}
 use Rattle.movie.specs.Movie.{movie, tracks}
 use Rattle.movie.specs.Stsds.{Stsd, stsdsFrom, stsds}
 use Rattle.movie.specs.Entries.{entriesIn, entries}
-use Rattle.movie.specs.Named.{stsdAt}
+use Rattle.movie.specs.Named.{listIn, stsdAt}
 use Rattle.movie.proofs.Counting.{length-stsd}
 use Rattle.movie.proofs.Stsds.{Each, each-stsd}
 use Rattle.movie.proofs.Stsds.Each.{none, more}
@@ -41,8 +41,8 @@ counted-all none = refl
 counted-all (more {s = s} q g a) = rw length-append (omega (arith, length-stsd s, g .counted, counted-all a))
 
 pub accepted-fits : (xs : List ℕ) → Meets xs → SheetFits xs
-unfolding stsds entries ifEq
+unfolding stsds entries ifEq listIn
 accepted-fits xs m =
     let h = le-is (countedIn (stsdsFrom 0 (movie xs) 0)) MOST (node-met (in-moov (file-met xs m fiveRule (m .five)))) in
     let e = counted-all (each-stsd (λ s. Listed (s .body)) xs (listed-at xs m)) in
-    record { most = m .most; few = rw (e, counted-anywhere (movie xs) 0 0 (startIn MOOV 0 (boxes xs)) 0) h; tracks = tracks-few xs (m .three) .1 }
+    record { most = m .most; few = rw (e, counted-anywhere (movie xs) 0 0 (startIn MOOV 0 (boxes xs)) 0) h; tracks = tracks-few xs (m .three) .1; tiled = λ t h. listed-at xs m t h .tiled }

@@ -1,3 +1,4 @@
 pub mod Slots
 pub mod Writing
+pub mod Bodies
 pub mod Accepted

@@ -1,5 +1,5 @@
--- The slot and the body of one entry, as they are written. Assumes nothing.
-use Prim.Native.Nat.{ℕ, _+_, _-_, _%_, _<_}
+-- The slot of one entry, as it is written. Assumes nothing.
+use Prim.Native.Nat.{ℕ, _+_, _-_, _*_, _/_, _%_, _<_}
 use native.Mathlib.Omega.{arith}
 use mathlib.Core.Path.{_≡_}
 use mathlib.Core.List.{List, [], _∷_, _++_, append-nil}
@@ -16,7 +16,7 @@ use Rattle.movie.specs.Entries.{Entry, entries}
 use Rattle.movie.specs.Named.{entryAs, NamedAs}
 use Rattle.movie.proofs.Asking.{named-at, named-none}
 use Rattle.entry_heads.specs.Kinds.{kindOf}
-use Rattle.sheet.specs.Sheet.{slot, slotOf, slots, bodies}
+use Rattle.sheet.specs.Sheet.{slot, slotOf, slots}
 
 -- ---- a slot
 
@@ -31,12 +31,18 @@ kind-byte code =
     (either _ _ _ _ (omega arith)
     (either _ _ _ _ (omega arith) (either _ _ _ _ (omega arith) (either _ _ _ _ (omega arith) (omega arith))))))
 
-pub slot-is : (kind track place span : ℕ) → kind < 256 → track < 256 → bytes 1 kind ++ bytes 1 track ++ bytes 2 0 ++ bytes 4 place ++ bytes 4 span ≡ slot kind track place span
-unfolding slot bytes bytesOn
-slot-is kind track place span h k =
-    let e : kind % 256 ≡ kind = omega arith in
-    let f : track % 256 ≡ track = omega arith in
-    rw (e, f)
+-- two bytes and two zeros, as one number
+pub two-is : (a b : ℕ) → a < 256 → b < 256 → bytes 4 (a * 16777216 + b * 65536) ≡ a ∷ b ∷ 0 ∷ 0 ∷ []
+unfolding bytes bytesOn
+two-is a b h k =
+    let p : (a * 16777216 + b * 65536) / 256 ≡ a * 65536 + b * 256 = omega arith in
+    let q : (a * 65536 + b * 256) / 256 ≡ a * 256 + b = omega arith in
+    let r : (a * 256 + b) / 256 ≡ a = omega arith in
+    let x : (a * 16777216 + b * 65536) % 256 ≡ 0 = omega arith in
+    let y : (a * 65536 + b * 256) % 256 ≡ 0 = omega arith in
+    let z : (a * 256 + b) % 256 ≡ b = omega arith in
+    let w : a % 256 ≡ a = omega arith in
+    rw (p, q, r, x, y, z, w)
 
 -- the slot of an entry whose bytes are ys
 pub slot-of : (xs : List ℕ) (e : EntryAt) {ys : List ℕ} {code kind : ℕ} {out after : List ℕ} {at r : ℕ} → ys ≡ take (e .span) (drop (e .place) xs) → code ≡ word 4 ys 4 → kind ≡ kindOf code → Put (slot kind (e .track) (e .place) (length ys)) out at r after → Put (slotOf (entryAs xs e)) out at r after
@@ -60,15 +66,7 @@ module _ {es : List Entry} {e : Entry} (f : es ≡ e ∷ []) {out after : List �
   unfolding slots
   slot-one p = pen-is (rw (f, append-nil)) p
 
-  pub body-one : Put (e .bytes) out at r after → Put (bodies es) out at r after
-  unfolding bodies
-  body-one p = pen-is (rw (f, append-nil)) p
-
 module _ {es : List Entry} (f : es ≡ []) (out : List ℕ) (at : ℕ) where
   pub slot-none : Put (slots es) out at at out
   unfolding slots
   slot-none = pen-is (rw f) (pen-none out at)
-
-  pub body-none : Put (bodies es) out at at out
-  unfolding bodies
-  body-none = pen-is (rw f) (pen-none out at)

@@ -1,67 +1,70 @@
--- The slots and the bodies of all entries, and the whole sheet, as they are written. Assumes nothing.
-use Prim.Native.Nat.{ℕ, zero, suc, _+_, _-_, _*_, _%_, _<_}
+-- The slots of all entries, and the whole sheet, as they are written. Assumes nothing.
+use Prim.Native.Nat.{ℕ, zero, suc, _+_, _-_, _*_, _%_, _≤_, _<_}
 use native.Mathlib.Omega.{arith}
 use mathlib.Core.Path.{_≡_, refl, sym, ap, _∙_}
-use mathlib.Core.List.{List, [], _∷_, _++_, append-assoc, append-nil}
-use lib.ListN.{length, take, drop, replicate}
+use mathlib.Core.List.{List, [], _∷_, _++_, append-assoc}
+use lib.ListN.{length, take, drop, replicate, length-append, length-replicate}
 use lib.Seq.{take-add, take-all}
 use Rattle.wire.specs.Numbers.{bytesOn, bytes}
 use Rattle.wire.specs.Writing.{Put}
+use Rattle.wire.proofs.Numbers.{length-bytes}
 use Rattle.wire.proofs.Writing.{pen-none, pen-then, pen-is}
 use Rattle.movie.specs.Entries.{Entry, entries}
-use Rattle.sheet.specs.Sheet.{slots, bodies, front, sheet, SLOTS, SLOT}
+use Rattle.sheet.specs.Sheet.{slot, slots, bodies, bodiesAt, front, sheet, SLOTS, SLOT}
 use Rattle.sheet.specs.Fits.{SheetFits}
 use Rattle.sheet.specs.Reader.{sheetOf}
 
--- ---- the loops
+-- ---- lengths
+
+pub slot-length : (kind track place span : ℕ) → length (slot kind track place span) ≡ SLOT
+unfolding slot
+slot-length kind track place span = rw (length-append, length-append, length-bytes 4 place, length-bytes 4 span)
+
+pub slots-length : (es : List Entry) → length (slots es) ≡ SLOT * length es
+unfolding slots
+slots-length [] = refl
+slots-length (e ∷ es) = rw (length-append, slot-length, slots-length es) (omega arith)
+
+pub front-length : (k : ℕ) (es : List Entry) → length es ≤ k → length (front k es) ≡ bodiesAt k
+unfolding front
+front-length k es h = rw (length-append, slots-length es, length-replicate) (omega arith)
+
+-- bodies that were written from where they start end where the sheet ends
+pub sheet-ends : (xs : List ℕ) → SheetFits xs → {out after : List ℕ} {r : ℕ} → Put (bodies (entries xs)) out (bodiesAt SLOTS) r after → length (sheetOf xs) ≡ r
+unfolding sheetOf sheet
+sheet-ends xs f p = rw (length-append, front-length SLOTS (entries xs) (f .few)) (sym (p .next))
+
+-- ---- the slots
 
 slots-append : (es fs : List Entry) → slots (es ++ fs) ≡ slots es ++ slots fs
 unfolding slots
 slots-append [] fs = refl
 slots-append (e ∷ es) fs = rw (slots-append es fs, append-assoc)
 
-bodies-append : (es fs : List Entry) → bodies (es ++ fs) ≡ bodies es ++ bodies fs
-unfolding bodies
-bodies-append [] fs = refl
-bodies-append (e ∷ es) fs = rw (bodies-append es fs, append-assoc)
-
 pub slots-start : (es : List Entry) (out : List ℕ) (at : ℕ) → Put (slots (take 0 es)) out at at out
 unfolding slots
 slots-start es out at = pen-none out at
 
-pub bodies-start : (es : List Entry) (out : List ℕ) (at : ℕ) → Put (bodies (take 0 es)) out at at out
-unfolding bodies
-bodies-start es out at = pen-none out at
-
-module _ (es : List Entry) (i : ℕ) {out mid after : List ℕ} {at m r : ℕ} where
-  pub slots-more : Put (slots (take i es)) out at m mid → Put (slots (take 1 (drop i es))) mid m r after → Put (slots (take (i + 1) es)) out at r after
-  slots-more p q = pen-is (sym (ap slots (take-add i 1 es) ∙ slots-append (take i es) (take 1 (drop i es)))) (pen-then p q)
-
-  pub bodies-more : Put (bodies (take i es)) out at m mid → Put (bodies (take 1 (drop i es))) mid m r after → Put (bodies (take (i + 1) es)) out at r after
-  bodies-more p q = pen-is (sym (ap bodies (take-add i 1 es) ∙ bodies-append (take i es) (take 1 (drop i es)))) (pen-then p q)
+pub slots-more : (es : List Entry) (i : ℕ) {out mid after : List ℕ} {at m r : ℕ} → Put (slots (take i es)) out at m mid → Put (slots (take 1 (drop i es))) mid m r after
+    → Put (slots (take (i + 1) es)) out at r after
+slots-more es i p q = pen-is (sym (ap slots (take-add i 1 es) ∙ slots-append (take i es) (take 1 (drop i es)))) (pen-then p q)
 
 -- ---- the whole
 
-zeros-snoc : (w : ℕ) (xs : List ℕ) → replicate w 0 ++ (0 ∷ xs) ≡ 0 ∷ (replicate w 0 ++ xs)
-zeros-snoc zero xs = refl
-zeros-snoc (suc w) xs = ap (λ (t : List ℕ). 0 ∷ t) (zeros-snoc w xs)
-
-zeros-on : (w : ℕ) (xs : List ℕ) → bytesOn w 0 xs ≡ replicate w 0 ++ xs
-unfolding bytesOn
-zeros-on zero xs = refl
-zeros-on (suc w) xs = zeros-on w (0 ∷ xs) ∙ zeros-snoc w xs
-
-zeros-are : (w : ℕ) → bytes w 0 ≡ replicate w 0
-unfolding bytes
-zeros-are w = zeros-on w [] ∙ append-nil (replicate w 0)
+-- the first of so many zeros
+pub zeros-first : (k n : ℕ) → k ≤ n → take k (replicate {A = ℕ} n 0) ≡ replicate k 0
+zeros-first zero n h = refl
+zeros-first (suc k) zero h = absurd (omega arith)
+zeros-first (suc k) (suc n) h = ap (λ (l : List ℕ). 0 ∷ l) (zeros-first k n (omega arith))
 
 -- edition, count, and two zeros
 pub start-is : (n : ℕ) → n < 256 → bytes 1 1 ++ bytes 1 n ++ bytes 2 0 ≡ 1 ∷ n ∷ 0 ∷ 0 ∷ []
 unfolding bytes bytesOn
 start-is n h = let e : n % 256 ≡ n = omega arith in rw e
 
-pub sheet-put : (xs : List ℕ) → SheetFits xs → {n : ℕ} → n ≡ length (entries xs) → {out a b c d e after : List ℕ} {i j k l m r : ℕ} → Put (bytes 1 1) out 0 i a → Put (bytes 1 n) a i j b → Put (bytes 2 0) b j k c → Put (slots (take n (entries xs))) c k l d → Put (bytes (SLOT * (SLOTS - n)) 0) d l m e → Put (bodies (take n (entries xs))) e m r after → Put (sheetOf xs) out 0 r after
+pub sheet-put : (xs : List ℕ) → SheetFits xs → {n : ℕ} → n ≡ length (entries xs) → {out a b c after : List ℕ} {i j k r : ℕ} → Put (1 ∷ n ∷ 0 ∷ 0 ∷ []) out 0 i a
+    → Put (slots (take n (entries xs))) a i j b → Put (replicate (SLOT * (SLOTS - n)) 0) b j k c → Put (bodies (entries xs)) c k r after → Put (sheetOf xs) out 0 r after
 unfolding sheetOf sheet front
-sheet-put xs f {n} g pa pb pc pd pe po =
+sheet-put xs f {n} g pa pb pc po =
     let t : take n (entries xs) ≡ entries xs = take-all n (entries xs) (omega arith) in
-    pen-is (rw (start-is n (omega (arith, f .few)), t, zeros-are (SLOT * (SLOTS - n)), g)) (pen-then (pen-then (pen-then (pen-then (pen-then pa pb) pc) pd) pe) po)
+    pen-is (rw (t, g)) (pen-then (pen-then (pen-then pa pb) pc) po)

@@ -4,22 +4,24 @@ use judge::Judgement;
 use layout::entries;
 use layout::entries::Lists;
 use layout::every;
+use layout::gather;
 use movie::entry::EntryAt;
 use movie::entry::Named;
 use rule::Answer;
 use wire::number;
 use wire::pen;
 ghost use mathlib.Core.Path.{_≡_};
-ghost use Prim.Native.Nat.{_+_, _*_, _^_, _≤_, _<_};
-ghost use lib.ListN.{length, take, drop};
+ghost use mathlib.Core.List.{[], _∷_};
+ghost use Prim.Native.Nat.{_+_, _-_, _*_, _^_, _≤_, _<_};
+ghost use lib.ListN.{length, take, drop, replicate};
+ghost use Rattle.wire.specs.Numbers.{bytes};
 ghost use Rattle.wire.specs.Writing.{Put};
-ghost use Rattle.boxes.specs.Containers.{LONGEST};
 ghost use Rattle.rule.specs.Results.{Exact};
 ghost use Rattle.rule.specs.Results.Result.{gives};
 ghost use Rattle.movie.specs.Entries.{entries};
 ghost use Rattle.layout.specs.Entries.{ListsAt};
 ghost use Rattle.movie.specs.Named.{entryAs};
-ghost use Rattle.sheet.specs.Sheet.{slot as slotText, slotOf, slots as slotsText, bodies as bodiesText};
+ghost use Rattle.sheet.specs.Sheet.{SLOTS, SLOT, slot as slotText, slotOf, slots as slotsText, bodies as bodiesText};
 ghost use Rattle.sheet.specs.Fits.{SheetFits};
 ghost use Rattle.sheet.specs.Reader.{sheetOf, sheetResult};
 
@@ -27,6 +29,30 @@ ghost use Rattle.sheet.specs.Reader.{sheetOf, sheetResult};
 const SLOTS: usize = 8;
 
 const SLOT: usize = 12;
+
+// Where the bodies start.
+const BODIES: usize = 4 + SLOT * SLOTS;
+
+// Writes the last four bytes of a number.
+fn put_word(out: &mut [u8], at: usize, n: usize) -> usize
+    requires { ⌜ at < 2 ^ 62 ⌝ }
+    ensures { λ r. ⌜ Put (bytes 4 n) (now (out .entry)) at r (now (out .exit)) × (r ≡ at + 4) ⌝ }
+{
+    let r = at + 4;
+    if r <= out.len() {
+        number::put32(out, at, n);
+        return r;
+    }
+    r
+}
+
+// Writes two bytes and two zeros.
+fn put_two(out: &mut [u8], at: usize, a: usize, b: usize) -> usize
+    requires { ⌜ (at < 2 ^ 62) × (a < 256) × (b < 256) ⌝ }
+    ensures { λ r. ⌜ Put (a ∷ b ∷ 0 ∷ 0 ∷ []) (now (out .entry)) at r (now (out .exit)) × (r ≡ at + 4) ⌝ }
+{
+    put_word(out, at, a * 16777216 + b * 65536)
+}
 
 // Writes a slot.
 pub fn put_slot(
@@ -40,11 +66,9 @@ pub fn put_slot(
     requires { ⌜ (at < 60000) × (kind < 256) × (track < 256) ⌝ }
     ensures { λ r. ⌜ Put (slotText kind track place span) (now (out .entry)) at r (now (out .exit)) × (r ≡ at + 12) ⌝ }
 {
-    let a = pen::put_number(out, at, 1, kind);
-    let b = pen::put_number(out, a, 1, track);
-    let c = pen::put_number(out, b, 2, 0);
-    let d = pen::put_number(out, c, 4, place);
-    pen::put_number(out, d, 4, span)
+    let a = put_two(out, at, kind, track);
+    let b = put_word(out, a, place);
+    put_word(out, b, span)
 }
 
 // Writes the slot of an entry that was looked up.
@@ -84,37 +108,28 @@ fn put_slots(out: &mut [u8], from: usize, file: &[u8], l: Lists, n: usize) -> us
     at
 }
 
-// Writes an entry that was looked up.
-fn put_body_of(out: &mut [u8], at: usize, file: &[u8], e: EntryAt) -> usize
-    requires { ⌜ (at < 2 ^ 62) × (e .place + e .span ≤ length (now file)) × (length (now file) ≤ LONGEST) ⌝ }
-    ensures { λ r. ⌜ Put (take (e .span) (drop (e .place) (now (file .entry)))) (now (out .entry)) at r (now (out .exit)) × (r ≤ at + LONGEST) ⌝ }
+// Writes the slots that no entry has, of which n are used.
+fn put_unused(out: &mut [u8], at: usize, n: usize) -> usize
+    requires { ⌜ (at < 2 ^ 62) × (n ≤ SLOTS) ⌝ }
+    ensures { λ r. ⌜ Put (replicate (SLOT * (SLOTS - n)) 0) (now (out .entry)) at r (now (out .exit)) × (r ≤ at + SLOT * SLOTS) ⌝ }
 {
-    let from = e.place;
-    let to = e.place + e.span;
-    pen::put_part(out, at, &file[from..to])
+    let none = [0u8; SLOT * SLOTS];
+    let k = SLOT * (SLOTS - n);
+    pen::put_part(out, at, &none[0..k])
 }
 
-// Writes entry i, where there is one.
-fn put_body_at(out: &mut [u8], at: usize, file: &[u8], l: Lists, i: usize) -> usize
-    requires { ⌜ (at < 2 ^ 62) × SheetFits (now file) × ListsAt (now file) l ⌝ }
-    ensures { λ r. ⌜ Put (bodiesText (take 1 (drop i (entries (now (file .entry)))))) (now (out .entry)) at r (now (out .exit)) × (r ≤ at + LONGEST) ⌝ }
+// Writes the entries: those of a track are its list, since boxes tile it.
+fn put_bodies(out: &mut [u8], from: usize, file: &[u8], l: Lists) -> usize
+    requires { ⌜ (from < 2 ^ 61) × SheetFits (now file) × ListsAt (now file) l ⌝ }
+    ensures { λ r. ⌜ Put (bodiesText (entries (now (file .entry)))) (now (out .entry)) from r (now (out .exit)) ⌝ }
 {
-    match entries::entry(file, l, i) {
-        Named::At(e) => put_body_of(out, at, file, e),
-        Named::Missing => at,
-    }
-}
-
-// Writes the first n entries.
-fn put_bodies(out: &mut [u8], from: usize, file: &[u8], l: Lists, n: usize) -> usize
-    requires { ⌜ (from + LONGEST * n < 2 ^ 62) × SheetFits (now file) × ListsAt (now file) l ⌝ }
-    ensures { λ r. ⌜ Put (bodiesText (take n (entries (now (file .entry))))) (now (out .entry)) from r (now (out .exit)) × (r ≤ from + LONGEST * n) ⌝ }
-{
+    let n = l.tracks;
     let mut at = from;
-    let mut i = 0;
-    while i < n {
-        at = put_body_at(out, at, file, l, i);
-        i += 1;
+    let mut t = 0;
+    while t < n {
+        let s = entries::list_slot(l, t);
+        at = pen::put_part(out, at, gather::bytes(file, s));
+        t += 1;
     }
     at
 }
@@ -125,22 +140,20 @@ fn put_sheet(out: &mut [u8], file: &[u8], l: Lists) -> usize
     ensures { λ r. ⌜ Put (sheetOf (now (file .entry))) (now (out .entry)) 0 r (now (out .exit)) ⌝ }
 {
     let n = entries::count(file, l);
-    let a = pen::put_number(out, 0, 1, 1);
-    let b = pen::put_number(out, a, 1, n);
-    let c = pen::put_number(out, b, 2, 0);
-    let d = put_slots(out, c, file, l, n);
-    let e = pen::put_number(out, d, SLOT * (SLOTS - n), 0);
-    put_bodies(out, e, file, l, n)
+    let a = put_two(out, 0, 1, n);
+    let b = put_slots(out, a, file, l, n);
+    let c = put_unused(out, b, n);
+    put_bodies(out, c, file, l)
 }
 
-// The same of an accepted file, where there is room for it.
+// The same of an accepted file, where there is room for it: the bodies, written into no room, tell how long it is.
 fn sheet_of(file: &[u8], out: &mut [u8]) -> Answer
     requires { ⌜ SheetFits (now file) ⌝ }
     ensures { λ r. ⌜ Exact (gives (sheetOf (now (file .entry)))) (now (out .entry)) r (now (out .exit)) ⌝ }
 {
     let l = entries::lay(file, every::lay(file));
     let mut none = [0u8; 1];
-    let span = put_sheet(&mut none, file, l);
+    let span = put_bodies(&mut none, BODIES, file, l);
     if out.len() < span {
         return Answer::Refused(25, 0);
     }

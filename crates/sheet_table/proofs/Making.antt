@@ -7,27 +7,14 @@ use lib.ListN.{length, take, drop, replicate, length-append, length-replicate, d
 use lib.Seq.{take-all, take-length, take-add, length-take-le, take-nil}
 use Rattle.wire.specs.Numbers.{word}
 use Rattle.wire.specs.Writing.{Put}
-use Rattle.wire.proofs.Numbers.{length-bytes}
 use Rattle.wire.proofs.Writing.{pen-front}
 use Rattle.wire.proofs.Tests.{lt-or}
 use Rattle.movie.specs.Entries.{Entry}
-use Rattle.sheet.specs.Sheet.{SLOT, slot, slots, bodies, front, bodiesAt}
+use Rattle.sheet.specs.Sheet.{SLOT, slots, bodies, front, bodiesAt}
+use Rattle.sheet.proofs.Writing.{slots-length}
 use Rattle.sheet_table.specs.Form.{read}
 
 -- ---- the front
-
-pub slot-length : (kind track place span : ℕ) → length (slot kind track place span) ≡ SLOT
-unfolding slot
-slot-length kind track place span = rw (length-append, length-append, length-bytes 4 place, length-bytes 4 span)
-
-pub slots-length : (es : List Entry) → length (slots es) ≡ SLOT * length es
-unfolding slots
-slots-length [] = refl
-slots-length (e ∷ es) = rw (length-append, slot-length, slots-length es) (omega arith)
-
-pub front-length : (k : ℕ) (es : List Entry) → length es ≤ k → length (front k es) ≡ bodiesAt k
-unfolding front
-front-length k es h = rw (length-append, slots-length es, length-replicate) (omega arith)
 
 drop-zeros : (m n : ℕ) → drop m (replicate {A = ℕ} n 0) ≡ replicate (n - m) 0
 drop-zeros zero n = let e : n - 0 ≡ n = omega arith in rw e

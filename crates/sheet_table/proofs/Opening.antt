@@ -10,7 +10,8 @@ use Rattle.wire.proofs.Comparing.{same-bad, same-good}
 use Rattle.sheet.specs.Sheet.{slots, bodies, front, bodiesAt, sheet}
 use Rattle.sheet_table.specs.Form.{read, unsheet}
 use Rattle.sheet_table.proofs.Reading.{read-length}
-use Rattle.sheet_table.proofs.Making.{front-made, front-length, bodies-prefix}
+use Rattle.sheet.proofs.Writing.{front-length}
+use Rattle.sheet_table.proofs.Making.{front-made, bodies-prefix}
 
 pub record Opened (k : ℕ) (sheet : List ℕ) (n : ℕ) (xs ys : List ℕ) : Type 0 where
   pub count : n ≡ getD sheet 1 0

@@ -14,7 +14,7 @@ use Rattle.wire.proofs.Same.{same-refl, same-is}
 use Rattle.movie.specs.Entries.{Entry}
 use Rattle.sheet.specs.Sheet.{SLOT, slot, slots, bodies, front, bodiesAt, sheet}
 use Rattle.sheet_table.specs.Form.{read, unsheet, steps, allMeet, formed}
-use Rattle.sheet_table.proofs.Making.{slot-length, front-length}
+use Rattle.sheet.proofs.Writing.{slot-length, front-length}
 
 -- what an entry says fits its slot
 pub record Small (e : Entry) : Type 0 where

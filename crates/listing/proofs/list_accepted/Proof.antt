@@ -1,7 +1,7 @@
--- A run into no room tells the length; then 25, or the lines are written.
+-- Written at once where there is certainly room; else a run into no room tells the length, and then 25, or the lines are written.
 use borrow.Author.Needs.{needs}
 use Rattle.listing.proofs.Listed.{few-tracks}
-use Rattle.listing.proofs.Pieces.{too-short, all-written}
+use Rattle.listing.proofs.Pieces.{at-once, too-short, all-written}
 use native.Mathlib.Omega.{arith}
 use Rattle.listing.proofs.list_accepted.Statement.{statement}
 use Rattle.listing.proofs.list_accepted.Tie as tie
@@ -11,16 +11,18 @@ list-accepted-spec = tie.close (tie.spec
     (λ c κs. search needs)
     (λ c κs. search needs)
     (λ c κs. (c .before .lay .ensures, c .lay2 .ensures, few-tracks (c .before .before .before .before .pre)))
+    (λ c κs. (c .before .lay2 .ensures, few-tracks (c .before .before .before .before .before .pre), c .before .before .before .before .before .pre .most))
+    (λ c. search needs)
+    (λ c. search needs)
+    (λ c κs. search needs)
+    (λ c. search needs)
+    (λ c. let p = c .before .before .put-accepted .ensures in at-once _ _ (p .0) (omega (arith, p .1, c .before .before .before .before .before .count .ensures .0)))
     (λ c. search needs)
     (λ c. search needs)
     (λ c. search needs)
     (λ c κs. search needs)
     (λ c. search needs)
-    (λ c. too-short _ (c .before .before .before .before .before .before .before .before .before .before .args .out .now) (c .before .before .before .put-accepted .ensures) (omega arith))
+    (λ c. too-short _ (c .before .before .before .before .before .before .before .before .before .before .before .before .args .out .now) (c .before .before .before .put-accepted2 .ensures .0) (omega arith))
     (λ c κs. search needs)
     (λ c. search needs)
-    (λ c.
-    let p = c .before .before in
-    let q = p .before .before .before .before .before in
-    let s = q .before .before .before .before .before .before .before in
-    all-written _ (s .args .out .now) (q .put-accepted .ensures) (p .put-accepted2 .ensures) (omega arith)))
+    (λ c. all-written _ (c .before .before .before .before .before .before .before .before .before .before .before .before .before .before .before .before .args .out .now) (c .before .before .before .before .before .before .before .put-accepted2 .ensures .0) (c .before .before .put-accepted3 .ensures .0) (omega arith)))

@@ -8,6 +8,5 @@ use Rattle.read_tracks.proofs.is_track.Tie as tie
 pub is-track-spec : {M : Type 1} → statement M
 is-track-spec = tie.close (tie.spec
     (λ c. track-zero _ _ (omega arith))
-    (λ c κs. search needs)
-    (λ c. track-past _ _ (c .before .tracks .ensures .0) (omega arith))
-    (λ c. track-there _ _ (c .before .tracks .ensures .0) (omega arith) (omega arith)))
+    (λ c. track-past _ _ (c .before .before .before .pre .tracks) (omega arith))
+    (λ c. track-there _ _ (c .before .before .before .pre .tracks) (omega arith) (omega arith)))

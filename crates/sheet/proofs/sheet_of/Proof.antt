@@ -1,7 +1,9 @@
--- A run into no room tells the length; then 25, or the sheet is written.
+-- The bodies, written into no room, tell the length; then 25, or the sheet is written.
 use borrow.Author.Needs.{needs}
 use native.Mathlib.Omega.{arith}
-use Rattle.rule.proofs.Results.{told-short, told-wrote}
+use Rattle.wire.proofs.Writing.{pen-front}
+use Rattle.rule.proofs.Results.{exact-short, exact-wrote}
+use Rattle.sheet.proofs.Writing.{sheet-ends}
 use Rattle.sheet.proofs.sheet_of.Statement.{statement}
 use Rattle.sheet.proofs.sheet_of.Tie as tie
 
@@ -11,7 +13,9 @@ sheet-of-spec = tie.close (tie.spec
     (λ c κs. search needs)
     (λ c. search needs)
     (λ c κs. search needs)
-    (λ c. told-short _ _ (c .before .before .put-sheet .ensures) (omega arith))
+    (λ c. exact-short _ _ (omega (arith, sheet-ends _ (c .before .before .before .before .before .before .before .before .pre) (c .before .before .put-bodies .ensures))))
     (λ c κs. search needs)
     (λ c. search needs)
-    (λ c. told-wrote _ _ (c .before .before .before .before .before .before .put-sheet .ensures) (omega arith) (c .before .before .put-sheet2 .ensures)))
+    (λ c. let e = sheet-ends _ (c .before .before .before .before .before .before .before .before .before .before .before .before .pre) (c .before .before .before .before .before .before .put-bodies .ensures) in
+    let p = c .before .before .put-sheet .ensures in
+    exact-wrote _ _ (omega arith) (pen-front p (omega (arith, p .next)))))

@@ -23,6 +23,6 @@ handled-spec = tie.close (tie.spec Inv μ
     (λ c. search needs)
     (λ c. search needs)
     (λ c. search needs)
-    (λ c. let i = c .before .before .before .loop .inv in (i .0, omega arith, omega arith, handled-more _ _ _ (i .3) refl (c .before .handler .ensures .0) (c .equal .ensures .0)))
+    (λ c. let i = c .before .before .before .loop .inv in (i .0, omega arith, omega arith, handled-more _ _ _ (i .3) refl (c .before .handler .ensures) (c .equal .ensures .0)))
     (λ c. let i = c .before .loop .inv in let a = c .before .before .before .args in
     let e : c .before .loop .t ≡ tracks (a .file .now) = omega arith in i .3 ∙ ap (handledTo (a .h) (a .file .now)) e))

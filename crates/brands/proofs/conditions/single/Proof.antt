@@ -13,7 +13,7 @@ unfolding single
 single-spec = tie.close (tie.spec
     (λ c κs. search needs)
     (λ c κs. search needs)
-    (λ c. answer-yea _ _ _ _ (omega (arith, c .before .before .handler .ensures .0)) (c .one-entry .ensures))
+    (λ c. answer-yea _ _ _ _ (omega (arith, c .before .before .handler .ensures)) (c .one-entry .ensures))
     (λ c κs. search needs)
-    (λ c. answer-nay _ _ _ _ (omega (arith, c .before .before .before .handler .ensures .0)) (answer-yea _ _ _ _ (omega (arith, c .before .before .before .handler .ensures .0)) (c .one-entry2 .ensures)))
-    (λ c. answer-nay _ _ _ _ (omega (arith, c .before .before .handler .ensures .0)) (answer-nay _ _ _ _ (omega (arith, c .before .before .handler .ensures .0)) (yea _ refl))))
+    (λ c. answer-nay _ _ _ _ (omega (arith, c .before .before .before .handler .ensures)) (answer-yea _ _ _ _ (omega (arith, c .before .before .before .handler .ensures)) (c .one-entry2 .ensures)))
+    (λ c. answer-nay _ _ _ _ (omega (arith, c .before .before .handler .ensures)) (answer-nay _ _ _ _ (omega (arith, c .before .before .handler .ensures)) (yea _ refl))))

@@ -12,18 +12,18 @@ list-spec = tie.close (tie.spec
     (λ c κs. search needs)
     (λ c. let p = c .before .before .before .before .pre in
     let a = track-of (p .0) _ (p .1) (c .before .before .track .ensures) in
-    omega (arith, a .laid .stsd .lies .order))
+    omega (arith, a .stsd .lies .order))
     (λ c κs. search needs)
     (λ c. let p = c .before .before .before .before .before .before .pre in
     let a = track-of (p .0) _ (p .1) (c .before .before .before .before .track .ensures) in
-    list-short _ _ (a .laid .stsd) (c .none .ensures) (omega arith))
+    list-short _ _ (a .stsd) (c .none .ensures) (omega arith))
     (λ c. let p = c .before .before .before .before .before .before .pre in
     let a = track-of (p .0) _ (p .1) (c .before .before .before .before .track .ensures) in
-    omega (arith, a .laid .stsd .lies .order, a .laid .stsd .lies .inside))
+    omega (arith, a .stsd .lies .order, a .stsd .lies .inside))
     (λ c κs. let p = c .before .before .before .before .before .before .pre in
     let a = track-of (p .0) _ (p .1) (c .before .before .before .before .track .ensures) in
-    list-lies _ _ (a .laid .stsd) (omega arith) _ refl refl)
+    list-lies _ _ (a .stsd) (omega arith) _ refl refl)
     (λ c κs. search needs)
     (λ c. let p = c .before .before .before .before .before .before .before .before .pre in
     let a = track-of (p .0) _ (p .1) (c .before .before .before .before .before .before .track .ensures) in
-    list-at _ _ (a .laid .stsd) (omega arith) _ refl refl (rw (c .before .bytes .ensures) at (c .count .ensures .0)) (a .place)))
+    list-at _ _ (a .stsd) (omega arith) _ refl refl (rw (c .before .bytes .ensures) at (c .count .ensures .0)) (a .place)))

@@ -32,4 +32,4 @@ put-entries-spec = tie.close (tie.spec Inv μ
     (λ c. let i = c .before .before .before .before .before .loop .inv in
     (i .0, i .1, omega arith, entries-more _ _ _ _ (i .3) (c .before .before .put-entry .ensures .0), omega arith))
     (λ c. search needs)
-    (λ c. let i = c .before .loop .inv in (entries-all _ _ _ _ (i .3) (omega arith), omega arith)))
+    (λ c. let i = c .before .loop .inv in (entries-all _ _ _ _ (i .3) (omega arith), omega arith, omega arith)))
