@@ -1,7 +1,7 @@
 -- Of the top-level boxes only `moov` changes, so a chunk offset past it moves by as much as the file grows. Assumes nothing.
-use Prim.Native.Nat.{ℕ, _+_, _<_}
+use Prim.Native.Nat.{ℕ, _+_, _≤_, _<_}
 use native.Mathlib.Omega.{arith}
-use mathlib.Core.Path.{_≡_, refl, ap, _∙_}
+use mathlib.Core.Path.{_≡_, refl, sym, ap, _∙_}
 use mathlib.Core.Bool.{true}
 use mathlib.Core.List.{List, _∷_, _++_}
 use mathlib.Core.Logic.{⊎-elim}
@@ -15,7 +15,7 @@ use Rattle.boxes.specs.Box.{Box, size, write, remade}
 use Rattle.boxes.specs.Boxes.{boxes, after}
 use Rattle.boxes.specs.Containers.{FILE, DEPTH}
 use Rattle.boxes.specs.Walk.{payload, boxAt}
-use Rattle.boxes.specs.Seek.{Cut}
+use Rattle.boxes.specs.Seek.{count, Cut}
 use Rattle.boxes.specs.Words.{moved, rewordLeaf}
 use Rattle.boxes.specs.Way.{nthBy, overNth, overTurn, editWay, tailBy}
 use Rattle.boxes.specs.Rewrite.{editIn}
@@ -26,6 +26,8 @@ use Rattle.boxes.proofs.Placing.{total-before}
 use Rattle.boxes.proofs.OneOfList.{nth-by}
 use Rattle.boxes.proofs.OneOfPart.{boxes-nth, after-nth}
 use Rattle.boxes.proofs.Down.{Once}
+use Rattle.boxes.proofs.Numbered.{count-append}
+use Rattle.boxes.proofs.InMoov.{OneMoov}
 use Rattle.mdat.specs.Payloads.{inAt}
 use Rattle.mdat.specs.Relocate.{relocate}
 use Rattle.mdat.proofs.Amounts.{moved-change}
@@ -33,8 +35,9 @@ use Rattle.movie.specs.declared.entry.Spot.the-variants.{In}
 use Rattle.judge.specs.Acceptance.{Meets}
 use Rattle.edit_offsets.specs.Settle.{offsets, settled}
 use Rattle.edit_offsets.proofs.Settled.{settled-kin}
+use Rattle.edit_offsets.proofs.Accepted.{one-moov}
 use Rattle.edit_replace.specs.Replace.{turn, recordAt}
-use Rattle.edit_replace.specs.Fitting.{grown}
+use Rattle.edit_replace.specs.Fitting.{grown, grownBox}
 use Rattle.edit_replace.proofs.Changing.{toEntry, record-kin}
 
 -- numbers that move what is past a limit by the same amount
@@ -91,3 +94,30 @@ module _ (t n keep : ℕ) (new xs : List ℕ) (w : Bytes new) (v : Bytes xs) (s 
   record-settled m =
       settled-kin xs zs (moved (grown b (length zs) (length xs))) m moved-is (Once STBL STSD _ _)
       (λ d e r. ⊎-elim (λ q. q) (λ q. absurd (omega (arith, q .1))) r) (record-kin t n keep new xs w v s)
+
+  -- ---- `moov` where it then stands
+
+  abbrev there : BoxAt
+  there = grownBox b (length zs) (length xs)
+
+  there-span : there .span ≡ size made
+  there-span = omega (arith, grows, cut-size v c)
+
+  pub only : Meets xs → OneMoov zs there
+  unfolding count
+  only m =
+      record {
+        p = c .p;
+        x = made;
+        q = c .q;
+        list = boxes-are;
+        code = code-is;
+        before = c .nth;
+        behind = omega (arith, one-moov xs m, ap (count MOOV) (c .list), count-append MOOV (c .p) (old ∷ c .q), c .hit, c .nth);
+        at = sym (total-before v c);
+        head = c .eight;
+        span = there-span;
+      }
+
+  pub there-inside : (there .head ≤ there .span) × (there .at + there .span ≤ length zs) × (length xs ≤ b .span + length zs)
+  there-inside = (omega (arith, there-span), omega (arith, grows, there-span, cut-size v c, c .inside), omega (arith, grows, cut-size v c))

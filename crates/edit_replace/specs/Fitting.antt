@@ -1,5 +1,5 @@
 -- What the writer of a replacement asks, and how it moves the chunk offsets.
-use Prim.Native.Nat.{ℕ, _+_, _≤_}
+use Prim.Native.Nat.{ℕ, _+_, _-_, _≤_}
 use mathlib.Core.List.{List}
 use lib.ListN.{length}
 use Rattle.boxes.specs.declared.walk.BoxAt.{BoxAt}
@@ -19,3 +19,7 @@ pub record Fits (xs : List ℕ) (t n keep : ℕ) (new out : List ℕ) : Type 0 w
 -- past the box b a chunk offset moves by as much as a file of m bytes grows to n
 abbrev pub grown : BoxAt → ℕ → ℕ → By
 grown b n m = record { limit = b .at + b .span; low = 0; high = n; less = m }
+
+-- and such a box grows by as much
+abbrev pub grownBox : BoxAt → ℕ → ℕ → BoxAt
+grownBox b n m = record { at = b .at; head = b .head; span = b .span + n - m; code = b .code }

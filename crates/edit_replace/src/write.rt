@@ -86,7 +86,13 @@ fn settle_past(
         high: span,
         less: file.len(),
     };
-    edit_offsets::settle(out, span, by);
+    let moov = BoxAt {
+        at: b.at,
+        head: b.head,
+        span: b.span + span - file.len(),
+        code: b.code,
+    };
+    edit_offsets::settle(out, moov, by);
     span
 }
 
