@@ -24,7 +24,7 @@ unfolding inBody
 in-body xs b ys h = rw (post-is (b .at + b .head) (b .at + b .span) xs (omega arith))
 
 -- the size of a header follows its body's length
-header-same : (x : Box) (ys : List ℕ) → length ys ≡ length (x .body) → header (remade x ys) ≡ header x
+pub header-same : (x : Box) (ys : List ℕ) → length ys ≡ length (x .body) → header (remade x ys) ≡ header x
 unfolding header
 header-same x ys e = rw e
 

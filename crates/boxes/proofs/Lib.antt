@@ -7,11 +7,13 @@ pub mod Every
 pub mod Walking
 pub mod Seeking
 pub mod Wording
+pub mod Aiming
 pub mod Rewriting
 pub mod Editing
 pub mod Pairs
 pub mod Kin
 pub mod InPlace
+pub mod InMoov
 pub mod OneOfList
 pub mod OneAmong
 pub mod OneOfPart

@@ -52,3 +52,9 @@ around xs b ys = take (b .at) xs ++ (boxBy (b .code) ys ++ drop (b .at + b .span
 pub record Under (n c : ℕ) (out : List ℕ) (at r : ℕ) (after : List ℕ) : Type 0 where
   pub same : length after ≡ length out
   pub is : r ≤ length out → after ≡ put out at (bytes 4 n ++ bytes 4 c)
+
+-- a box lies in a part
+pub record Inside (xs : List ℕ) (b : BoxAt) : Type 0 where
+  pub eight : b .head ≡ HEAD
+  pub least : b .head ≤ b .span
+  pub inside : b .at + b .span ≤ length xs

@@ -1,4 +1,4 @@
--- Rewriting the 32-bit numbers of one kind of opaque box.
+-- Rewriting the 32-bit numbers of some kinds of opaque boxes.
 use Prim.Native.Nat.{ℕ, _+_, _-_, _≤_, _<_, _^_}
 use mathlib.Core.Path.{_≡_}
 use mathlib.Core.List.{List, [], _∷_, _++_}
@@ -6,6 +6,7 @@ use lib.ListN.{length, take, drop}
 use Rattle.wire.specs.Tests.{ifEq, ifLt}
 use Rattle.wire.specs.Numbers.{bytes, word}
 use Rattle.boxes.specs.declared.words.Target.{Target}
+use Rattle.boxes.specs.declared.words.Targets.{Targets}
 use Rattle.boxes.specs.declared.words.By.{By}
 use Rattle.boxes.specs.Rewrite.{Leaves}
 
@@ -24,6 +25,17 @@ reword f from span b = take from b ++ (eachWord f (take span (drop from b)) ++ d
 -- in the boxes of one code in one kind of container
 unfoldable pub rewordLeaf : Target → (ℕ → ℕ) → Leaves
 rewordLeaf t f k c b = ifEq k (t .kind) (ifEq c (t .code) (reword f (t .from) (t .span) b) b) b
+
+-- 1 where a target means the boxes of code c in a container of kind k, else 0
+unfoldable pub aims : Target → ℕ → ℕ → ℕ
+aims t k c = ifEq k (t .kind) (ifEq c (t .code) 1 0) 0
+
+-- by the first of three targets that means them
+unfoldable pub rewordFirst : Targets → (ℕ → ℕ) → Leaves
+rewordFirst ts f k c b =
+    ifEq (aims (ts .one) k c) 1 (reword f (ts .one .from) (ts .one .span) b)
+    (ifEq (aims (ts .two) k c) 1 (reword f (ts .two .from) (ts .two .span) b)
+    (ifEq (aims (ts .three) k c) 1 (reword f (ts .three .from) (ts .three .span) b) b))
 
 -- how a number moves: below the limit up by `low`, from it on up by `high` and down by `less`
 unfoldable pub moved : By → ℕ → ℕ

@@ -11,7 +11,7 @@ ghost use Prim.Native.Nat.{_+_, _-_, _^_, _≤_, _<_};
 ghost use lib.ListN.{length, drop};
 ghost use Rattle.wire.specs.Writing.{Put};
 ghost use Rattle.boxes.specs.Walk.{payload};
-ghost use Rattle.boxes.specs.Way.{Under, turns, boxBy, around, tailBy, overNth, editWay};
+ghost use Rattle.boxes.specs.Way.{Under, Inside, turns, boxBy, around, tailBy, overNth, editWay};
 
 // One turn: past the first `skip` bytes, into the n-th box of a code.
 pub struct Turn {
@@ -133,4 +133,34 @@ pub fn put_way(
     let n = number::least(t.skip, src.len());
     let j = pen::put_part(out, at, &src[..n]);
     put_turn(out, j, &src[n..], t, way, i + 3, keep, new)
+}
+
+// A part with, in its box b, the box k written so, and the rest as it is.
+pub fn put_within(
+    out: &mut [u8],
+    src: &[u8],
+    b: BoxAt,
+    k: BoxAt,
+    way: &[usize],
+    keep: usize,
+    new: &[u8],
+) -> usize
+    requires { ⌜ (Inside (now src) b) × (Inside (payload (now src) b) k) × (length (now src) + length (now new) < 2 ^ 61) ⌝ }
+    ensures { λ r. ⌜ Put (around (now (src .entry)) b (around (payload (now (src .entry)) b) k (editWay (turns (now (way .entry))) (tailBy keep (now (new .entry))) (payload (payload (now (src .entry)) b) k)))) (now (out .entry)) 0 r (now (out .exit)) ⌝ }
+{
+    let before = b.at;
+    let past = b.at + b.span;
+    let j = pen::put_part(out, 0, &src[..before]);
+    let r = put_around(
+        out,
+        j + walk::HEAD,
+        walk::body(src, b),
+        k,
+        way,
+        0,
+        keep,
+        new,
+    );
+    put_header(out, j, r, b.code);
+    pen::put_part(out, r, &src[past..])
 }

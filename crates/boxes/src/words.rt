@@ -1,17 +1,16 @@
-// Rewriting 32-bit numbers where they stand: those of one kind of opaque box, wherever in a file it is.
+// Rewriting 32-bit numbers where they stand: those of up to three kinds of opaque boxes, wherever in `moov` they are.
 use crate::containers;
 use crate::walk::BoxAt;
 use crate::walk::Step;
 use crate::walk::Walk;
 use wire::number;
 ghost use mathlib.Core.Path.{_≡_};
-ghost use mathlib.Core.List.{_++_};
 ghost use Prim.Native.Nat.{_+_, _-_, _^_, _≤_, _<_};
-ghost use lib.ListN.{length, take, drop};
+ghost use lib.ListN.{length};
 ghost use Rattle.boxes.specs.Walk.{payload};
-ghost use Rattle.boxes.specs.Containers.{FILE, DEPTH};
+ghost use Rattle.codes.specs.Codes.{MOOV};
 ghost use Rattle.boxes.specs.Rewrite.{editBox, editIn, inBody};
-ghost use Rattle.boxes.specs.Words.{eachWord, reword as rewordBy, rewordLeaf, moved as movedBy, Small};
+ghost use Rattle.boxes.specs.Words.{eachWord, reword as rewordBy, aims as aimsAt, rewordFirst, moved as movedBy, Small};
 
 // The numbers in `span` bytes from place `from` on, in the boxes of a code in a kind of container.
 pub struct Target {
@@ -19,6 +18,13 @@ pub struct Target {
     pub code: usize,
     pub from: usize,
     pub span: usize,
+}
+
+// Three of them, so that one walk does for all; one alone is said three times.
+pub struct Targets {
+    pub one: Target,
+    pub two: Target,
+    pub three: Target,
 }
 
 // Below the limit a number goes up by `low`, from it on up by `high` and down by `less`.
@@ -67,37 +73,55 @@ fn reword(body: &mut [u8], from: usize, span: usize, by: By)
     }
 }
 
-// An opaque box of a container of kind k.
-fn reword_leaf(body: &mut [u8], k: usize, code: usize, t: Target, by: By)
-    requires { ⌜ Small by ⌝ }
-    ensures { λ _. ⌜ now (body .exit) ≡ rewordLeaf t (movedBy by) k code (now (body .entry)) ⌝ }
+// 1 where a target means the opaque boxes of a code in a container of kind k, else 0.
+fn aims(t: Target, k: usize, code: usize) -> usize
+    ensures { λ r. ⌜ r ≡ aimsAt t k code ⌝ }
 {
-    if k == t.kind {
-        if code == t.code {
-            reword(body, t.from, t.span, by);
+    if code == t.code {
+        if k == t.kind {
+            return 1;
         }
+    }
+    0
+}
+
+// An opaque box of a container of kind k, by the first target that means it.
+fn reword_leaf(body: &mut [u8], k: usize, code: usize, ts: Targets, by: By)
+    requires { ⌜ Small by ⌝ }
+    ensures { λ _. ⌜ now (body .exit) ≡ rewordFirst ts (movedBy by) k code (now (body .entry)) ⌝ }
+{
+    if aims(ts.one, k, code) == 1 {
+        reword(body, ts.one.from, ts.one.span, by);
+        return;
+    }
+    if aims(ts.two, k, code) == 1 {
+        reword(body, ts.two.from, ts.two.span, by);
+        return;
+    }
+    if aims(ts.three, k, code) == 1 {
+        reword(body, ts.three.from, ts.three.span, by);
     }
 }
 
 // A box of a container of kind k.
-fn reword_box(part: &mut [u8], b: BoxAt, k: usize, depth: usize, t: Target, by: By)
+fn reword_box(part: &mut [u8], b: BoxAt, k: usize, depth: usize, ts: Targets, by: By)
     requires { ⌜ (b .head ≤ b .span) × (b .at + b .span ≤ length (now part)) × (0 < depth) × Small by ⌝ }
-    ensures { λ _. ⌜ now (part .exit) ≡ inBody (now (part .entry)) b (editBox (rewordLeaf t (movedBy by)) (editIn (rewordLeaf t (movedBy by)) (depth - 1)) k (b .code) (payload (now (part .entry)) b)) ⌝ }
+    ensures { λ _. ⌜ now (part .exit) ≡ inBody (now (part .entry)) b (editBox (rewordFirst ts (movedBy by)) (editIn (rewordFirst ts (movedBy by)) (depth - 1)) k (b .code) (payload (now (part .entry)) b)) ⌝ }
 {
     let from = b.at + b.head;
     let to = b.at + b.span;
     let kind = containers::kind_in(k, b.code);
     if kind == 0 {
-        reword_leaf(&mut part[from..to], k, b.code, t, by);
+        reword_leaf(&mut part[from..to], k, b.code, ts, by);
         return;
     }
-    reword_in(&mut part[from..to], kind, depth - 1, t, by);
+    reword_in(&mut part[from..to], kind, depth - 1, ts, by);
 }
 
 // All that a container of kind k holds.
-fn reword_in(part: &mut [u8], k: usize, depth: usize, t: Target, by: By)
+fn reword_in(part: &mut [u8], k: usize, depth: usize, ts: Targets, by: By)
     requires { ⌜ Small by ⌝ }
-    ensures { λ _. ⌜ now (part .exit) ≡ editIn (rewordLeaf t (movedBy by)) depth k (now (part .entry)) ⌝ }
+    ensures { λ _. ⌜ now (part .exit) ≡ editIn (rewordFirst ts (movedBy by)) depth k (now (part .entry)) ⌝ }
 {
     if depth == 0 {
         return;
@@ -106,7 +130,7 @@ fn reword_in(part: &mut [u8], k: usize, depth: usize, t: Target, by: By)
     loop {
         match w.step(part) {
             Step::Found(b, next) => {
-                reword_box(part, b, k, depth, t, by);
+                reword_box(part, b, k, depth, ts, by);
                 w = next;
             }
             Step::End => {
@@ -119,10 +143,18 @@ fn reword_in(part: &mut [u8], k: usize, depth: usize, t: Target, by: By)
     }
 }
 
-// All that the file in the first n bytes holds.
-pub fn reword_file(out: &mut [u8], n: usize, t: Target, by: By)
-    requires { ⌜ (Small by) × (n ≤ length (now out)) ⌝ }
-    ensures { λ _. ⌜ now (out .exit) ≡ editIn (rewordLeaf t (movedBy by)) DEPTH FILE (take n (now (out .entry))) ++ drop n (now (out .entry)) ⌝ }
+// All that the `moov` b of a part holds.
+pub fn reword_moov(part: &mut [u8], b: BoxAt, ts: Targets, by: By)
+    requires { ⌜ (b .head ≤ b .span) × (b .at + b .span ≤ length (now part)) × Small by ⌝ }
+    ensures { λ _. ⌜ now (part .exit) ≡ inBody (now (part .entry)) b (editIn (rewordFirst ts (movedBy by)) 5 MOOV (payload (now (part .entry)) b)) ⌝ }
 {
-    reword_in(&mut out[0..n], containers::FILE, containers::DEPTH, t, by);
+    let from = b.at + b.head;
+    let to = b.at + b.span;
+    reword_in(
+        &mut part[from..to],
+        codes::MOOV,
+        containers::DEPTH - 1,
+        ts,
+        by,
+    );
 }

@@ -1,25 +1,30 @@
 -- What the calls cite. Assumes nothing.
-use Prim.Native.Nat.{ℕ, _≤_}
+use Prim.Native.Nat.{ℕ, _+_, _≤_}
 use native.Mathlib.Omega.{arith}
 use mathlib.Core.Path.{_≡_, ap, _∙_}
 use mathlib.Core.List.{List}
 use lib.ListN.{length}
 use Rattle.wire.specs.Numbers.{Bytes}
 use Rattle.codes.specs.Codes.{MOOV}
-use Rattle.wire.specs.Writing.{Wrote}
+use Rattle.wire.specs.Writing.{Wrote, Put}
 use Rattle.boxes.specs.declared.walk.BoxAt.{BoxAt}
 use Rattle.boxes.specs.Box.{size, write}
 use Rattle.boxes.specs.Boxes.{boxes}
 use Rattle.boxes.specs.Seek.{ANY, count, placeIn, Cut}
+use Rattle.boxes.specs.Walk.{payload}
+use Rattle.boxes.specs.Rewrite.{editIn, inBody}
+use Rattle.boxes.specs.Words.{rewordLeaf, moved}
 use Rattle.boxes.proofs.Reading.{lengths}
 use Rattle.judge.specs.Acceptance.{Meets}
+use Rattle.edit_offsets.specs.Settle.{offsets}
 use Rattle.edit_offsets.proofs.Settled.{settled-length}
 use Rattle.edit_offsets.proofs.Accepted.{file-tiled, one-moov}
 use Rattle.edit_move.specs.Moving.{moovSecond, moveOf}
-use Rattle.edit_move.specs.Arrange.{shifted}
+use Rattle.edit_move.specs.Arrange.{arranged, up, moovAt}
 use Rattle.edit_move.proofs.Order.{second-length}
+use Rattle.edit_move.proofs.Pieces.{pieces-length}
 use Rattle.edit_move.proofs.Parted.{Parted, parted, second-place}
-use Rattle.edit_move.proofs.Moved.{shifted-is}
+use Rattle.edit_move.proofs.Moved.{moved-wrote}
 
 -- ---- a file that meets the rules
 
@@ -43,5 +48,10 @@ module _ (xs : List ℕ) (m : Meets xs) where
     pub move-from : f ≤ b .at
     move-from = omega (arith, from, parts .at)
 
-    pub move-done : {out after : List ℕ} {r : ℕ} → Wrote (shifted f b xs) out r after → Wrote (moveOf xs) out r after
-    move-done w = rw (from, shifted-is xs v m parts) at w
+    -- all of it fits
+    pub move-room : {out mid : List ℕ} {n : ℕ} → Put (arranged f b xs) out 0 n mid → length xs ≤ length out → (n ≤ length out) × (f + b .span ≤ length mid)
+    move-room s l = (omega (arith, s .next, pieces-length f b xs move-from (c .inside)), omega (arith, s .same, move-from, c .inside))
+
+    pub move-done : {out mid after : List ℕ} {n : ℕ} → Put (arranged f b xs) out 0 n mid → length xs ≤ length out
+        → after ≡ inBody mid (moovAt f b) (editIn (rewordLeaf offsets (moved (up b))) 5 MOOV (payload mid (moovAt f b))) → Wrote (moveOf xs) out n after
+    move-done s l q = moved-wrote xs v m parts (c .eight) (rw from at s) (move-room s l .0) (rw from at q)

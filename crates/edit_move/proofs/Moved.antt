@@ -1,17 +1,20 @@
 -- What code writes is the file with its `moov` second, and every chunk offset as far into its payload as it was. Assumes nothing.
-use Prim.Native.Nat.{ℕ, _+_}
+use Prim.Native.Nat.{ℕ, _+_, _≤_}
 use native.Mathlib.Omega.{arith}
 use mathlib.Core.Path.{_≡_, refl, sym, ap, _∙_}
 use mathlib.Core.Bool.{true}
 use mathlib.Core.List.{List, [], _∷_, _++_, append-nil}
-use lib.ListN.{length}
+use lib.ListN.{length, drop}
+use Rattle.codes.specs.Codes.{MOOV}
 use Rattle.wire.specs.Numbers.{Bytes}
+use Rattle.wire.specs.Writing.{Wrote, Put}
+use Rattle.wire.proofs.Writing.{pen-front}
 use Rattle.boxes.specs.declared.walk.BoxAt.{BoxAt}
 use Rattle.boxes.specs.Box.{Box, size, write}
-use Rattle.boxes.specs.Boxes.{boxes, total}
-use Rattle.boxes.specs.Containers.{FILE, DEPTH}
-use Rattle.boxes.specs.Rewrite.{editIn}
-use Rattle.boxes.specs.Walk.{boxAt}
+use Rattle.boxes.specs.Boxes.{HEAD, boxes, total}
+use Rattle.boxes.specs.Seek.{count}
+use Rattle.boxes.specs.Rewrite.{editIn, inBody}
+use Rattle.boxes.specs.Walk.{payload, boxAt}
 use Rattle.boxes.specs.Words.{rewordLeaf, moved}
 use Rattle.boxes.proofs.Whole.{Good}
 use Rattle.boxes.proofs.Written.{boxes-all}
@@ -19,16 +22,21 @@ use Rattle.boxes.proofs.Reading.{All, parts, lengths, write-append, write-boxes
 use Rattle.boxes.proofs.Reading.All.{none, some}
 use Rattle.boxes.proofs.Placing.{length-write}
 use Rattle.boxes.proofs.Every.{all-head, all-tail, all-left}
+use Rattle.boxes.proofs.Meaning.{meant-yes, meant-no}
+use Rattle.boxes.proofs.Numbered.{count-append}
+use Rattle.boxes.proofs.Rewriting.{bytes-write}
+use Rattle.boxes.proofs.InMoov.{OneMoov}
 use Rattle.mdat.specs.Payloads.{mdats, inAt}
 use Rattle.mdat.specs.Relocate.{relocate}
 use Rattle.mdat.proofs.Payloads.{mdats-miss}
 use Rattle.mdat.proofs.Amounts.{Fronts, moved-front}
 use Rattle.judge.specs.Acceptance.{Meets}
 use Rattle.edit_offsets.specs.Settle.{offsets}
-use Rattle.edit_offsets.proofs.Settled.{settled-list}
-use Rattle.edit_offsets.proofs.Accepted.{file-tiled}
+use Rattle.edit_offsets.proofs.Settled.{settled-length, settled-list}
+use Rattle.edit_offsets.proofs.InMoov.{settle-file}
+use Rattle.edit_offsets.proofs.Accepted.{file-tiled, one-moov}
 use Rattle.edit_move.specs.Moving.{moovSecond, moveOf}
-use Rattle.edit_move.specs.Arrange.{arranged, up, shifted}
+use Rattle.edit_move.specs.Arrange.{arranged, up, moovAt}
 use Rattle.edit_move.proofs.Sifting.{each-second}
 use Rattle.edit_move.proofs.Order.{second-length}
 use Rattle.edit_move.proofs.Pieces.{pieces-are}
@@ -78,8 +86,39 @@ module _ (xs : List ℕ) (v : Bytes xs) (m : Meets xs) {b : BoxAt} (p : Parted x
       rw (new-boxes, p .second, p .list)
       (moved-front (p .ftyp ∷ []) (p .mid) (p .end) (boxAt xs b) (λ e. omega (arith, p .moov)) (mdats-miss (p .ftyp) (λ e. omega (arith, p .name)) []) (omega (arith, all-head (all-tail good) .head)) (up b) fronts o n (rw (p .list) at h))
 
-  pub shifted-is : shifted (size (p .ftyp)) b xs ≡ moveOf xs
-  unfolding shifted moveOf
-  shifted-is =
-      ap (editIn (rewordLeaf offsets (moved (up b))) DEPTH FILE) arranged-is
-      ∙ settled-list xs (write (moovSecond (boxes xs))) (moved (up b)) m relocates (λ P a. rw new-boxes (each-second a))
+  -- ---- `moov` where it then stands
+
+  others-none : (count MOOV (p .ftyp ∷ []) ≡ 0) × (count MOOV (p .mid ++ p .end) ≡ 0)
+  unfolding count
+  others-none =
+      let n = meant-no MOOV (p .ftyp .code) (λ z. omega arith) (λ z. omega (arith, p .name)) in
+      let h = meant-yes MOOV (b .code) (λ z. omega arith) (p .moov) in
+      (omega arith, omega (arith, one-moov xs m, ap (count MOOV) (p .list), count-append MOOV (p .mid) (boxAt xs b ∷ p .end), count-append MOOV (p .mid) (p .end)))
+
+  only : b .head ≡ HEAD → OneMoov (write (moovSecond (boxes xs))) (moovAt (size (p .ftyp)) b)
+  unfolding total
+  only e =
+      record {
+        p = p .ftyp ∷ [];
+        x = boxAt xs b;
+        q = p .mid ++ p .end;
+        list = new-boxes ∙ p .second;
+        code = p .moov;
+        before = others-none .0;
+        behind = others-none .1;
+        at = omega arith;
+        head = e;
+        span = p .span;
+      }
+
+  -- ---- what code leaves
+
+  pub moved-wrote : b .head ≡ HEAD → {out mid after : List ℕ} {n : ℕ} → Put (arranged (size (p .ftyp)) b xs) out 0 n mid → n ≤ length out
+      → after ≡ inBody mid (moovAt (size (p .ftyp)) b) (editIn (rewordLeaf offsets (moved (up b))) 5 MOOV (payload mid (moovAt (size (p .ftyp)) b))) → Wrote (moveOf xs) out n after
+  unfolding moveOf
+  moved-wrote e {out = out} {n = n} s l q =
+      let zs = write (moovSecond (boxes xs)) in
+      let w = pen-front s l in
+      let k = settle-file (moved (up b)) zs (drop n out) (bytes-write (each-second (parts xs v .filled))) (only e) (w .is ∙ ap (λ (ys : List ℕ). ys ++ drop n out) arranged-is) q in
+      let z = settled-list xs zs (moved (up b)) m relocates (λ P a. rw new-boxes (each-second a)) in
+      record { span = w .span ∙ ap length arranged-is ∙ sym (settled-length xs zs); is = k ∙ ap (λ (ys : List ℕ). ys ++ drop n out) z }

@@ -6,17 +6,12 @@ use mathlib.Core.List.{List, _++_, append-assoc}
 use lib.ListN.{length, take, drop, length-append, length-take, length-drop}
 use lib.Seq.{take-at, drop-at, length-take-le}
 use borrow.Rule.Slice.PartMut.{midOf}
-use Rattle.wire.specs.Writing.{Wrote, Put}
+use Rattle.wire.specs.Writing.{Put}
 use Rattle.wire.proofs.Lists.{tail-is}
-use Rattle.wire.proofs.Writing.{pen-then, pen-is, pen-front}
+use Rattle.wire.proofs.Writing.{pen-then, pen-is}
 use Rattle.boxes.specs.declared.walk.BoxAt.{BoxAt}
-use Rattle.boxes.specs.Containers.{FILE, DEPTH, LONGEST}
-use Rattle.boxes.specs.Rewrite.{editIn}
-use Rattle.boxes.specs.Words.{rewordLeaf, moved}
-use Rattle.boxes.proofs.Editing.{edit-length}
-use Rattle.boxes.proofs.Wording.{leaf-length}
-use Rattle.edit_offsets.specs.Settle.{offsets}
-use Rattle.edit_move.specs.Arrange.{arranged, up, shifted}
+use Rattle.boxes.specs.Containers.{LONGEST}
+use Rattle.edit_move.specs.Arrange.{arranged}
 
 -- a piece is no longer than all
 past : (a n : ℕ) (xs : List ℕ) {out mid : List ℕ} {at r : ℕ} → Put (midOf a n xs) out at r mid → r ≤ at + length xs
@@ -55,19 +50,6 @@ module _ (f : ℕ) (b : BoxAt) (xs : List ℕ) where
         let q : length (take (b .span) (drop (b .at) xs)) ≡ b .span = length-take-le (b .span) (drop (b .at) xs) (rw length-drop (omega arith)) in
         let s : length (take (b .at - f) (drop f xs)) ≡ b .at - f = length-take-le (b .at - f) (drop f xs) (rw length-drop (omega arith)) in
         rw (length-append, length-append, length-append, p, q, s, length-drop) (omega arith)
-
-    -- and then the chunk offsets
-    module _ {out o₁ : List ℕ} {n : ℕ} (p : Put (arranged f b xs) out 0 n o₁) (l : length xs ≤ length out) where
-      pub shift-room : n ≤ length o₁
-      shift-room = omega (arith, p .next, p .same, pieces-length)
-
-      pub shift-wrote : {after : List ℕ} → after ≡ editIn (rewordLeaf offsets (moved (up b))) DEPTH FILE (take n o₁) ++ drop n o₁ → Wrote (shifted f b xs) out n after
-      unfolding shifted
-      shift-wrote e =
-          let w : Wrote (arranged f b xs) out n o₁ = pen-front p (omega (arith, p .next, pieces-length)) in
-          let t : take n o₁ ≡ arranged f b xs = ap (take n) (w .is) ∙ take-at (arranged f b xs) (drop n out) n (sym (w .span)) in
-          let d : drop n o₁ ≡ drop n out = ap (drop n) (w .is) ∙ drop-at (arranged f b xs) (drop n out) n (sym (w .span)) in
-          record { span = w .span ∙ sym (edit-length (rewordLeaf offsets (moved (up b))) (leaf-length offsets (moved (up b))) DEPTH FILE (arranged f b xs)); is = e ∙ rw (t, d) }
 
 -- of a part in four pieces
 pub pieces-are : (a m x e : List ℕ) (f : ℕ) (b : BoxAt) → length a ≡ f → b .at ≡ f + length m → b .span ≡ length x → arranged f b (a ++ (m ++ (x ++ e))) ≡ a ++ (x ++ (m ++ e))

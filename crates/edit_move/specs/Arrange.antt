@@ -4,10 +4,6 @@ use mathlib.Core.List.{List, _++_}
 use lib.ListN.{take, drop}
 use Rattle.boxes.specs.declared.walk.BoxAt.{BoxAt}
 use Rattle.boxes.specs.declared.words.By.{By}
-use Rattle.boxes.specs.Containers.{FILE, DEPTH}
-use Rattle.boxes.specs.Rewrite.{editIn}
-use Rattle.boxes.specs.Words.{rewordLeaf, moved}
-use Rattle.edit_offsets.specs.Settle.{offsets}
 
 -- a part with its box b at place f
 unfoldable pub arranged : ℕ → BoxAt → List ℕ → List ℕ
@@ -17,5 +13,6 @@ arranged f b xs = take f xs ++ (take (b .span) (drop (b .at) xs) ++ (take (b .at
 abbrev pub up : BoxAt → By
 up b = record { limit = b .at + b .span; low = b .span; high = 0; less = 0 }
 
-unfoldable pub shifted : ℕ → BoxAt → List ℕ → List ℕ
-shifted f b xs = editIn (rewordLeaf offsets (moved (up b))) DEPTH FILE (arranged f b xs)
+-- where it then stands
+abbrev pub moovAt : ℕ → BoxAt → BoxAt
+moovAt f b = record { at = f; head = b .head; span = b .span; code = b .code }

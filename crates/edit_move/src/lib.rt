@@ -10,13 +10,16 @@ ghost use mathlib.Core.Path.{_≡_};
 ghost use mathlib.Core.List.{[], _∷_};
 ghost use Prim.Native.Nat.{_+_, _≤_};
 ghost use lib.ListN.{length};
+ghost use Rattle.codes.specs.Codes.{MOOV};
 ghost use Rattle.wire.specs.Writing.{Wrote, Put};
+ghost use Rattle.boxes.specs.Boxes.{boxes};
+ghost use Rattle.boxes.specs.Seek.{ANY, placeIn, Cut};
 ghost use Rattle.boxes.specs.Containers.{LONGEST};
 ghost use Rattle.rule.specs.Results.{asked, Exact};
 ghost use Rattle.rule.specs.Results.Result.{gives};
 ghost use Rattle.judge.specs.Acceptance.{Meets, editable};
 ghost use Rattle.edit_move.specs.Moving.{moveOf, moveResult};
-ghost use Rattle.edit_move.specs.Arrange.{arranged, shifted};
+ghost use Rattle.edit_move.specs.Arrange.{arranged};
 
 // Writes a file with its box b at place f.
 fn arrange(out: &mut [u8], file: &[u8], f: usize, b: BoxAt) -> usize
@@ -31,15 +34,20 @@ fn arrange(out: &mut [u8], file: &[u8], f: usize, b: BoxAt) -> usize
     pen::put_part(out, k, &file[to..])
 }
 
-// Writes it so, and moves the chunk offsets that stood before the box up by its size.
+// Writes a file with its `moov` b at the place f of its second box, and moves the chunk offsets that stood before `moov` up by its size.
 fn shift(out: &mut [u8], file: &[u8], f: usize, b: BoxAt) -> usize
-    requires { ⌜ (f ≤ b .at) × (b .at + b .span ≤ length (now file)) × (length (now file) ≤ LONGEST) × (length (now file) ≤ length (now out)) ⌝ }
-    ensures { λ r. ⌜ Wrote (shifted f b (now (file .entry))) (now (out .entry)) r (now (out .exit)) ⌝ }
+    requires { ⌜ (Meets (now file)) × (Cut (now file) MOOV 0 b) × (f ≡ placeIn ANY 1 (boxes (now file))) × (length (now file) ≤ length (now out)) ⌝ }
+    ensures { λ r. ⌜ Wrote (moveOf (now (file .entry))) (now (out .entry)) r (now (out .exit)) ⌝ }
 {
     let n = arrange(out, file, f, b);
     edit_offsets::settle(
         out,
-        n,
+        BoxAt {
+            at: f,
+            head: b.head,
+            span: b.span,
+            code: b.code,
+        },
         By {
             limit: b.at + b.span,
             low: b.span,

@@ -3,4 +3,5 @@ pub mod Offsets
 pub mod Placed
 pub mod Agreement
 pub mod Settled
+pub mod InMoov
 pub mod Accepted

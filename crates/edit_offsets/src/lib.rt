@@ -1,30 +1,37 @@
 // The chunk offsets of a file that was edited.
 use boxes::containers;
+use boxes::walk::BoxAt;
 use boxes::words;
 use boxes::words::By;
 use boxes::words::Target;
+use boxes::words::Targets;
 ghost use mathlib.Core.Path.{_≡_};
-ghost use mathlib.Core.List.{_++_};
-ghost use Prim.Native.Nat.{_≤_};
-ghost use lib.ListN.{length, take, drop};
-ghost use Rattle.boxes.specs.Containers.{FILE, DEPTH};
-ghost use Rattle.boxes.specs.Rewrite.{editIn};
+ghost use Prim.Native.Nat.{_+_, _≤_};
+ghost use lib.ListN.{length};
+ghost use Rattle.codes.specs.Codes.{MOOV};
+ghost use Rattle.boxes.specs.Walk.{payload};
+ghost use Rattle.boxes.specs.Rewrite.{editIn, inBody};
 ghost use Rattle.boxes.specs.Words.{rewordLeaf, moved, Small};
 ghost use Rattle.edit_offsets.specs.Settle.{offsets};
 
-// Moves every chunk offset of the file in the first n bytes where it stands.
-pub fn settle(out: &mut [u8], n: usize, by: By)
-    requires { ⌜ (Small by) × (n ≤ length (now out)) ⌝ }
-    ensures { λ _. ⌜ now (out .exit) ≡ editIn (rewordLeaf offsets (moved by)) DEPTH FILE (take n (now (out .entry))) ++ drop n (now (out .entry)) ⌝ }
+// Moves every chunk offset of the `moov` b of a part where it stands.
+pub fn settle(out: &mut [u8], b: BoxAt, by: By)
+    requires { ⌜ (b .head ≤ b .span) × (b .at + b .span ≤ length (now out)) × Small by ⌝ }
+    ensures { λ _. ⌜ now (out .exit) ≡ inBody (now (out .entry)) b (editIn (rewordLeaf offsets (moved by)) 5 MOOV (payload (now (out .entry)) b)) ⌝ }
 {
-    words::reword_file(
+    let t = Target {
+        kind: codes::STBL,
+        code: codes::STCO,
+        from: 8,
+        span: containers::LONGEST,
+    };
+    words::reword_moov(
         out,
-        n,
-        Target {
-            kind: codes::STBL,
-            code: codes::STCO,
-            from: 8,
-            span: containers::LONGEST,
+        b,
+        Targets {
+            one: t,
+            two: t,
+            three: t,
         },
         by,
     );

@@ -7,7 +7,6 @@ use mathlib.Core.List.{List, [], _∷_}
 use lib.ListN.{length}
 use Rattle.wire.specs.Writing.{Wrote}
 use Rattle.boxes.specs.Containers.{LONGEST}
-use Rattle.rule.specs.declared.Answer.{Answer}
 use Rattle.rule.specs.declared.Answer.the-variants.{Done, Refused}
 use Rattle.rule.specs.Results.{asked, inLimit, Exact}
 use Rattle.rule.specs.Results.Result.{gives}
@@ -29,7 +28,3 @@ module _ (xs zs out : List ℕ) {span : ℕ} (e : span ≡ length zs) where
 
     pub settled-wrote : span ≤ length out → {r : ℕ} {left : List ℕ} → Wrote (settled xs zs) out r left → Exact (asked ((24, inLimit (settled xs zs)) ∷ []) (gives (settled xs zs))) out (Done r) left
     settled-wrote k w = in-limit (settled xs zs) out limit (exact-wrote (settled xs zs) out (rw (settled-length xs zs) (omega arith)) w)
-
--- the result otherwise said
-pub resaid : {zs ys : List ℕ} → zs ≡ ys → (out : List ℕ) {r : Answer} {left : List ℕ} → Exact (asked ((24, inLimit zs) ∷ []) (gives zs)) out r left → Exact (asked ((24, inLimit ys) ∷ []) (gives ys)) out r left
-resaid e out x = rw e at x

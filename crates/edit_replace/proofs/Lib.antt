@@ -1,5 +1,7 @@
 pub mod Changing
+pub mod Lengths
 pub mod Settling
 pub mod Taking
+pub mod Placing
 pub mod Written
 pub mod Answering

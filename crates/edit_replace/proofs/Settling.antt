@@ -1,9 +1,9 @@
 -- Of the top-level boxes only `moov` changes, so a chunk offset past it moves by as much as the file grows. Assumes nothing.
-use Prim.Native.Nat.{ℕ, _+_, _<_}
+use Prim.Native.Nat.{ℕ, _+_, _≤_, _<_}
 use native.Mathlib.Omega.{arith}
-use mathlib.Core.Path.{_≡_, refl, ap, _∙_}
+use mathlib.Core.Path.{_≡_, refl, sym, ap, _∙_}
 use mathlib.Core.Bool.{true}
-use mathlib.Core.List.{List, _∷_, _++_}
+use mathlib.Core.List.{List, [], _∷_, _++_}
 use mathlib.Core.Logic.{⊎-elim}
 use lib.ListN.{length, length-append}
 use Rattle.wire.specs.Tests.{ifLt}
@@ -15,10 +15,12 @@ use Rattle.boxes.specs.Box.{Box, size, write, remade}
 use Rattle.boxes.specs.Boxes.{boxes, after}
 use Rattle.boxes.specs.Containers.{FILE, DEPTH}
 use Rattle.boxes.specs.Walk.{payload, boxAt}
-use Rattle.boxes.specs.Seek.{Cut}
+use Rattle.boxes.specs.Seek.{count, Cut}
 use Rattle.boxes.specs.Words.{moved, rewordLeaf}
 use Rattle.boxes.specs.Way.{nthBy, overNth, overTurn, editWay, tailBy}
 use Rattle.boxes.specs.Rewrite.{editIn}
+use Rattle.boxes.specs.Kin.{All2}
+use Rattle.boxes.specs.Kin.All2.{nil, cons}
 use Rattle.boxes.proofs.Cutting.{cut-size}
 use Rattle.boxes.proofs.Reading.{write-append, length-cons, lengths}
 use Rattle.boxes.proofs.Meaning.{meant-is}
@@ -26,21 +28,30 @@ use Rattle.boxes.proofs.Placing.{total-before}
 use Rattle.boxes.proofs.OneOfList.{nth-by}
 use Rattle.boxes.proofs.OneOfPart.{boxes-nth, after-nth}
 use Rattle.boxes.proofs.Down.{Once}
+use Rattle.boxes.proofs.Numbered.{count-append}
+use Rattle.boxes.proofs.InMoov.{OneMoov}
 use Rattle.mdat.specs.Payloads.{inAt}
-use Rattle.mdat.specs.Relocate.{relocate}
+use Rattle.mdat.specs.Relocate.{relocate, Alike}
+use Rattle.mdat.proofs.Staying.{alike-refl}
 use Rattle.mdat.proofs.Amounts.{moved-change}
 use Rattle.movie.specs.declared.entry.Spot.the-variants.{In}
 use Rattle.judge.specs.Acceptance.{Meets}
 use Rattle.edit_offsets.specs.Settle.{offsets, settled}
-use Rattle.edit_offsets.proofs.Settled.{settled-kin}
+use Rattle.edit_offsets.proofs.Settled.{settled-kin, settled-same}
+use Rattle.edit_offsets.proofs.Accepted.{one-moov}
 use Rattle.edit_replace.specs.Replace.{turn, recordAt}
-use Rattle.edit_replace.specs.Fitting.{grown}
-use Rattle.edit_replace.proofs.Changing.{toEntry, record-kin}
+use Rattle.edit_replace.specs.Fitting.{grown, grownBox}
+use Rattle.edit_replace.proofs.Changing.{toEntry, record-bytes, record-kin}
 
 -- numbers that move what is past a limit by the same amount
 moved-same : (a b : By) → a .limit ≡ b .limit → a .low ≡ b .low → a .high + b .less ≡ b .high + a .less → (o : ℕ) → moved a o ≡ moved b o
 unfolding moved
 moved-same a b e f g o = rw (e, f) (ap (λ (m : ℕ). ifLt o (b .limit) (o + b .low) m) (omega arith))
+
+-- two lists that are alike but for one box, which is alike
+alike-among : (p : List Box) (x y : Box) (q : List Box) → Alike x y → All2 Alike (p ++ x ∷ q) (p ++ y ∷ q)
+alike-among [] x y q r = cons r (alike-refl q)
+alike-among (z ∷ p) x y q r = cons (record { head = refl; code = refl; long = refl }) (alike-among p x y q r)
 
 module _ (t n keep : ℕ) (new xs : List ℕ) (w : Bytes new) (v : Bytes xs) (s : length (recordAt (In t n) keep new xs) < 4294967296) {b : BoxAt} (c : Cut xs MOOV 0 b) where
   abbrev zs : List ℕ
@@ -91,3 +102,36 @@ module _ (t n keep : ℕ) (new xs : List ℕ) (w : Bytes new) (v : Bytes xs) (s 
   record-settled m =
       settled-kin xs zs (moved (grown b (length zs) (length xs))) m moved-is (Once STBL STSD _ _)
       (λ d e r. ⊎-elim (λ q. q) (λ q. absurd (omega (arith, q .1))) r) (record-kin t n keep new xs w v s)
+
+  -- ---- `moov` where it then stands
+
+  abbrev there : BoxAt
+  there = grownBox b (length zs) (length xs)
+
+  there-span : there .span ≡ size made
+  there-span = omega (arith, grows, cut-size v c)
+
+  pub only : Meets xs → OneMoov zs there
+  unfolding count
+  only m =
+      record {
+        p = c .p;
+        x = made;
+        q = c .q;
+        list = boxes-are;
+        code = code-is;
+        before = c .nth;
+        behind = omega (arith, one-moov xs m, ap (count MOOV) (c .list), count-append MOOV (c .p) (old ∷ c .q), c .hit, c .nth);
+        at = sym (total-before v c);
+        head = c .eight;
+        span = there-span;
+      }
+
+  pub there-inside : (there .head ≤ there .span) × (there .at + there .span ≤ length zs) × (length xs ≤ b .span + length zs)
+  there-inside = (omega (arith, there-span), omega (arith, grows, there-span, cut-size v c, c .inside), omega (arith, grows, cut-size v c))
+
+  -- a record of the same length moves nothing
+  pub still : length zs ≡ length xs → settled xs zs ≡ zs
+  still e =
+      let a : All2 Alike (boxes xs) (boxes zs) = rw (boxes-are, c .list) (alike-among (c .p) old made (c .q) (record { head = refl; code = refl; long = omega (arith, grows, e) })) in
+      settled-same xs zs a (record-bytes t n keep new xs w v)

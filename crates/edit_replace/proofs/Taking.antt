@@ -1,32 +1,24 @@
 -- The kind of an entry, and whether it takes a record. Assumes nothing.
-use Prim.Native.Nat.{ℕ, _+_, _-_, _≤_, _<_}
+use Prim.Native.Nat.{ℕ, _-_, _≤_, _<_}
 use native.Mathlib.Omega.{arith}
 use mathlib.Core.Path.{_≡_, refl, sym, ap, _∙_}
 use mathlib.Core.Bool.{true}
 use mathlib.Core.List.{List, []}
-use lib.ListN.{length, take, drop}
-use borrow.Rule.Slice.PartMut.{midOf}
+use lib.ListN.{length}
 use Rattle.wire.specs.Tests.{ifEq}
 use Rattle.wire.specs.Clauses.{oneIf}
 use Rattle.wire.specs.Numbers.{word}
 use Rattle.wire.proofs.Clauses.{is-eq, not-eq, is-lt, not-lt, fails, holds, done, yea, nay}
 use Rattle.wire.proofs.Numbers.{word-out}
 use Rattle.wire.proofs.Tests.{eq-yea, eq-nay, lt-yea, lt-nay, eq-or}
-use Rattle.movie.specs.declared.entry.EntryAt.{EntryAt}
 use Rattle.movie.specs.Entries.{entries}
-use Rattle.movie.specs.Named.{EntryIs}
-use Rattle.movie.proofs.Spots.{bytes-at, bytes-none}
+use Rattle.movie.proofs.Spots.{bytes-none}
 use Rattle.entry_heads.specs.Kinds.{SamrKind, kindOf}
-use Rattle.entry_rules.specs.Entries.{FRAMES}
 use Rattle.entry_rules.specs.Decoders.{recordRule}
 use Rattle.entry_rules.proofs.Kept.{recorded}
 use Rattle.edit_replace.specs.Replace.{kindAt, recordCode, takes}
 
 -- ---- the kind
-
--- by what `&xs[place..place + size]` lends
-pub kind-part : (place span : ℕ) (xs : List ℕ) {w r : ℕ} → w ≡ word 4 (midOf place (place + span - place) xs) 4 → r ≡ kindOf w → r ≡ kindOf (word 4 (take span (drop place xs)) 4)
-kind-part place span xs e f = let n : place + span - place ≡ span = omega arith in rw (f, e, n)
 
 none-known : 0 ≡ kindOf 0
 unfolding kindOf ifEq
@@ -36,10 +28,6 @@ module _ (xs : List ℕ) (i : ℕ) where
   pub kind-zero : i ≡ 0 → 0 ≡ kindAt xs i
   unfolding kindAt
   kind-zero e = eq-yea _ _ _ _ _ e refl
-
-  pub kind-is : (i ≡ 0 → ⊥) → {e : EntryAt} → EntryIs xs (i - 1) e → {r : ℕ} → r ≡ kindOf (word 4 (take (e .span) (drop (e .place) xs)) 4) → r ≡ kindAt xs i
-  unfolding kindAt
-  kind-is z s q = eq-nay _ _ _ _ _ z (q ∙ ap (λ (ys : List ℕ). kindOf (word 4 ys 4)) (sym (bytes-at (i - 1) (entries xs) (s .is))))
 
   pub kind-none : length (entries xs) ≤ i - 1 → 0 ≡ kindAt xs i
   unfolding kindAt
@@ -76,12 +64,3 @@ module _ (kind : ℕ) (new : List ℕ) {code : ℕ} (e : code ≡ recordCode kin
     pub takes-other : 8 ≤ length new → {r : ℕ} → r ≡ word 4 new 4 → (r ≡ code → ⊥) → 0 ≡ oneIf (takes kind new)
     unfolding takes
     takes-other h q s = nay _ (fails 1 _ (sym (lt-nay _ _ _ _ _ h (sym (not-eq _ _ (λ u. s (q ∙ u ∙ sym e)))))))
-
--- ---- the tests of 20 and 21, by the kind that was found
-
-module _ (xs : List ℕ) (i : ℕ) (new : List ℕ) {kind r : ℕ} (e : kind ≡ kindAt xs i) where
-  pub takes-kind : r ≡ oneIf (takes kind new) → r ≡ oneIf (takes (kindAt xs i) new)
-  takes-kind h = rw e at h
-
-  pub rule-kind : r ≡ oneIf (recordRule kind FRAMES new) → r ≡ oneIf (recordRule (kindAt xs i) FRAMES new)
-  rule-kind h = rw e at h

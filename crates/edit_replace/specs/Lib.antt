@@ -1,2 +1,3 @@
 pub mod Replace
+pub mod Places
 pub mod Fitting

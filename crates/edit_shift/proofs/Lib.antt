@@ -1,5 +1,5 @@
 pub mod Asking
 pub mod Passing
-pub mod Passes
+pub mod OnePass
 pub mod Meaning
 pub mod Answering

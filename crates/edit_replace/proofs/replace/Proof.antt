@@ -2,11 +2,12 @@
 use borrow.Author.Needs.{needs}
 use Rattle.judge.proofs.Calls.{met, result-accepted, result-refused}
 use Rattle.edit_replace.specs.Replace.{replaceResult}
+use Rattle.edit_replace.specs.Fitting.{entryResult}
 use Rattle.edit_replace.proofs.replace.Statement.{statement}
 use Rattle.edit_replace.proofs.replace.Tie as tie
 
 pub replace-spec : {M : Type 1} → statement M
-unfolding replaceResult
+unfolding replaceResult entryResult
 replace-spec = tie.close (tie.spec
     (λ c κs. search needs)
     (λ c. search needs)

@@ -1,22 +1,18 @@
--- 20, 21, and then as the record fits.
+-- It has a `moov`, since it meets the rules.
 use borrow.Author.Needs.{needs}
+use Rattle.codes.specs.Codes.{MOOV}
+use Rattle.boxes.proofs.Cutting.{cut-as, none-as}
+use Rattle.edit_offsets.proofs.Accepted.{one-moov}
 use native.Mathlib.Omega.{arith}
-use Rattle.wire.proofs.Clauses.{was-yea}
-use Rattle.rule.proofs.Results.{test-nay, test-yea}
-use Rattle.edit_replace.proofs.Taking.{takes-kind, rule-kind}
 use Rattle.edit_replace.proofs.replace_accepted.Statement.{statement}
 use Rattle.edit_replace.proofs.replace_accepted.Tie as tie
 
 pub replace-accepted-spec : {M : Type 1} → statement M
 replace-accepted-spec = tie.close (tie.spec
-    (λ c κs. c .before .before .before .pre .most)
     (λ c κs. search needs)
-    (λ c. test-nay _ _ _ _ _ (takes-kind _ _ _ (c .before .before .kind-at .ensures) (c .before .takes .ensures)) (c .if1 .taken))
-    (λ c κs. search needs)
-    (λ c. test-yea _ _ _ _ _ (takes-kind _ _ _ (c .before .before .before .before .kind-at .ensures) (c .before .before .before .takes .ensures)) (c .before .before .if1 .left) (test-nay _ _ _ _ _ (rule-kind _ _ _ (c .before .before .before .before .kind-at .ensures) (c .before .record-rule .ensures)) (c .if2 .taken)))
-    (λ c κs. (c .before .before .before .before .before .before .before .before .before .pre, c .before .before .before .before .before .kind-at .ensures, was-yea _ _ (c .before .if2 .left) (c .before .before .record-rule .ensures)))
     (λ c. search needs)
-    (λ c.
-    let k = c .before .before .before .before .before .before .before .before .kind-at .ensures in
-    test-yea _ _ _ _ _ (takes-kind _ _ _ k (c .before .before .before .before .before .before .before .takes .ensures)) (c .before .before .before .before .before .before .if1 .left)
-    (test-yea _ _ _ _ _ (rule-kind _ _ _ k (c .before .before .before .before .before .record-rule .ensures)) (c .before .before .before .before .if2 .left) (c .before .before .replace-fit .ensures))))
+    (λ c κs. let s = c .before .before .before .before .before .before .before .before in (s .pre, cut-as (s .args .file .now) MOOV 0 _ (c .before .before .before .before .nth .ensures) _ (c .before .before .b .given .1)))
+    (λ c. search needs)
+    (λ c. search needs)
+    (λ c. search needs)
+    (λ c. let s = c .before .before .before .before .before .before in absurd (omega (arith, none-as (s .args .file .now) MOOV 0 _ (c .before .before .nth .ensures) (c .enum-told .given .1), one-moov _ (s .pre)))))

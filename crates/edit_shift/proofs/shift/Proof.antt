@@ -26,7 +26,7 @@ shift-spec = tie.close (tie.spec
     (λ c.
     let e = c .before .before .before .before .before .before .before .before .before .before .before .before .before in
     let b = toZ-ofZ w64 (e .args .minutes) (e .fits .minutes) in
-    shift-near (e .args .minutes) _ _ (c .before .before .before .before .before .before .before .before .before .before .judge .ensures) (c .before .before .before .before .before .before .before .before .enum-told .given .1) (rw b at (c .before .before .before .before .before .before .before .zone-of .ensures)) (λ i. c .before .before .before .before .before .before .before .before .before .before .before .before .shared-slice-known .given i .fits) _ (c .before .before .before .before .before .zone .given .1) (c .before .before .shift-by .ensures))
+    shift-near (e .args .minutes) _ _ (c .before .before .before .before .before .before .before .before .before .before .judge .ensures) (c .before .before .before .before .before .before .before .before .enum-told .given .1) (rw b at (c .before .before .before .before .before .before .before .zone-of .ensures)) (λ i. c .before .before .before .before .before .before .before .before .before .before .before .before .shared-slice-known .given i .fits) _ (c .before .before .before .before .before .zone .given .1) (c .before .before .shift-accepted .ensures))
     (λ c.
     let e = c .before .before .before .before .before .before .before .before in
     let b = toZ-ofZ w64 (e .args .minutes) (e .fits .minutes) in

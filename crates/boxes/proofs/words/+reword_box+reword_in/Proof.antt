@@ -3,9 +3,9 @@ use Prim.Native.Nat.{ℕ, _+_, _-_, _*_, _<_}
 use Rattle.boxes.proofs.Editing.{edit-leaf, edit-node, edit-shallow, edit-deep, box-length}
 use Rattle.boxes.proofs.InPlace.{in-body, looped-none, looped-last, looped-more}
 use Rattle.boxes.proofs.Walking.{ran, ended, broke}
-use Rattle.boxes.proofs.Wording.{leaf-length}
+use Rattle.boxes.proofs.Aiming.{first-length}
 use Rattle.boxes.specs.Rewrite.{editBox, editIn, inBody, Looped}
-use Rattle.boxes.specs.Words.{moved, rewordLeaf}
+use Rattle.boxes.specs.Words.{moved, rewordFirst}
 use Rattle.wire.specs.Numbers.{Bytes}
 use lib.ListN.{length}
 use mathlib.Core.Path.{ap, _∙_}
@@ -44,10 +44,10 @@ abbrev reword-in-below : ℕ → In 1 reword-in-kinds.ps
 reword-in-below t = and 1 reword-in-kinds.ps (falls 1 reword-in-kinds.ps _<_ μ-reword-in t) reword-in.Pre
 
 abbrev reword-in-Inv-loop : reword-in-lts.InvT-loop
-reword-in-Inv-loop part₀ k depth t by w₀ part w = Looped (editBox (rewordLeaf t (moved by)) (editIn (rewordLeaf t (moved by)) (depth - 1)) k) part₀ part (w .at) × Bytes part
+reword-in-Inv-loop part₀ k depth ts by w₀ part w = Looped (editBox (rewordFirst ts (moved by)) (editIn (rewordFirst ts (moved by)) (depth - 1)) k) part₀ part (w .at) × Bytes part
 
 abbrev reword-in-μ-loop : reword-in-lts.MeasureT-loop
-reword-in-μ-loop part₀ k depth t by w₀ part w = length part - w .at
+reword-in-μ-loop part₀ k depth ts by w₀ part w = length part - w .at
 
 pub +reword-box+reword-in-spec : {M : Type 1} → statement M
 +reword-box+reword-in-spec = close μ-reword-box μ-reword-in
@@ -81,7 +81,7 @@ pub +reword-box+reword-in-spec : {M : Type 1} → statement M
     (λ c. let t = c .before .before .before .before .before .before .before in
     let s = ran _ _ _ _ _ (t .step .ensures) (c .before .before .before .before .before .b .given .1) in
     let i = t .before .before .loop .inv in
-    (looped-more _ (i .0) (box-length _ (leaf-length _ _) _ _) (i .1) s (c .before .before .reword-box .ensures), λ j. c .slice-known2 .given j .fits))
+    (looped-more _ (i .0) (box-length _ (first-length _ _) _ _) (i .1) s (c .before .before .reword-box .ensures), λ j. c .slice-known2 .given j .fits))
     (λ c. search needs)
     (λ c. search needs)
     (λ c. let t = c .before .before in let l = t .before .before in looped-last _ (l .loop .inv .0) (ended _ _ _ (t .step .ensures) (c .enum-told .given .1) .0) ∙ edit-deep _ _ _ _ (l .before .if1 .left))

@@ -1,16 +1,18 @@
 use borrow.Author.Needs.{needs}
-use Rattle.edit_offsets.proofs.Accepted.{one-moov}
+use Rattle.edit_replace.proofs.Lengths.{cut-inside}
+use Rattle.edit_replace.proofs.Written.{settle-room, still-wrote, settle-wrote}
 use native.Mathlib.Omega.{arith}
 use Rattle.edit_replace.proofs.write.replaced.Statement.{statement}
 use Rattle.edit_replace.proofs.write.replaced.Tie as tie
-use Rattle.boxes.proofs.Cutting.{cut-as, none-as}
 
 pub replaced-spec : {M : Type 1} → statement M
 replaced-spec = tie.close (tie.spec
-    (λ c κs. search needs)
+    (λ c κs. let s = c .before .before .before .before .pre in (cut-inside (s .place .moov), cut-inside (s .place .place .trak), s .meets .most, s .short))
     (λ c. search needs)
-    (λ c κs. let n = c .before .before .before .before in (n .before .before .before .before .pre, cut-as _ _ _ _ (n .nth .ensures) _ (c .before .before .b .given .1)))
+    (λ c. still-wrote _ _ _ _ _ _ (c .before .before .before .before .before .before .before .before .pre) (λ i. c .before .before .before .before .before .before .shared-slice-known .given i .fits) (λ i. c .before .before .before .before .before .shared-slice-known2 .given i .fits) (c .before .before .before .put-record .ensures) (omega arith))
+    (λ c. let s = c .before .before .before .before .before .before .before .before .before .pre in omega (arith, s .place .moov .inside, s .meets .most))
+    (λ c. let h = settle-room _ _ _ _ _ _ (c .before .before .before .before .before .before .before .before .before .before .pre) (λ i. c .before .before .before .before .before .before .before .before .shared-slice-known .given i .fits) (λ i. c .before .before .before .before .before .before .before .shared-slice-known2 .given i .fits) (c .before .before .before .before .before .put-record .ensures) in omega (arith, h .3, c .before .before .before .before .before .before .before .before .before .before .pre .place .moov .inside, c .before .before .before .before .before .before .before .before .before .before .pre .meets .most))
+    (λ c. let h = settle-room _ _ _ _ _ _ (c .before .before .before .before .before .before .before .before .before .before .pre) (λ i. c .before .before .before .before .before .before .before .before .shared-slice-known .given i .fits) (λ i. c .before .before .before .before .before .before .before .shared-slice-known2 .given i .fits) (c .before .before .before .before .before .put-record .ensures) in h .2)
+    (λ c κs. let h = settle-room _ _ _ _ _ _ (c .before .before .before .before .before .before .before .before .before .before .before .pre) (λ i. c .before .before .before .before .before .before .before .before .before .shared-slice-known .given i .fits) (λ i. c .before .before .before .before .before .before .before .before .shared-slice-known2 .given i .fits) (c .before .before .before .before .before .before .put-record .ensures) in (h .0, h .1, record { low = omega arith; high = omega (arith, h .3) }))
     (λ c. search needs)
-    (λ c. search needs)
-    (λ c. search needs)
-    (λ c. let n = c .before .before in let h = none-as _ _ _ _ (n .nth .ensures) (c .enum-told .given .1) in absurd (omega (arith, h, one-moov _ (n .before .before .before .before .pre .meets)))))
+    (λ c. settle-wrote _ _ _ _ _ _ (c .before .before .before .before .before .before .before .before .before .before .before .before .before .before .pre) (λ i. c .before .before .before .before .before .before .before .before .before .before .before .before .shared-slice-known .given i .fits) (λ i. c .before .before .before .before .before .before .before .before .before .before .before .shared-slice-known2 .given i .fits) (c .before .before .before .before .before .before .before .before .before .put-record .ensures) (c .before .before .settle .ensures)))

@@ -1,0 +1,150 @@
+-- The place of an entry: what is written there, and the kind of what stands there. Assumes nothing.
+use Prim.Native.Nat.{ℕ, _-_, _≤_}
+use native.Mathlib.Omega.{arith}
+use mathlib.Core.Path.{_≡_, refl, sym, ap, subst, _∙_}
+use mathlib.Core.List.{List, _++_, append-assoc}
+use lib.ListN.{length}
+use Rattle.wire.specs.Tests.{ifEq}
+use Rattle.wire.specs.Clauses.{oneIf}
+use Rattle.wire.specs.Numbers.{Bytes, bytes, word}
+use Rattle.wire.proofs.Tests.{eq-nay}
+use Rattle.wire.proofs.Numbers.{length-bytes, word-right, word-bytes}
+use Rattle.codes.specs.Codes.{MOOV, TRAK}
+use Rattle.boxes.specs.declared.walk.BoxAt.{BoxAt}
+use Rattle.boxes.specs.Box.{Box, size, header}
+use Rattle.boxes.specs.Boxes.{HEAD, boxes}
+use Rattle.boxes.specs.Walk.{payload, boxAt}
+use Rattle.boxes.specs.Seek.{ANY, find, nth, startIn, Cut}
+use Rattle.boxes.specs.Way.{around, overNth, overTurn, editWay, tailBy}
+use Rattle.boxes.proofs.Whole.{Good}
+use Rattle.boxes.proofs.Reading.{parts}
+use Rattle.boxes.proofs.Every.{all-here}
+use Rattle.boxes.proofs.Turning.{nth-at}
+use Rattle.boxes.proofs.Cutting.{cut-payload}
+use Rattle.movie.specs.declared.entry.Spot.{Spot}
+use Rattle.movie.specs.declared.entry.Spot.the-variants.{In, Past}
+use Rattle.movie.specs.Movie.{track}
+use Rattle.movie.specs.Stsds.{stsdsFrom, stsds}
+use Rattle.movie.specs.Entries.{entries, entriesIn}
+use Rattle.movie.specs.Named.{listIn, InTrack, SpotAs, spotIn, bytesAt}
+use Rattle.movie.proofs.Asking.{spot-past, named-none}
+use Rattle.movie.proofs.Naming.{bytes-list, cut-is}
+use Rattle.movie.proofs.Spots.{bytes-at}
+use Rattle.entry_heads.specs.Kinds.{kindOf}
+use Rattle.entry_heads.specs.Heads.{headSize}
+use Rattle.rule.specs.declared.Answer.{Answer}
+use Rattle.rule.specs.declared.Answer.the-variants.{Refused}
+use Rattle.rule.specs.Results.{Exact}
+use Rattle.rule.proofs.Results.{test-nay}
+use Rattle.edit_offsets.specs.Settle.{settled}
+use Rattle.edit_replace.specs.declared.place.Place.{Place}
+use Rattle.edit_replace.specs.declared.place.Placing.{Placing}
+use Rattle.edit_replace.specs.declared.place.Placing.the-variants.{At, Nowhere}
+use Rattle.edit_replace.specs.Replace.{kindAt, recordCode, takes, recordAt, recordReplaced, replaceOf}
+use Rattle.edit_replace.specs.Places.{PlaceIn, InTrackAs, PlaceOf, InMoovAs, Found, FoundAs, Within, wayIn, recordIn, placeText, placeResult}
+use Rattle.edit_replace.specs.Fitting.{entryResult}
+use Rattle.edit_replace.proofs.Taking.{kind-none, takes-none}
+
+-- ---- as code finds it
+
+module _ (ys : List ℕ) where
+  pub track-at : (k : BoxAt) (n : ℕ) (e : BoxAt) → Cut (listIn (payload ys k)) ANY n e → InTrackAs ys k n (At (record { trak = k; entry = e; nth = n }))
+  unfolding InTrackAs
+  track-at k n e c = record { trak = refl; nth = refl; entry = c }
+
+  pub moov-as : (k : BoxAt) (t n : ℕ) → Cut ys TRAK t k → (r : Placing) → InTrackAs ys k n r → InMoovAs ys t n r
+  unfolding InTrackAs InMoovAs
+  moov-as k t n c (At p) i = record { nth = i .nth; trak = subst (λ (j : BoxAt). Cut ys TRAK t j) (sym (i .trak)) c; entry = subst (λ (j : BoxAt). Cut (listIn (payload ys j)) ANY n (p .entry)) (sym (i .trak)) (i .entry) }
+  moov-as k t n c Nowhere i = i
+
+  pub found-as : (i t n : ℕ) → InTrack ys i t n → ((q : ℕ) → In t n ≡ spotIn (stsdsFrom 0 (boxes ys) q) i) → (r : Placing) → InMoovAs ys t n r → FoundAs ys i r
+  unfolding InMoovAs FoundAs
+  found-as i t n s f (At p) m =
+      record {
+        t = t;
+        place = subst (λ (j : ℕ). PlaceOf ys t j p) (sym (m .nth)) m;
+        within = subst (λ (j : ℕ). InTrack ys i t j) (sym (m .nth)) s;
+        spot = λ q. ap (λ (j : ℕ). In t j) (m .nth) ∙ f q;
+      }
+  found-as i t n s f Nowhere m = absurd m
+
+  pub found-at : (i : ℕ) (r : Placing) → FoundAs ys i r → (p : Place) → r ≡ At p → Found ys i p
+  unfolding FoundAs
+  found-at i r s p e = subst (FoundAs ys i) e s
+
+  pub spot-within : (i : ℕ) (r : Spot) (t n : ℕ) → SpotAs ys i r → r ≡ In t n → InTrack ys i t n
+  spot-within i r t n s e = subst (SpotAs ys i) e s
+
+  pub found-past : (i : ℕ) (r : Spot) → SpotAs ys i r → r ≡ Past → FoundAs ys i Nowhere
+  unfolding FoundAs
+  found-past i r s e = subst (SpotAs ys i) e s
+
+-- ---- what is written there
+
+pub record-in : (xs : List ℕ) (b : BoxAt) (p : Place) (i : Within xs b p) (keep : ℕ) (new : List ℕ) → recordIn xs b p keep new ≡ recordAt (In (i .t) (p .nth)) keep new xs
+unfolding recordIn editWay overTurn
+record-in xs b p i keep new =
+    let g : List ℕ → List ℕ = λ ys. editWay (wayIn (p .nth)) (tailBy keep new) ys in
+    ap (around xs b) (nth-at TRAK (i .t) g (payload xs b) (i .place .trak)) ∙ nth-at MOOV 0 (λ ys. overNth TRAK (i .t) g ys) xs (i .moov)
+
+-- ---- the entry there is entry i
+
+module _ (xs : List ℕ) (i : ℕ) (new : List ℕ) {b : BoxAt} (c : Cut xs MOOV 0 b) where
+  moov-is : payload xs b ≡ find MOOV (boxes xs)
+  moov-is = cut-payload xs MOOV 0 b c
+
+  module _ {p : Place} (f : Found (payload xs b) (i - 1) p) where
+    pub within : Within xs b p
+    within = record { t = f .t; moov = c; place = f .place }
+
+    track-is : payload (payload xs b) (p .trak) ≡ track xs (f .t)
+    unfolding track
+    track-is = cut-payload (payload xs b) TRAK (f .t) (p .trak) (f .place .trak) ∙ ap (λ (ys : List ℕ). nth TRAK (f .t) (boxes ys)) moov-is
+
+    module _ (v : Bytes xs) (z : i ≡ 0 → ⊥) where
+      entry-cut : Cut (listIn (track xs (f .t))) ANY (p .nth) (p .entry)
+      entry-cut = rw track-is at (f .place .entry)
+
+      abbrev x : Box
+      x = boxAt (listIn (track xs (f .t))) (p .entry)
+
+      bytes-are : bytesAt (i - 1) (entries xs) ≡ header x ++ x .body
+      bytes-are = bytes-at (i - 1) (entries xs) (cut-is xs v (rw moov-is at (f .within)) entry-cut)
+
+      good : Good x
+      good = all-here (entry-cut .p) x (entry-cut .q) (rw (entry-cut .list) at (parts (listIn (track xs (f .t))) (bytes-list xs (f .t) v) .good))
+
+      code-is : word 4 (header x ++ x .body) 4 ≡ x .code
+      unfolding header
+      code-is = rw append-assoc (word-right 4 (bytes 4 (size x)) (bytes 4 (x .code) ++ x .body) 4 0 (length-bytes 4 (size x)) ∙ word-bytes 4 (x .code) (x .body) (good .code))
+
+      kind-is : kindOf (p .entry .code) ≡ kindAt xs i
+      unfolding kindAt
+      kind-is = eq-nay _ _ _ _ _ z (ap kindOf (sym (ap (λ (ys : List ℕ). word 4 ys 4) bytes-are ∙ code-is)))
+
+      text-is : placeText xs b p (kindAt xs i) new ≡ replaceOf xs i new
+      unfolding placeText replaceOf recordReplaced stsds
+      text-is =
+          let q = startIn MOOV 0 (boxes xs) in
+          let n : ℕ = headSize (kindAt xs i) - HEAD in
+          let a : recordIn xs b p n new ≡ recordAt (In (f .t) (p .nth)) n new xs = record-in xs b p (record { t = f .t; moov = c; place = f .place }) n new in
+          let u : In (f .t) (p .nth) ≡ spotIn (stsds xs) (i - 1) = f .spot q ∙ ap (λ (m : List ℕ). spotIn (stsdsFrom 0 (boxes m) q) (i - 1)) moov-is in
+          ap (settled xs) a ∙ ap (λ (s : Spot). settled xs (recordAt s n new xs)) u
+
+      pub place-exact : {out left : List ℕ} {r : Answer} → Exact (placeResult xs b p (kindOf (p .entry .code)) new) out r left → Exact (entryResult xs i new) out r left
+      unfolding placeResult entryResult
+      place-exact e = rw (kind-is, text-is) at e
+
+  -- ---- there is none
+
+  none-takes : 0 ≡ kindAt xs i → 0 ≡ oneIf (takes (kindAt xs i) new)
+  unfolding recordCode ifEq
+  none-takes e = rw (← e) (takes-none 0 new {code = 0} refl refl)
+
+  pub none-exact : 0 ≡ kindAt xs i → (out : List ℕ) → Exact (entryResult xs i new) out (Refused 20 0) out
+  unfolding entryResult
+  none-exact e out = test-nay 20 _ _ _ out (none-takes e) refl
+
+  pub nowhere-exact : (r : Placing) → FoundAs (payload xs b) (i - 1) r → r ≡ Nowhere → (out : List ℕ) → Exact (entryResult xs i new) out (Refused 20 0) out
+  unfolding FoundAs
+  nowhere-exact r s e out = let g = subst (FoundAs (payload xs b) (i - 1)) e s in none-exact (kind-none xs i (named-none xs (i - 1) _ (spot-past xs moov-is (i - 1) Past g refl) refl)) out
