@@ -1,6 +1,8 @@
 // What every track of a file says, and where its lists stand: all that the reads ask for. Of a code the first box is looked for, and no other.
+use crate::fewer;
 use crate::gather;
 use crate::gather::Slot;
+use crate::moov;
 use crate::tracks;
 use boxes::seek;
 use boxes::seek::Seen;
@@ -61,9 +63,9 @@ fn read(file: &[u8], trak: Slot) -> ReadTrack
     ensures { λ r. ⌜ ReadAt (now (file .entry)) trak r ⌝ }
 {
     let mdia = first(file, trak, codes::MDIA);
-    let m = gather::three(file, mdia, codes::MDHD, codes::HDLR, codes::MINF);
+    let m = fewer::three(file, mdia, codes::MDHD, codes::HDLR, codes::MINF);
     let stbl = first(file, m.c, codes::STBL);
-    let s = gather::two(file, stbl, codes::STSD, codes::STTS);
+    let s = fewer::two(file, stbl, codes::STSD, codes::STTS);
     let mdhd = m.a;
     let hdlr = m.b;
     let stsd = s.a;
@@ -92,7 +94,7 @@ pub fn lay(file: &[u8]) -> Tracks
     ensures { λ r. ⌜ TracksAt (now (file .entry)) r ⌝ }
 {
     let moov = first(file, tracks::whole(file), codes::MOOV);
-    let m = tracks::with_tracks(file, moov, codes::MVHD);
+    let m = moov::with_tracks(file, moov, codes::MVHD);
     let n = m.b.n;
     let one = m.b;
     let two = m.c;
