@@ -26,16 +26,13 @@ reword f from span b = take from b ++ (eachWord f (take span (drop from b)) ++ d
 unfoldable pub rewordLeaf : Target → (ℕ → ℕ) → Leaves
 rewordLeaf t f k c b = ifEq k (t .kind) (ifEq c (t .code) (reword f (t .from) (t .span) b) b) b
 
--- 1 where a target means the boxes of code c in a container of kind k, else 0
-unfoldable pub aims : Target → ℕ → ℕ → ℕ
-aims t k c = ifEq k (t .kind) (ifEq c (t .code) 1 0) 0
+-- of three targets the first for a kind of container, and the last where none is
+unfoldable pub targetIn : Targets → ℕ → Target
+targetIn ts k = ifEq k (ts .one .kind) (ts .one) (ifEq k (ts .two .kind) (ts .two) (ts .three))
 
--- by the first of three targets that means them
-unfoldable pub rewordFirst : Targets → (ℕ → ℕ) → Leaves
-rewordFirst ts f k c b =
-    ifEq (aims (ts .one) k c) 1 (reword f (ts .one .from) (ts .one .span) b)
-    (ifEq (aims (ts .two) k c) 1 (reword f (ts .two .from) (ts .two .span) b)
-    (ifEq (aims (ts .three) k c) 1 (reword f (ts .three .from) (ts .three .span) b) b))
+-- in each kind of container by the target for it
+unfoldable pub rewordEach : Targets → (ℕ → ℕ) → Leaves
+rewordEach ts f k c b = rewordLeaf (targetIn ts k) f k c b
 
 -- how a number moves: below the limit up by `low`, from it on up by `high` and down by `less`
 unfoldable pub moved : By → ℕ → ℕ

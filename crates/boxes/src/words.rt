@@ -10,7 +10,7 @@ ghost use lib.ListN.{length};
 ghost use Rattle.boxes.specs.Walk.{payload};
 ghost use Rattle.codes.specs.Codes.{MOOV};
 ghost use Rattle.boxes.specs.Rewrite.{editBox, editIn, inBody};
-ghost use Rattle.boxes.specs.Words.{eachWord, reword as rewordBy, aims as aimsAt, rewordFirst, moved as movedBy, Small};
+ghost use Rattle.boxes.specs.Words.{eachWord, reword as rewordBy, rewordLeaf, targetIn, rewordEach, moved as movedBy, Small};
 
 // The numbers in `span` bytes from place `from` on, in the boxes of a code in a kind of container.
 pub struct Target {
@@ -20,7 +20,7 @@ pub struct Target {
     pub span: usize,
 }
 
-// Three of them, so that one walk does for all; one alone is said three times.
+// Three of them, each for a kind of container, so that one walk does for all; one alone is said three times.
 pub struct Targets {
     pub one: Target,
     pub two: Target,
@@ -73,46 +73,41 @@ fn reword(body: &mut [u8], from: usize, span: usize, by: By)
     }
 }
 
-// 1 where a target means the opaque boxes of a code in a container of kind k, else 0.
-fn aims(t: Target, k: usize, code: usize) -> usize
-    ensures { λ r. ⌜ r ≡ aimsAt t k code ⌝ }
+// Of three targets the one for a kind of container.
+fn target_in(ts: Targets, k: usize) -> Target
+    ensures { λ r. ⌜ r ≡ targetIn ts k ⌝ }
 {
-    if code == t.code {
-        if k == t.kind {
-            return 1;
+    if k == ts.one.kind {
+        return ts.one;
+    }
+    if k == ts.two.kind {
+        return ts.two;
+    }
+    ts.three
+}
+
+// An opaque box of a container of kind k.
+fn reword_leaf(body: &mut [u8], k: usize, code: usize, t: Target, by: By)
+    requires { ⌜ Small by ⌝ }
+    ensures { λ _. ⌜ now (body .exit) ≡ rewordLeaf t (movedBy by) k code (now (body .entry)) ⌝ }
+{
+    if k == t.kind {
+        if code == t.code {
+            reword(body, t.from, t.span, by);
         }
     }
-    0
 }
 
-// An opaque box of a container of kind k, by the first target that means it.
-fn reword_leaf(body: &mut [u8], k: usize, code: usize, ts: Targets, by: By)
-    requires { ⌜ Small by ⌝ }
-    ensures { λ _. ⌜ now (body .exit) ≡ rewordFirst ts (movedBy by) k code (now (body .entry)) ⌝ }
-{
-    if aims(ts.one, k, code) == 1 {
-        reword(body, ts.one.from, ts.one.span, by);
-        return;
-    }
-    if aims(ts.two, k, code) == 1 {
-        reword(body, ts.two.from, ts.two.span, by);
-        return;
-    }
-    if aims(ts.three, k, code) == 1 {
-        reword(body, ts.three.from, ts.three.span, by);
-    }
-}
-
-// A box of a container of kind k.
-fn reword_box(part: &mut [u8], b: BoxAt, k: usize, depth: usize, ts: Targets, by: By)
-    requires { ⌜ (b .head ≤ b .span) × (b .at + b .span ≤ length (now part)) × (0 < depth) × Small by ⌝ }
-    ensures { λ _. ⌜ now (part .exit) ≡ inBody (now (part .entry)) b (editBox (rewordFirst ts (movedBy by)) (editIn (rewordFirst ts (movedBy by)) (depth - 1)) k (b .code) (payload (now (part .entry)) b)) ⌝ }
+// A box of a container of kind k, whose target is t.
+fn reword_box(part: &mut [u8], b: BoxAt, k: usize, depth: usize, t: Target, ts: Targets, by: By)
+    requires { ⌜ (b .head ≤ b .span) × (b .at + b .span ≤ length (now part)) × (0 < depth) × Small by × (t ≡ targetIn ts k) ⌝ }
+    ensures { λ _. ⌜ now (part .exit) ≡ inBody (now (part .entry)) b (editBox (rewordEach ts (movedBy by)) (editIn (rewordEach ts (movedBy by)) (depth - 1)) k (b .code) (payload (now (part .entry)) b)) ⌝ }
 {
     let from = b.at + b.head;
     let to = b.at + b.span;
     let kind = containers::kind_in(k, b.code);
     if kind == 0 {
-        reword_leaf(&mut part[from..to], k, b.code, ts, by);
+        reword_leaf(&mut part[from..to], k, b.code, t, by);
         return;
     }
     reword_in(&mut part[from..to], kind, depth - 1, ts, by);
@@ -121,16 +116,17 @@ fn reword_box(part: &mut [u8], b: BoxAt, k: usize, depth: usize, ts: Targets, by
 // All that a container of kind k holds.
 fn reword_in(part: &mut [u8], k: usize, depth: usize, ts: Targets, by: By)
     requires { ⌜ Small by ⌝ }
-    ensures { λ _. ⌜ now (part .exit) ≡ editIn (rewordFirst ts (movedBy by)) depth k (now (part .entry)) ⌝ }
+    ensures { λ _. ⌜ now (part .exit) ≡ editIn (rewordEach ts (movedBy by)) depth k (now (part .entry)) ⌝ }
 {
     if depth == 0 {
         return;
     }
+    let t = target_in(ts, k);
     let mut w = Walk { at: 0 };
     loop {
         match w.step(part) {
             Step::Found(b, next) => {
-                reword_box(part, b, k, depth, ts, by);
+                reword_box(part, b, k, depth, t, ts, by);
                 w = next;
             }
             Step::End => {
@@ -146,7 +142,7 @@ fn reword_in(part: &mut [u8], k: usize, depth: usize, ts: Targets, by: By)
 // All that the `moov` b of a part holds.
 pub fn reword_moov(part: &mut [u8], b: BoxAt, ts: Targets, by: By)
     requires { ⌜ (b .head ≤ b .span) × (b .at + b .span ≤ length (now part)) × Small by ⌝ }
-    ensures { λ _. ⌜ now (part .exit) ≡ inBody (now (part .entry)) b (editIn (rewordFirst ts (movedBy by)) 5 MOOV (payload (now (part .entry)) b)) ⌝ }
+    ensures { λ _. ⌜ now (part .exit) ≡ inBody (now (part .entry)) b (editIn (rewordEach ts (movedBy by)) 5 MOOV (payload (now (part .entry)) b)) ⌝ }
 {
     let from = b.at + b.head;
     let to = b.at + b.span;
