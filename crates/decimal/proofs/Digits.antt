@@ -46,6 +46,13 @@ pub put-digits : (n : ℕ) {out mid after : List ℕ} {at m r : ℕ} → 10 ≤ 
     → Put (decimal n) out at r after
 put-digits n h p q = pen-is (decimal-more n h) (pen-then p q)
 
+-- the last two
+pub put-two : (n : ℕ) {out mid low after : List ℕ} {at k m r : ℕ} → 100 ≤ n → Put (decimal (n / 100)) out at k mid → Put ((48 + n / 10 % 10) ∷ []) mid k m low
+    → Put ((48 + n % 10) ∷ []) low m r after → Put (decimal n) out at r after
+put-two n h p q s =
+    let e : n / 100 ≡ n / 10 / 10 = omega arith in
+    put-digits n (omega arith) (put-digits (n / 10) (omega arith) (pen-is (ap decimal e) p) q) s
+
 pub put-label : (t : List ℕ) (n : ℕ) {out mid after : List ℕ} {at m r : ℕ} → Put t out at m mid → Put (decimal n) mid m r after → n < 18446744073709551616
     → Put (labelled t n) out at r after × (r ≤ at + length t + 20)
 unfolding labelled

@@ -5,7 +5,7 @@ ghost use lib.ListN.{length};
 ghost use Rattle.wire.specs.Writing.{Put};
 ghost use Rattle.decimal.specs.Decimal.{decimal, labelled};
 
-// A number's digits.
+// A number's digits, two at a time.
 pub fn put_decimal(out: &mut [u8], at: usize, n: usize) -> usize
     requires { ⌜ at < 2 ^ 62 ⌝ }
     ensures { λ r. ⌜ Put (decimal n) (now (out .entry)) at r (now (out .exit)) ⌝ }
@@ -13,8 +13,13 @@ pub fn put_decimal(out: &mut [u8], at: usize, n: usize) -> usize
     if n < 10 {
         return pen::put_byte(out, at, (48 + n) as u8);
     }
-    let m = put_decimal(out, at, n / 10);
-    pen::put_byte(out, m, (48 + n % 10) as u8)
+    if n < 100 {
+        let m = pen::put_byte(out, at, (48 + n / 10) as u8);
+        return pen::put_byte(out, m, (48 + n % 10) as u8);
+    }
+    let m = put_decimal(out, at, n / 100);
+    let k = pen::put_byte(out, m, (48 + n / 10 % 10) as u8);
+    pen::put_byte(out, k, (48 + n % 10) as u8)
 }
 
 // A label, and then a number.

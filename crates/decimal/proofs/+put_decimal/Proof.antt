@@ -1,10 +1,10 @@
--- One digit, or the digits before it and then it; the number falls with each.
+-- One digit, two, or the digits before the last two and then these; the number falls with each.
 use borrow.Author.Needs.{needs}
 use Prim.Native.Nat.{ℕ, _<_, _/_}
 use borrow.Fn.Kinds.{In}
 use borrow.Fn.PlainCycle.{Measures, is, falls, and}
 use native.Mathlib.Omega.{arith}
-use Rattle.decimal.proofs.Digits.{put-digit, put-digits, decimal-20}
+use Rattle.decimal.proofs.Digits.{put-digit, put-digits, put-two, decimal-20}
 use Rattle.decimal.proofs.put_decimal.Reads as put-decimal
 use Rattle.decimal.proofs.put_decimal.Kinds as put-decimal-kinds
 use Rattle.decimal.proofs.+put_decimal.Lts-put_decimal as put-decimal-lts
@@ -31,9 +31,20 @@ pub +put-decimal-spec : {M : Type 1} → statement M
     (λ c κs. search needs)
     (λ c. search needs)
     (λ c. put-digit _ (omega arith) (c .before .before .put-byte .ensures))
+    (λ c. search needs)
+    (λ c. search needs)
     (λ c κs. search needs)
     (λ c. search needs)
     (λ c. search needs)
-    (λ c κs. omega (arith, decimal-20 (c .before .before .before .before .before .before .before .args .n / 10) (omega arith)))
+    (λ c κs. search needs)
     (λ c. search needs)
-    (λ c. put-digits _ (omega arith) (c .before .before .before .before .before .before .put-decimal .ensures) (c .before .before .put-byte2 .ensures))
+    (λ c. put-digits _ (omega arith) (put-digit _ (omega arith) (c .before .before .before .before .before .before .put-byte2 .ensures)) (c .before .before .put-byte3 .ensures))
+    (λ c κs. search needs)
+    (λ c. search needs)
+    (λ c. search needs)
+    (λ c κs. omega (arith, decimal-20 (c .before .before .before .before .before .before .before .before .args .n / 100) (omega arith)))
+    (λ c. search needs)
+    (λ c. search needs)
+    (λ c κs. omega (arith, decimal-20 (c .before .before .before .before .before .before .before .before .before .before .before .before .args .n / 100) (omega arith)))
+    (λ c. search needs)
+    (λ c. put-two _ (omega arith) (c .before .before .before .before .before .before .before .before .before .before .put-decimal .ensures) (c .before .before .before .before .before .before .put-byte4 .ensures) (c .before .before .put-byte5 .ensures))
