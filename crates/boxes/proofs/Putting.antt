@@ -15,7 +15,7 @@ use Rattle.boxes.specs.declared.walk.BoxAt.{BoxAt}
 use Rattle.boxes.specs.declared.way.Turn.{Turn}
 use Rattle.boxes.specs.Boxes.{HEAD}
 use Rattle.boxes.specs.Walk.{payload}
-use Rattle.boxes.specs.Way.{overNth, editWay, tailBy, boxBy, around, Under, Inside}
+use Rattle.boxes.specs.Way.{overNth, editWay, tailBy, boxBy, around, Under, BoxInside}
 use Rattle.boxes.proofs.Seeking.{payload-length}
 use Rattle.boxes.proofs.Turning.{length-boxBy, way-more}
 
@@ -66,7 +66,7 @@ unfolding around
 around-put xs b ys p q s h = pen-then p (pen-then q (pen-is (tail-is xs (b .at + b .span) h) s))
 
 -- what is put around a body adds as much as the body has more than before
-pub around-most : (xs : List ℕ) (b : BoxAt) (ys : List ℕ) (m : ℕ) → Inside xs b → length ys ≤ length (payload xs b) + m → length (around xs b ys) ≤ length xs + m
+pub around-most : (xs : List ℕ) (b : BoxAt) (ys : List ℕ) (m : ℕ) → BoxInside xs b → length ys ≤ length (payload xs b) + m → length (around xs b ys) ≤ length xs + m
 unfolding around
 around-most xs b ys m i h =
     let n = payload-length xs b (i .least) (i .inside) in

@@ -54,7 +54,7 @@ pub record Under (n c : ℕ) (out : List ℕ) (at r : ℕ) (after : List ℕ) : 
   pub is : r ≤ length out → after ≡ put out at (bytes 4 n ++ bytes 4 c)
 
 -- a box lies in a part
-pub record Inside (xs : List ℕ) (b : BoxAt) : Type 0 where
+pub record BoxInside (xs : List ℕ) (b : BoxAt) : Type 0 where
   pub eight : b .head ≡ HEAD
   pub least : b .head ≤ b .span
   pub inside : b .at + b .span ≤ length xs

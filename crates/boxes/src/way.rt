@@ -11,7 +11,7 @@ ghost use Prim.Native.Nat.{_+_, _-_, _^_, _≤_, _<_};
 ghost use lib.ListN.{length, drop};
 ghost use Rattle.wire.specs.Writing.{Put};
 ghost use Rattle.boxes.specs.Walk.{payload};
-ghost use Rattle.boxes.specs.Way.{Under, Inside, turns, boxBy, around, tailBy, overNth, editWay};
+ghost use Rattle.boxes.specs.Way.{Under, BoxInside, turns, boxBy, around, tailBy, overNth, editWay};
 
 // One turn: past the first `skip` bytes, into the n-th box of a code.
 pub struct Turn {
@@ -145,7 +145,7 @@ pub fn put_within(
     keep: usize,
     new: &[u8],
 ) -> usize
-    requires { ⌜ (Inside (now src) b) × (Inside (payload (now src) b) k) × (length (now src) + length (now new) < 2 ^ 61) ⌝ }
+    requires { ⌜ (BoxInside (now src) b) × (BoxInside (payload (now src) b) k) × (length (now src) + length (now new) < 2 ^ 61) ⌝ }
     ensures { λ r. ⌜ Put (around (now (src .entry)) b (around (payload (now (src .entry)) b) k (editWay (turns (now (way .entry))) (tailBy keep (now (new .entry))) (payload (payload (now (src .entry)) b) k)))) (now (out .entry)) 0 r (now (out .exit)) ⌝ }
 {
     let before = b.at;

@@ -12,7 +12,7 @@ use Rattle.boxes.specs.Box.{Box, write, remade}
 use Rattle.boxes.specs.Boxes.{FRONT, boxes, after}
 use Rattle.boxes.specs.Walk.{payload}
 use Rattle.boxes.specs.Seek.{ANY, count, find, nth, Cut}
-use Rattle.boxes.specs.Way.{nthBy, overNth, overTurn, editWay, tailBy, around, Inside}
+use Rattle.boxes.specs.Way.{nthBy, overNth, overTurn, editWay, tailBy, around, BoxInside}
 use Rattle.boxes.proofs.Meaning.{nth-hit, nth-next, nth-miss, by-hit, by-next, by-miss}
 use Rattle.boxes.proofs.Numbered.{by-number, nth-there, found-short}
 use Rattle.boxes.proofs.Reading.{length-cons, lengths}
@@ -25,7 +25,7 @@ use Rattle.movie.specs.Movie.{mdia, minf}
 use Rattle.movie.specs.Named.{listIn}
 use Rattle.edit_replace.specs.declared.place.Place.{Place}
 use Rattle.edit_replace.specs.Replace.{turn}
-use Rattle.edit_replace.specs.Places.{Within, wayIn, recordIn, lengthIn}
+use Rattle.edit_replace.specs.Places.{Within, wayIn, recordThere, lengthIn}
 use Rattle.edit_replace.proofs.Changing.{toEntry}
 
 -- ---- one box: the part grows by as much as its body
@@ -43,7 +43,7 @@ over-grows : (c n : ℕ) (f : List ℕ → List ℕ) (xs : List ℕ) → n < cou
 unfolding overNth
 over-grows c n f xs h = omega (arith, length-append (write (nthBy c n f (boxes xs))) (after xs), list-grows c f n (boxes xs) h, lengths xs)
 
-around-grows : (xs : List ℕ) (b : BoxAt) (ys : List ℕ) → Inside xs b → length (around xs b ys) + length (payload xs b) ≡ length xs + length ys
+around-grows : (xs : List ℕ) (b : BoxAt) (ys : List ℕ) → BoxInside xs b → length (around xs b ys) + length (payload xs b) ≡ length xs + length ys
 unfolding around
 around-grows xs b ys i =
     let n = payload-length xs b (i .least) (i .inside) in
@@ -68,7 +68,7 @@ way-grows (t ∷ w) h xs l =
 -- ---- the file
 
 -- a box that a search found lies in its part
-pub cut-inside : {xs : List ℕ} {c n : ℕ} {b : BoxAt} → Cut xs c n b → Inside xs b
+pub cut-inside : {xs : List ℕ} {c n : ℕ} {b : BoxAt} → Cut xs c n b → BoxInside xs b
 cut-inside s = record { eight = s .eight; least = s .least; inside = s .inside }
 
 module _ (n keep : ℕ) (new ys : List ℕ) {e : BoxAt} (c : Cut (listIn ys) ANY n e) where
@@ -114,8 +114,8 @@ module _ (xs : List ℕ) (b : BoxAt) (p : Place) (i : Within xs b p) where
       let t = payload-length moov (p .trak) (i .place .trak .least) (i .place .trak .inside) in
       (omega (arith, e .least, e .eight), omega (arith, stsd-length (p .nth) 0 [] trak e .1, follow-short trak, m, t, i .moov .inside, i .place .trak .inside))
 
-  pub length-in : (keep : ℕ) (new : List ℕ) → lengthIn (length xs) (p .entry) keep (length new) ≡ length (recordIn xs b p keep new)
-  unfolding recordIn
+  pub length-in : (keep : ℕ) (new : List ℕ) → lengthIn (length xs) (p .entry) keep (length new) ≡ length (recordThere xs b p keep new)
+  unfolding recordThere
   length-in keep new =
       let made : List ℕ = editWay (wayIn (p .nth)) (tailBy keep new) trak in
       let z : List ℕ = around moov (p .trak) made in

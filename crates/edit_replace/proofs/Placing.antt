@@ -41,7 +41,7 @@ use Rattle.edit_replace.specs.declared.place.Place.{Place}
 use Rattle.edit_replace.specs.declared.place.Placing.{Placing}
 use Rattle.edit_replace.specs.declared.place.Placing.the-variants.{At, Nowhere}
 use Rattle.edit_replace.specs.Replace.{kindAt, recordCode, takes, recordAt, recordReplaced, replaceOf}
-use Rattle.edit_replace.specs.Places.{PlaceIn, InTrackAs, PlaceOf, InMoovAs, Found, FoundAs, Within, wayIn, recordIn, placeText, placeResult}
+use Rattle.edit_replace.specs.Places.{PlaceIn, InTrackAs, PlaceOf, InMoovAs, Found, FoundAs, Within, wayIn, recordThere, placeText, placeResult}
 use Rattle.edit_replace.specs.Fitting.{entryResult}
 use Rattle.edit_replace.proofs.Taking.{kind-none, takes-none}
 
@@ -81,8 +81,8 @@ module _ (ys : List ℕ) where
 
 -- ---- what is written there
 
-pub record-in : (xs : List ℕ) (b : BoxAt) (p : Place) (i : Within xs b p) (keep : ℕ) (new : List ℕ) → recordIn xs b p keep new ≡ recordAt (In (i .t) (p .nth)) keep new xs
-unfolding recordIn editWay overTurn
+pub record-in : (xs : List ℕ) (b : BoxAt) (p : Place) (i : Within xs b p) (keep : ℕ) (new : List ℕ) → recordThere xs b p keep new ≡ recordAt (In (i .t) (p .nth)) keep new xs
+unfolding recordThere editWay overTurn
 record-in xs b p i keep new =
     let g : List ℕ → List ℕ = λ ys. editWay (wayIn (p .nth)) (tailBy keep new) ys in
     ap (around xs b) (nth-at TRAK (i .t) g (payload xs b) (i .place .trak)) ∙ nth-at MOOV 0 (λ ys. overNth TRAK (i .t) g ys) xs (i .moov)
@@ -127,7 +127,7 @@ module _ (xs : List ℕ) (i : ℕ) (new : List ℕ) {b : BoxAt} (c : Cut xs MOOV
       text-is =
           let q = startIn MOOV 0 (boxes xs) in
           let n : ℕ = headSize (kindAt xs i) - HEAD in
-          let a : recordIn xs b p n new ≡ recordAt (In (f .t) (p .nth)) n new xs = record-in xs b p (record { t = f .t; moov = c; place = f .place }) n new in
+          let a : recordThere xs b p n new ≡ recordAt (In (f .t) (p .nth)) n new xs = record-in xs b p (record { t = f .t; moov = c; place = f .place }) n new in
           let u : In (f .t) (p .nth) ≡ spotIn (stsds xs) (i - 1) = f .spot q ∙ ap (λ (m : List ℕ). spotIn (stsdsFrom 0 (boxes m) q) (i - 1)) moov-is in
           ap (settled xs) a ∙ ap (λ (s : Spot). settled xs (recordAt s n new xs)) u
 

@@ -25,7 +25,7 @@ use Rattle.edit_offsets.proofs.Settled.{settled-length}
 use Rattle.edit_offsets.proofs.InMoov.{settle-file}
 use Rattle.edit_replace.specs.Replace.{kindAt, recordAt}
 use Rattle.edit_replace.specs.declared.place.Place.{Place}
-use Rattle.edit_replace.specs.Places.{recordIn}
+use Rattle.edit_replace.specs.Places.{recordThere}
 use Rattle.edit_replace.specs.Fitting.{grown, grownBox, Fits}
 use Rattle.edit_replace.proofs.Taking.{kind-none, record-short}
 use Rattle.edit_replace.proofs.Changing.{record-bytes}
@@ -38,14 +38,14 @@ module _ (xs : List ℕ) (b : BoxAt) (p : Place) (keep : ℕ) (new out : List �
   abbrev zs : List ℕ
   zs = recordAt (In (f .place .t) (p .nth)) keep new xs
 
-  text-is : recordIn xs b p keep new ≡ zs
+  text-is : recordThere xs b p keep new ≡ zs
   text-is = record-in xs b p (f .place) keep new
 
   few : length zs < 4294967296
   few = omega (arith, f .most, ap length text-is)
 
   -- where `moov` then stands
-  pub settle-room : {r : ℕ} {mid : List ℕ} → Put (recordIn xs b p keep new) out 0 r mid
+  pub settle-room : {r : ℕ} {mid : List ℕ} → Put (recordThere xs b p keep new) out 0 r mid
       → (b .head ≤ grownBox b r (length xs) .span) × (b .at + grownBox b r (length xs) .span ≤ length mid) × (length xs ≤ b .span + r) × (r ≤ LONGEST)
   settle-room s =
       let i = there-inside (f .place .t) (p .nth) keep new xs w v few (f .place .moov) in
@@ -53,15 +53,15 @@ module _ (xs : List ℕ) (b : BoxAt) (p : Place) (keep : ℕ) (new out : List �
       (omega (arith, i .0, s .next), omega (arith, i .1, s .next, s .same, f .room), omega (arith, i .2, s .next), omega (arith, s .next, f .most))
 
   -- written, and nothing moved
-  pub still-wrote : {r : ℕ} {mid : List ℕ} → Put (recordIn xs b p keep new) out 0 r mid → r ≡ length xs → Wrote (settled xs (recordIn xs b p keep new)) out r mid
+  pub still-wrote : {r : ℕ} {mid : List ℕ} → Put (recordThere xs b p keep new) out 0 r mid → r ≡ length xs → Wrote (settled xs (recordThere xs b p keep new)) out r mid
   still-wrote s e =
       let q : settled xs zs ≡ zs = still (f .place .t) (p .nth) keep new xs w v few (f .place .moov) (omega (arith, s .next, ap length text-is)) in
       rw (text-is, q) (rw text-is at (pen-front s (omega (arith, s .next, f .room))))
 
   -- written and then settled there
-  pub settle-wrote : {r : ℕ} {mid after : List ℕ} → Put (recordIn xs b p keep new) out 0 r mid
+  pub settle-wrote : {r : ℕ} {mid after : List ℕ} → Put (recordThere xs b p keep new) out 0 r mid
       → after ≡ inBody mid (grownBox b r (length xs)) (editIn (rewordLeaf offsets (moved (grown b r (length xs)))) 5 MOOV (payload mid (grownBox b r (length xs))))
-      → Wrote (settled xs (recordIn xs b p keep new)) out r after
+      → Wrote (settled xs (recordThere xs b p keep new)) out r after
   settle-wrote {r} {mid} {after} s q =
       let e : r ≡ length zs = omega (arith, s .next, ap length text-is) in
       let g = pen-front s (omega (arith, s .next, f .room)) in

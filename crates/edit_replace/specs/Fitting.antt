@@ -12,15 +12,15 @@ use Rattle.rule.specs.Results.Result.{gives}
 use Rattle.judge.specs.Acceptance.{Meets, editable}
 use Rattle.edit_replace.specs.declared.place.Place.{Place}
 use Rattle.edit_replace.specs.Replace.{kindAt, takes, replaceOf}
-use Rattle.edit_replace.specs.Places.{recordIn, Within}
+use Rattle.edit_replace.specs.Places.{recordThere, Within}
 
 -- a file that meets the rules, a place in it, a short record, and room for the result
 pub record Fits (xs : List ℕ) (b : BoxAt) (p : Place) (keep : ℕ) (new out : List ℕ) : Type 0 where
   pub meets : Meets xs
   pub place : Within xs b p
   pub short : length new ≤ 31
-  pub most : length (recordIn xs b p keep new) ≤ LONGEST
-  pub room : length (recordIn xs b p keep new) ≤ length out
+  pub most : length (recordThere xs b p keep new) ≤ LONGEST
+  pub room : length (recordThere xs b p keep new) ≤ length out
 
 -- past the box b a chunk offset moves by as much as a file of m bytes grows to n
 abbrev pub grown : BoxAt → ℕ → ℕ → By

@@ -73,8 +73,8 @@ abbrev pub wayIn : ℕ → List Turn
 wayIn n = map (λ c. turn c 0) toStsd ++ (record { skip = FRONT; code = ANY; nth = n } ∷ [])
 
 -- the file with another record
-unfoldable pub recordIn : List ℕ → BoxAt → Place → ℕ → List ℕ → List ℕ
-recordIn xs b p keep new = around xs b (around (payload xs b) (p .trak) (editWay (wayIn (p .nth)) (tailBy keep new) (payload (payload xs b) (p .trak))))
+unfoldable pub recordThere : List ℕ → BoxAt → Place → ℕ → List ℕ → List ℕ
+recordThere xs b p keep new = around xs b (around (payload xs b) (p .trak) (editWay (wayIn (p .nth)) (tailBy keep new) (payload (payload xs b) (p .trak))))
 
 -- its length, by that of the file and of the entry
 abbrev pub lengthIn : ℕ → BoxAt → ℕ → ℕ → ℕ
@@ -83,7 +83,7 @@ lengthIn m e keep n = m - (e .span - HEAD) + (min keep (e .span - HEAD) + n)
 -- ---- the answer, by the kind of the entry there
 
 unfoldable pub placeText : List ℕ → BoxAt → Place → ℕ → List ℕ → List ℕ
-placeText xs b p kind new = settled xs (recordIn xs b p (headSize kind - HEAD) new)
+placeText xs b p kind new = settled xs (recordThere xs b p (headSize kind - HEAD) new)
 
 unfoldable pub placeResult : List ℕ → BoxAt → Place → ℕ → List ℕ → Result
 placeResult xs b p kind new =

@@ -13,9 +13,9 @@ ghost use Rattle.wire.specs.Writing.{Wrote, Put};
 ghost use Rattle.boxes.specs.Boxes.{HEAD};
 ghost use Rattle.boxes.specs.Containers.{LONGEST};
 ghost use Rattle.boxes.specs.Walk.{payload};
-ghost use Rattle.boxes.specs.Way.{Inside, turns};
+ghost use Rattle.boxes.specs.Way.{BoxInside, turns};
 ghost use Rattle.edit_offsets.specs.Settle.{settled};
-ghost use Rattle.edit_replace.specs.Places.{wayIn, recordIn, lengthIn};
+ghost use Rattle.edit_replace.specs.Places.{wayIn, recordThere, lengthIn};
 ghost use Rattle.edit_replace.specs.Fitting.{Fits};
 
 // The way from a track to its entry n, from 0: three numbers to a turn.
@@ -43,8 +43,8 @@ fn way_to(n: usize) -> [usize; 15]
 
 // Writes a file with another record at a place in its `moov` b, and answers its length, fit or not.
 fn put_record(out: &mut [u8], file: &[u8], b: BoxAt, p: Place, keep: usize, new: &[u8]) -> usize
-    requires { ⌜ (Inside (now file) b) × (Inside (payload (now file) b) (p .trak)) × (lengthOf (now file) ≤ LONGEST) × (lengthOf (now new) ≤ 31) ⌝ }
-    ensures { λ r. ⌜ Put (recordIn (now (file .entry)) b p keep (now (new .entry))) (now (out .entry)) 0 r (now (out .exit)) ⌝ }
+    requires { ⌜ (BoxInside (now file) b) × (BoxInside (payload (now file) b) (p .trak)) × (lengthOf (now file) ≤ LONGEST) × (lengthOf (now new) ≤ 31) ⌝ }
+    ensures { λ r. ⌜ Put (recordThere (now (file .entry)) b p keep (now (new .entry))) (now (out .entry)) 0 r (now (out .exit)) ⌝ }
 {
     let way = way_to(p.nth);
     way::put_within(out, file, b, p.trak, &way, keep, new)
@@ -62,7 +62,7 @@ pub fn result_length(file: &[u8], e: BoxAt, keep: usize, new: &[u8]) -> usize
 // Writes the file with another record, and answers its length: a chunk offset past `moov` moves by as much as the file grows, if it does.
 pub fn replaced(out: &mut [u8], file: &[u8], b: BoxAt, p: Place, keep: usize, new: &[u8]) -> usize
     requires { ⌜ Fits (now file) b p keep (now new) (now out) ⌝ }
-    ensures { λ r. ⌜ Wrote (settled (now (file .entry)) (recordIn (now (file .entry)) b p keep (now (new .entry)))) (now (out .entry)) r (now (out .exit)) ⌝ }
+    ensures { λ r. ⌜ Wrote (settled (now (file .entry)) (recordThere (now (file .entry)) b p keep (now (new .entry)))) (now (out .entry)) r (now (out .exit)) ⌝ }
 {
     let span = put_record(out, file, b, p, keep, new);
     if span == file.len() {

@@ -24,7 +24,7 @@ use Rattle.rule.proofs.Places.{sooner-right}
 use Rattle.rule.proofs.Bounds.{named, unless-most, placed-bounded, judge-most}
 use Rattle.rule.proofs.Traverse.{Found, found-more, found-over}
 use Rattle.rule.proofs.Firsts.{first-box}
-use Rattle.judge.specs.Asked.{tiledBy, shapeBy, boxesBy, judgeBy, verdictOf}
+use Rattle.judge.specs.Asked.{tiledBy, shapeBy, ruleBy, judgeBy, verdictOf}
 
 -- ---- a box that is broken, where none before it is
 
@@ -89,8 +89,8 @@ module _ (n : ℕ) (f : Box → ℕ → Verdict) {xs : List ℕ} {base : ℕ} {w
 module _ (n : ℕ) (xs : List ℕ) {v : Verdict} where
   pub by-shape : n < 4 → v ≡ judgeIn (placed (shapeBy n)) DEPTH FILE xs 0 0 → v ≡ verdictOf n xs
   unfolding verdictOf judgeBy
-  by-shape h e = e ∙ ap (λ (j : Judge). judgeIn j DEPTH FILE xs 0 0) (lt-yea n 4 (placed (shapeBy n)) (boxesBy n (boxes xs)) _ h refl)
+  by-shape h e = e ∙ ap (λ (j : Judge). judgeIn j DEPTH FILE xs 0 0) (lt-yea n 4 (placed (shapeBy n)) (ruleBy n (boxes xs)) _ h refl)
 
-  pub by-boxes : 4 ≤ n → v ≡ judgeIn (boxesBy n (boxes xs)) DEPTH FILE xs 0 0 → v ≡ verdictOf n xs
+  pub by-boxes : 4 ≤ n → v ≡ judgeIn (ruleBy n (boxes xs)) DEPTH FILE xs 0 0 → v ≡ verdictOf n xs
   unfolding verdictOf judgeBy
-  by-boxes h e = e ∙ ap (λ (j : Judge). judgeIn j DEPTH FILE xs 0 0) (lt-nay n 4 (placed (shapeBy n)) (boxesBy n (boxes xs)) _ h refl)
+  by-boxes h e = e ∙ ap (λ (j : Judge). judgeIn j DEPTH FILE xs 0 0) (lt-nay n 4 (placed (shapeBy n)) (ruleBy n (boxes xs)) _ h refl)

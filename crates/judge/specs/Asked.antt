@@ -50,13 +50,13 @@ nodeBy n l k xs home p =
     (ifEq n 8 (askedEight l .node k xs home p)
     (ifEq n 10 (ten .node k xs home p) Fine))))
 
-abbrev pub boxesBy : ℕ → List Box → Judge
-boxesBy n l = record { leaf = leafBy n; node = nodeBy n l; end = λ xs p. Fine }
+abbrev pub ruleBy : ℕ → List Box → Judge
+ruleBy n l = record { leaf = leafBy n; node = nodeBy n l; end = λ xs p. Fine }
 
 -- ---- each by its number
 
 unfoldable pub judgeBy : ℕ → List Box → Judge
-judgeBy n l = ifLt n 4 (placed (shapeBy n)) (boxesBy n l)
+judgeBy n l = ifLt n 4 (placed (shapeBy n)) (ruleBy n l)
 
 -- what rule n says of a file
 unfoldable pub verdictOf : ℕ → List ℕ → Verdict

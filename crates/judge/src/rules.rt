@@ -11,7 +11,7 @@ ghost use lib.ListN.{length};
 ghost use Rattle.boxes.specs.Boxes.{boxes};
 ghost use Rattle.boxes.specs.Walk.{boxAt};
 ghost use Rattle.rule.specs.Judge.{judgeBox, judgeIn};
-ghost use Rattle.judge.specs.Asked.{unlessAnswer, leafBy, nodeBy, boxesBy};
+ghost use Rattle.judge.specs.Asked.{unlessAnswer, leafBy, nodeBy, ruleBy};
 
 // Broken at a place where an answer is 0.
 fn unless(answer: usize, place: usize) -> Verdict
@@ -77,7 +77,7 @@ fn judge_box(
     depth: usize,
 ) -> Verdict
     requires { ⌜ (b .head ≤ b .span) × (b .at + b .span ≤ length (now part)) × (base + length (now part) < 2 ^ 60) × (0 < depth) ⌝ }
-    ensures { λ r. ⌜ r ≡ judgeBox (boxesBy n (boxes (now (file .entry)))) (judgeIn (boxesBy n (boxes (now (file .entry)))) (depth - 1)) k (boxAt (now (part .entry)) b) (base + b .at) ⌝ }
+    ensures { λ r. ⌜ r ≡ judgeBox (ruleBy n (boxes (now (file .entry)))) (judgeIn (ruleBy n (boxes (now (file .entry)))) (depth - 1)) k (boxAt (now (part .entry)) b) (base + b .at) ⌝ }
 {
     let place = base + b.at;
     let start = place + b.head;
@@ -99,7 +99,7 @@ pub fn judge_in(
     depth: usize,
 ) -> Verdict
     requires { ⌜ base + length (now part) < 2 ^ 60 ⌝ }
-    ensures { λ r. ⌜ r ≡ judgeIn (boxesBy n (boxes (now (file .entry)))) depth k (now (part .entry)) home base ⌝ }
+    ensures { λ r. ⌜ r ≡ judgeIn (ruleBy n (boxes (now (file .entry)))) depth k (now (part .entry)) home base ⌝ }
 {
     if depth == 0 {
         return Verdict::Fine;

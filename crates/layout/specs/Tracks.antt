@@ -28,19 +28,19 @@ abbrev pub wanted : ℕ → Want
 wanted i = record { code = TRAK; nth = i }
 
 -- of so many boxes one that stands there
-abbrev pub slotOf : ℕ → Ends → Slot
-slotOf n e = record { n = n; from = e .from; to = e .to }
+abbrev pub slotWith : ℕ → Ends → Slot
+slotWith n e = record { n = n; from = e .from; to = e .to }
 
 -- what was found of a code, and of tracks with one count
 abbrev pub fiveOf : Slot → Four → ℕ → Five
-fiveOf i f t = record { a = i; b = slotOf (f .n) (f .one); c = slotOf (f .n) (f .two); d = slotOf (f .n) (f .three); e = slotOf (f .n) (f .four); tiled = t }
+fiveOf i f t = record { a = i; b = slotWith (f .n) (f .one); c = slotWith (f .n) (f .two); d = slotWith (f .n) (f .three); e = slotWith (f .n) (f .four); tiled = t }
 
 -- the first four tracks past one more box of a part that starts at place p
 pub record Further (f : Four) (b : BoxAt) (p : ℕ) (r : Four) : Type 0 where
-  pub one : slotOf (r .n) (r .one) ≡ noteOf (slotOf (f .n) (f .one)) (wanted 0) b p
-  pub two : slotOf (r .n) (r .two) ≡ noteOf (slotOf (f .n) (f .two)) (wanted 1) b p
-  pub three : slotOf (r .n) (r .three) ≡ noteOf (slotOf (f .n) (f .three)) (wanted 2) b p
-  pub four : slotOf (r .n) (r .four) ≡ noteOf (slotOf (f .n) (f .four)) (wanted 3) b p
+  pub one : slotWith (r .n) (r .one) ≡ noteOf (slotWith (f .n) (f .one)) (wanted 0) b p
+  pub two : slotWith (r .n) (r .two) ≡ noteOf (slotWith (f .n) (f .two)) (wanted 1) b p
+  pub three : slotWith (r .n) (r .three) ≡ noteOf (slotWith (f .n) (f .three)) (wanted 2) b p
+  pub four : slotWith (r .n) (r .four) ≡ noteOf (slotWith (f .n) (f .four)) (wanted 3) b p
 
 -- the slot of track i, from 0
 unfoldable pub trackSlot : Movie → ℕ → Slot

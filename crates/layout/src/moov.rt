@@ -10,7 +10,7 @@ ghost use mathlib.Core.Path.{_≡_};
 ghost use Prim.Native.Nat.{_+_, _^_, _≤_, _<_};
 ghost use Rattle.wire.specs.Tests.{ifEq};
 ghost use Rattle.layout.specs.Slots.{firstWith, Lies, Gathered};
-ghost use Rattle.layout.specs.Tracks.{wanted, slotOf, fiveOf, Further};
+ghost use Rattle.layout.specs.Tracks.{wanted, slotWith, fiveOf, Further};
 
 // Where the payload of a box starts and ends in the file.
 pub struct Ends {
@@ -30,7 +30,7 @@ pub struct Four {
 // The ends of track i, past one more track, number n, at b of a part that starts at base.
 fn ends_past(e: Ends, n: usize, i: usize, b: BoxAt, base: usize) -> Ends
     requires { ⌜ (b .head ≤ b .span) × (base + (b .at + b .span) < 2 ^ 63) ⌝ }
-    ensures { λ r. ⌜ slotOf (n + 1) r ≡ ifEq n i (record { n = n + 1; from = base + (b .at + b .head); to = base + (b .at + b .span) }) (slotOf (n + 1) e) ⌝ }
+    ensures { λ r. ⌜ slotWith (n + 1) r ≡ ifEq n i (record { n = n + 1; from = base + (b .at + b .head); to = base + (b .at + b .span) }) (slotWith (n + 1) e) ⌝ }
 {
     if n == i {
         return Ends {

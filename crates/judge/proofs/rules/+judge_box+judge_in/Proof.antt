@@ -3,7 +3,7 @@ use Prim.Native.Nat.{ℕ, _+_, _-_, _*_, _<_}
 use Rattle.boxes.proofs.Walking.{ran, ended, broke}
 use Rattle.boxes.specs.Boxes.{boxes}
 use Rattle.judge.proofs.Answers.{box-leaf, box-node, judge-shallow, judge-start, end-passed}
-use Rattle.judge.specs.Asked.{boxesBy}
+use Rattle.judge.specs.Asked.{ruleBy}
 use Rattle.rule.proofs.Traverse.{Found, found-more}
 use Rattle.rule.specs.declared.Verdict.the-variants.{Fine}
 use Rattle.rule.specs.Judge.{judgeBox, judgeIn}
@@ -46,7 +46,7 @@ abbrev judge-in-below : ℕ → In 2 judge-in-kinds.ps
 judge-in-below t = and 2 judge-in-kinds.ps (falls 2 judge-in-kinds.ps _<_ μ-judge-in t) judge-in.Pre
 
 abbrev judge-in-Inv-loop : judge-in-lts.InvT-loop
-judge-in-Inv-loop n file part home base k depth found₀ w₀ found w = Found (judgeBox (boxesBy n (boxes file)) (judgeIn (boxesBy n (boxes file)) (depth - 1)) k) (λ p. Fine) part base (judgeIn (boxesBy n (boxes file)) depth k part home base) found (w .at)
+judge-in-Inv-loop n file part home base k depth found₀ w₀ found w = Found (judgeBox (ruleBy n (boxes file)) (judgeIn (ruleBy n (boxes file)) (depth - 1)) k) (λ p. Fine) part base (judgeIn (ruleBy n (boxes file)) depth k part home base) found (w .at)
 
 abbrev judge-in-μ-loop : judge-in-lts.MeasureT-loop
 judge-in-μ-loop n file part home base k depth found₀ w₀ found w = length part - w .at
@@ -59,11 +59,11 @@ pub +judge-box+judge-in-spec : {M : Type 1} → statement M
     (λ c κs. search needs)
     (λ c κs. search needs)
     (λ c κs. rw (c .body .ensures, length-take, length-drop) (omega arith))
-    (λ c. let a = c .before .before .before .before .before .before .before .before .args in box-leaf (boxesBy (a .n) (boxes (a .file .now))) _ _ _ _ (c .before .before .before .kind-in .ensures) (c .before .before .if1 .taken) (rw (c .before .body .ensures) at (c .leaf-by .ensures)))
+    (λ c. let a = c .before .before .before .before .before .before .before .before .args in box-leaf (ruleBy (a .n) (boxes (a .file .now))) _ _ _ _ (c .before .before .before .kind-in .ensures) (c .before .before .if1 .taken) (rw (c .before .body .ensures) at (c .leaf-by .ensures)))
     (λ c κs. search needs)
     (λ c. search needs)
     (λ c κs. (omega arith, rw (c .body2 .ensures, length-take, length-drop) (omega arith)))
-    (λ c. let a = c .before .before .before .before .before .before .before .before .args in box-node (boxesBy (a .n) (boxes (a .file .now))) _ _ _ _ (c .before .before .before .kind-in .ensures) (c .before .before .if1 .left) (rw (c .before .body2 .ensures) at (c .judge-in .ensures))))
+    (λ c. let a = c .before .before .before .before .before .before .before .before .args in box-node (ruleBy (a .n) (boxes (a .file .now))) _ _ _ _ (c .before .before .before .kind-in .ensures) (c .before .before .if1 .left) (rw (c .before .body2 .ensures) at (c .judge-in .ensures))))
     (λ t. judge-in-lts.spec (node-by-reads.Asked, node-by-reads.Learnt, step-reads.Asked, step-reads.Learnt, judge-box-below t, judge-box.Post, sooner-reads.Asked, sooner-reads.Learnt) (judge-in-at t) judge-in.Post judge-in-Inv-loop judge-in-μ-loop
     (λ c. judge-shallow _ _ _ _ _ _ (c .if1 .taken))
     (λ c κs. search needs)

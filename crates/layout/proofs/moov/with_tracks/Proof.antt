@@ -5,7 +5,7 @@ use Rattle.boxes.proofs.Walking.{ran, ended, broke}
 use Rattle.boxes.specs.Boxes.{after}
 use Rattle.layout.proofs.Noting.{Noted, noted-none, note-fits, noted-more, stands, tiled-yea, tiled-nay}
 use Rattle.layout.specs.Slots.{firstWith, Gathered}
-use Rattle.layout.specs.Tracks.{wanted, slotOf}
+use Rattle.layout.specs.Tracks.{wanted, slotWith}
 use lib.ListN.{length, drop}
 use mathlib.Core.Path.{_≡_, refl, sym, subst, _∙_}
 use native.Mathlib.Omega.{arith}
@@ -14,9 +14,9 @@ use Rattle.layout.proofs.moov.with_tracks.Tie as tie
 
 abbrev Inv : tie.InvT-loop
 Inv file moov code part i₀ f₀ w₀ i f w =
-    Noted file part (moov .from) (firstWith code) (w .at) i × Noted file part (moov .from) (wanted 0) (w .at) (slotOf (f .n) (f .one))
-    × Noted file part (moov .from) (wanted 1) (w .at) (slotOf (f .n) (f .two)) × Noted file part (moov .from) (wanted 2) (w .at) (slotOf (f .n) (f .three))
-    × Noted file part (moov .from) (wanted 3) (w .at) (slotOf (f .n) (f .four))
+    Noted file part (moov .from) (firstWith code) (w .at) i × Noted file part (moov .from) (wanted 0) (w .at) (slotWith (f .n) (f .one))
+    × Noted file part (moov .from) (wanted 1) (w .at) (slotWith (f .n) (f .two)) × Noted file part (moov .from) (wanted 2) (w .at) (slotWith (f .n) (f .three))
+    × Noted file part (moov .from) (wanted 3) (w .at) (slotWith (f .n) (f .four))
     × (after part ≡ after (drop (w .at) part)) × (w .at ≤ length part) × (length file < 2 ^ 63)
 
 abbrev μ : tie.MeasureT-loop
