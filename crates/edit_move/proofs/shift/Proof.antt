@@ -1,3 +1,4 @@
+-- The pieces put, and then the offsets moved where `moov` now stands, are the move that is meant.
 use borrow.Author.Needs.{needs}
 use Rattle.edit_move.proofs.Calls.{move-from, move-room, move-done}
 use native.Mathlib.Omega.{arith}

@@ -1,3 +1,4 @@
+-- An accepted file has a `moov`, and its second box is where that goes.
 use borrow.Author.Needs.{needs}
 use Rattle.codes.specs.Codes.{MOOV}
 use Rattle.boxes.proofs.Cutting.{cut-as, none-as}

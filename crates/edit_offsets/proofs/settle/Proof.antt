@@ -1,3 +1,4 @@
+-- One target said three times is that target.
 use borrow.Author.Needs.{needs}
 use Rattle.boxes.proofs.Aiming.{each-alone}
 use Rattle.boxes.specs.Words.{moved}

@@ -1,3 +1,4 @@
+-- No entry 0, an entry at its place, or none past the last.
 use borrow.Author.Needs.{needs}
 use mathlib.Core.Path.{_∙_, subst}
 use Rattle.boxes.specs.Walk.{payload}

@@ -1,3 +1,4 @@
+-- The times of `mvhd`, and then those of all tracks.
 use borrow.Author.Needs.{needs}
 use Rattle.wire.proofs.Clauses.{fails, done, holds, yea, nay, was-yea, was-nay, answer, decides}
 use Rattle.edit_shift.specs.Amount.{moovTimes}

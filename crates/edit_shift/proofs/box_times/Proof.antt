@@ -1,3 +1,4 @@
+-- Only a track has times to ask.
 use borrow.Author.Needs.{needs}
 use Rattle.wire.proofs.Clauses.{yea, answer}
 use Rattle.wire.proofs.Tests.{eq-yea, eq-nay}

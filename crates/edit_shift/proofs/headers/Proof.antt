@@ -1,3 +1,4 @@
+-- The three targets are the three kinds of header.
 use borrow.Author.Needs.{needs}
 use Rattle.edit_shift.proofs.headers.Statement.{statement}
 use Rattle.edit_shift.proofs.headers.Tie as tie

@@ -1,3 +1,4 @@
+-- The file copied, and then one pass over its `moov`.
 use borrow.Author.Needs.{needs}
 use native.Mathlib.Omega.{arith}
 use Rattle.edit_shift.proofs.OnePass.{one-pass}

@@ -1,3 +1,4 @@
+-- What the payload becomes is what the box becomes, and nothing else changes.
 use borrow.Author.Needs.{needs}
 use Rattle.boxes.proofs.InPlace.{in-body}
 use Rattle.boxes.specs.Rewrite.{inBody}

@@ -1,3 +1,4 @@
+-- The spot that is found in `moov` is a place, and there is none past the last entry.
 use borrow.Author.Needs.{needs}
 use mathlib.Core.Path.{sym, _∙_, subst}
 use Rattle.movie.specs.Named.{SpotAs, InTrack}

@@ -1,3 +1,4 @@
+-- A track that is there is found.
 use borrow.Author.Needs.{needs}
 use Rattle.boxes.proofs.Cutting.{cut-as, none-as, cut-payload}
 use Rattle.codes.specs.Codes.{TRAK}

@@ -1,3 +1,4 @@
+-- An entry that is there is found.
 use borrow.Author.Needs.{needs}
 use Rattle.boxes.proofs.Cutting.{cut-as, none-as}
 use Rattle.boxes.specs.Seek.{ANY}

@@ -1,3 +1,4 @@
+-- A record of the same length leaves every offset; another moves those past `moov` by as much as the file grows.
 use borrow.Author.Needs.{needs}
 use Rattle.edit_replace.proofs.Lengths.{cut-inside}
 use Rattle.edit_replace.proofs.Written.{settle-room, still-wrote, settle-wrote}

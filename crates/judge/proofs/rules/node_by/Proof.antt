@@ -1,3 +1,4 @@
+-- Each rule by its number, and nothing by any other.
 use borrow.Author.Needs.{needs}
 use Rattle.judge.proofs.Answers.{unless-is}
 use Rattle.judge.specs.Asked.{nodeBy}
