@@ -41,10 +41,10 @@ module _ {xs : List ℕ} {c n : ℕ} {b : BoxAt} (v : Bytes xs) (s : Cut xs c n 
 
   -- as long as it says
   pub cut-size : b .span ≡ size (boxAt xs b)
-  cut-size = omega (arith, payload-length xs b (s .least) (s .inside), s .least)
+  cut-size = omega (arith, payload-length xs b (s .least) (s .inside), s .least, s .head)
 
   pub length-box : length (header (boxAt xs b) ++ payload xs b) ≡ b .span
-  length-box = rw (length-append, length-header, payload-length xs b (s .least) (s .inside)) (omega (arith, s .least, s .eight))
+  length-box = rw (length-append, length-header, payload-length xs b (s .least) (s .inside)) (omega (arith, s .least, s .head))
 
   -- the whole box lies where it starts
   pub lies-box : Lies (header (boxAt xs b) ++ payload xs b) xs (b .at)

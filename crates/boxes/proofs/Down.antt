@@ -47,7 +47,7 @@ module _ (h : List ℕ → List ℕ) (hb : (b : List ℕ) → Bytes b → Bytes 
       (bytes-nth (t .code) (t .nth) (editWay w h) (drop (t .skip) xs) (bytes-drop (t .skip) xs v) (λ b u. way-bytes w b u))
 
   same-box : (k′ c′ : ℕ) (b₀ b₁ : List ℕ) (d k : ℕ) (x : Box) → KinBox (Once k′ c′ b₀ b₁) (λ j us vs. Kin (Once k′ c′ b₀ b₁) d j us vs) k x x
-  same-box k′ c′ b₀ b₁ d k x = record { head = refl; code = refl; leaf = λ e. inl refl; node = λ e. kin-refl (Once k′ c′ b₀ b₁) (λ j c b. inl refl) d (kindIn k (x .code)) (x .body) }
+  same-box k′ c′ b₀ b₁ d k x = record { form = inl refl; code = refl; leaf = λ e. inl refl; node = λ e. kin-refl (Once k′ c′ b₀ b₁) (λ j c b. inl refl) d (kindIn k (x .code)) (x .body) }
 
   pub kin-way : {d k : ℕ} {w : List Turn} {k′ c′ : ℕ} → Down d k w k′ c′ → (xs : List ℕ) → Bytes xs → length (editWay w h xs) < 4294967296 → Kin (Once k′ c′ (endOf w xs) (h (endOf w xs))) d k xs (editWay w h xs)
   unfolding editWay overTurn endOf
@@ -55,13 +55,13 @@ module _ (h : List ℕ → List ℕ) (hb : (b : List ℕ) → Bytes b → Bytes 
       over-level c n h xs v s _ (same-box k c _ _ d k)
       (λ x q f u m.
       let i = meant-is c (x .code) z q in
-      record { head = refl; code = refl; leaf = λ o. inr (refl, i, f, ap h f); node = λ o. absurd (o (ap (kindIn k) i ∙ e)) })
+      record { form = inl refl; code = refl; leaf = λ o. inr (refl, i, f, ap h f); node = λ o. absurd (o (ap (kindIn k) i ∙ e)) })
   kin-way (into d k c n {w} {k′} {c′} z e a) xs v s =
       over-level c n (editWay w h) xs v s _ (same-box k′ c′ _ _ d k)
       (λ x q f u m.
       let i = meant-is c (x .code) z q in
       record {
-        head = refl;
+        form = inl refl;
         code = refl;
         leaf = λ o. absurd (e (ap (kindIn k) (sym i) ∙ o));
         node = λ o.

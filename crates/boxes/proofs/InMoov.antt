@@ -10,17 +10,16 @@ use Rattle.wire.specs.Tests.{ifEq}
 use Rattle.wire.specs.Numbers.{Bytes}
 use Rattle.wire.proofs.Tests.{eq-nay, eq-any}
 use Rattle.boxes.specs.declared.walk.BoxAt.{BoxAt}
-use Rattle.boxes.specs.Box.{Box, size, header, write, remade}
-use Rattle.boxes.specs.Boxes.{HEAD, boxes, after, total}
+use Rattle.boxes.specs.Box.{Box, head, size, header, write, remade}
+use Rattle.boxes.specs.Boxes.{boxes, after, total}
 use Rattle.boxes.specs.Containers.{FILE, DEPTH, parent, kindIn}
 use Rattle.boxes.specs.Walk.{payload, boxAt}
 use Rattle.boxes.specs.Seek.{count, meant, Cut}
 use Rattle.boxes.specs.Rewrite.{Bodies, Leaves, over, editBox, editIn, inBody}
-use Rattle.boxes.proofs.Whole.{Good, length-header}
-use Rattle.boxes.proofs.Reading.{All, parts, write-boxes, write-cons, write-append}
+use Rattle.boxes.proofs.Whole.{length-header}
+use Rattle.boxes.proofs.Reading.{write-boxes, write-cons, write-append}
 use Rattle.boxes.proofs.Meaning.{meant-yes}
 use Rattle.boxes.proofs.Numbered.{count-append}
-use Rattle.boxes.proofs.Every.{all-left, all-here}
 use Rattle.boxes.proofs.Rewriting.{open-over}
 use Rattle.boxes.proofs.Editing.{edit-deep, edit-length, edit-leaf, edit-node}
 use Rattle.boxes.proofs.InPlace.{header-same}
@@ -64,7 +63,7 @@ pub record OneMoov (xs : List ℕ) (b : BoxAt) : Type 0 where
   pub before : count MOOV p ≡ 0
   pub behind : count MOOV q ≡ 0
   pub at : b .at ≡ total p
-  pub head : b .head ≡ HEAD
+  pub head : b .head ≡ head x
   pub span : b .span ≡ size x
 
 -- as a search finds it
@@ -80,7 +79,7 @@ only-moov {xs} {b} v n c e =
       before = c .nth;
       behind = omega (arith, n, ap (count MOOV) (c .list), count-append MOOV (c .p) (boxAt xs b ∷ c .q), c .hit, c .nth);
       at = sym (total-before v c);
-      head = c .eight;
+      head = c .head;
       span = cut-size v c;
     }
 
@@ -130,14 +129,11 @@ module _ (g : Leaves) (outer : (c : ℕ) (b : List ℕ) → g FILE c b ≡ b) (k
         ∙ spread (o .p) (remade (o .x) new) (o .q) (after xs) rest
         ∙ ap (λ (h : List ℕ). write (o .p) ++ h ++ (new ++ end)) (header-same (o .x) new (edit-length g keeps 5 MOOV (o .x .body)))
 
-    good : All Good (o .p ++ o .x ∷ o .q)
-    good = rw (o .list) at (parts xs v .good)
-
     front-length : length front ≡ b .at + b .head
-    front-length = rw (length-append, length-header, length-write (all-left (o .p) (o .x ∷ o .q) good)) (omega (arith, o .at, o .head))
+    front-length = rw (length-append, length-header, length-write (o .p)) (omega (arith, o .at, o .head))
 
     past-length : length (front ++ o .x .body) ≡ b .at + b .span
-    past-length = rw (length-append, front-length) (omega (arith, o .head, o .span, all-here (o .p) (o .x) (o .q) good .head))
+    past-length = rw (length-append, front-length) (omega (arith, o .head, o .span))
 
     -- what code leaves
     pub moov-edit : inBody (xs ++ rest) b (editIn g 5 MOOV (payload (xs ++ rest) b)) ≡ editIn g DEPTH FILE xs ++ rest

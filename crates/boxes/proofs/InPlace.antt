@@ -9,8 +9,8 @@ use borrow.Rule.Slice.PartMut.{putMid, post-is}
 use Rattle.wire.specs.Numbers.{Bytes}
 use Rattle.boxes.specs.declared.walk.Walk.{Walk}
 use Rattle.boxes.specs.declared.walk.BoxAt.{BoxAt}
-use Rattle.boxes.specs.Box.{Box, header, write, remade}
-use Rattle.boxes.specs.Boxes.{HEAD, boxes, after}
+use Rattle.boxes.specs.Box.{Box, head, header, write, remade}
+use Rattle.boxes.specs.Boxes.{boxes, after}
 use Rattle.boxes.specs.Walk.{payload, boxAt, Ran, Over}
 use Rattle.boxes.specs.Rewrite.{Bodies, over, overBoxes, inBody, Looped}
 use Rattle.boxes.proofs.Whole.{length-header}
@@ -56,8 +56,8 @@ module _ (f : Bodies) {xs₀ xs : List ℕ} {at : ℕ} (i : Looped f xs₀ xs at
     -- what stands before the next place, and what from there on
     before : take (b .at + b .head) xs ≡ take at xs ++ header x
     before =
-        let q : b .at + b .head ≡ at + HEAD = omega (arith, s .start, s .eight) in
-        ap (λ (n : ℕ). take n xs) q ∙ take-add at HEAD xs ∙ ap (λ (t : List ℕ). take at xs ++ t) (ap (take HEAD) (ran-bytes s v) ∙ take-at (header x) (payload xs b ++ drop (w .at) xs) HEAD (length-header x))
+        let q : b .at + b .head ≡ at + head x = omega (arith, s .start, s .head) in
+        ap (λ (n : ℕ). take n xs) q ∙ take-add at (head x) xs ∙ ap (λ (t : List ℕ). take at xs ++ t) (ap (take (head x)) (ran-bytes s v) ∙ take-at (header x) (payload xs b ++ drop (w .at) xs) (head x) (length-header x))
 
     split : ys ≡ take at xs ++ (header x ++ new) ++ drop (w .at) xs
     unfolding inBody
@@ -66,7 +66,7 @@ module _ (f : Bodies) {xs₀ xs : List ℕ} {at : ℕ} (i : Looped f xs₀ xs at
         e ∙ ap (λ (t : List ℕ). t ++ (new ++ drop (b .at + b .span) xs)) before ∙ ap (λ (n : ℕ). take at xs ++ header x ++ (new ++ drop n xs)) q ∙ simp append-assoc
 
     front-length : length (take at xs ++ (header x ++ new)) ≡ w .at
-    front-length = rw (length-append, length-append, length-header, keeps, length-payload s, length-take) (omega (arith, s .next, s .inside, s .least, s .eight))
+    front-length = rw (length-append, length-append, length-header, keeps, length-payload s, length-take) (omega (arith, s .next, s .inside, s .least, s .head))
 
     pub looped-more : Looped f xs₀ ys (w .at)
     looped-more =

@@ -2,14 +2,16 @@
 use Prim.Native.Nat.{ℕ, zero, suc, _<_}
 use mathlib.Core.Path.{_≡_, refl, sym, ap, subst, _∙_}
 use mathlib.Core.List.{List, [], map}
+use mathlib.Core.Logic.{inl, inr}
 use lib.ListN.{length}
 use Rattle.wire.specs.Numbers.{Bytes}
+use Rattle.boxes.specs.declared.walk.Form.{Form}
 use Rattle.boxes.specs.Box.{Box}
 use Rattle.boxes.specs.Boxes.{boxes}
 use Rattle.boxes.specs.Containers.{kindIn}
 use Rattle.boxes.specs.Seek.{ANY, count, nth}
 use Rattle.boxes.specs.Rewrite.{Bodies, Leaves, over, editBox, editIn}
-use Rattle.boxes.specs.Kin.{Leaf, KinBox, Kin}
+use Rattle.boxes.specs.Kin.{Leaf, Formed, KinBox, Kin}
 use Rattle.boxes.proofs.Reading.{parts}
 use Rattle.boxes.proofs.Rewriting.{boxes-over, after-over, small}
 use Rattle.boxes.proofs.Pairs.{all2-refl, all2-less, all2-then, all2-codes, all2-count, all2-nth, all2-over}
@@ -21,7 +23,13 @@ use Rattle.boxes.proofs.Meaning.{meant-is}
 pub kin-refl : (G : Leaf) → ((k c : ℕ) (b : List ℕ) → G k c b b) → (d k : ℕ) (xs : List ℕ) → Kin G d k xs xs
 kin-refl G h zero k xs = refl
 kin-refl G h (suc d) k xs =
-    (all2-refl (λ x. record { head = refl; code = refl; leaf = λ e. h k (x .code) (x .body); node = λ e. kin-refl G h d (kindIn k (x .code)) (x .body) }) (boxes xs), refl)
+    (all2-refl (λ x. record { form = inl refl; code = refl; leaf = λ e. h k (x .code) (x .body); node = λ e. kin-refl G h d (kindIn k (x .code)) (x .body) }) (boxes xs), refl)
+
+-- once closed, a `moov` stays so
+formed-then : {k c : ℕ} {f g h : Form} → Formed k c f g → Formed k c g h → Formed k c f h
+formed-then {k} {c} {f} {h = h} (inl e) q = rw e q
+formed-then {k} {c} {f} {h = h} (inr (a, b, o, p)) (inl e) = inr (a, b, o, sym e ∙ p)
+formed-then {k} {c} {f} {h = h} (inr (a, b, o, p)) (inr (x, y, z, w)) = inr (a, b, o, w)
 
 -- first G, and then H
 abbrev pub Then : Leaf → Leaf → Leaf
@@ -32,7 +40,7 @@ module _ (G H : Leaf) where
   kin-then zero k xs ys zs p q = p ∙ q
   kin-then (suc d) k xs ys zs (a, e) (b, f) = (
     all2-then (λ x y z r s. record {
-      head = r .head ∙ s .head;
+      form = formed-then (r .form) (rw (← r .code) at (s .form));
       code = r .code ∙ s .code;
       leaf = λ n. (y .body, r .leaf n, rw (← r .code) at (s .leaf (rw (← r .code) n)));
       node = λ n. kin-then d (kindIn k (x .code)) (x .body) (y .body) (z .body) (r .node n) (rw (← r .code) at (s .node (rw (← r .code) n)));
@@ -46,7 +54,7 @@ module _ (G H : Leaf) (h : (k c : ℕ) (b b′ : List ℕ) → G k c b b′ → 
   kin-less zero k xs ys e = e
   kin-less (suc d) k xs ys (a, e) = (
     all2-less (λ x y r. record {
-      head = r .head;
+      form = r .form;
       code = r .code;
       leaf = λ z. h k (x .code) (x .body) (y .body) (r .leaf z);
       node = λ z. kin-less d (kindIn k (x .code)) (x .body) (y .body) (r .node z);
@@ -83,7 +91,7 @@ module _ (g : Leaves) where
       → (x : Box) → Bytes (x .body) → length (editBox g (editIn g d) k (x .code) (x .body)) < 4294967296 → KinBox Made (λ j us vs. Kin Made d j us vs) k x (over (editBox g (editIn g d) k) x)
   box-edit d k ih x w s =
       record {
-        head = refl;
+        form = inl refl;
         code = refl;
         leaf = λ e. (sym (edit-leaf g (editIn g d) k (x .code) (x .body) refl e refl), w);
         node = λ e.

@@ -8,14 +8,13 @@ use lib.Seq.{take-at, take-all, drop-at, drop-drop, take-append-le, drop-append-
 use Rattle.wire.specs.Numbers.{Bytes}
 use Rattle.wire.proofs.Lists.{drop-past}
 use Rattle.wire.proofs.Numbers.{bytes-drop, bytes-take}
-use Rattle.boxes.specs.Box.{Box, size, header, write}
+use Rattle.boxes.specs.Box.{Box, head, size, header, write}
 use Rattle.boxes.specs.Boxes.{boxes, after}
-use Rattle.boxes.specs.Seek.{ANY, count, nth, placeBy, placeIn, startIn}
+use Rattle.boxes.specs.Seek.{ANY, count, nth, placeBy, placeIn, startIn, formIn}
 use Rattle.boxes.specs.Way.{boxBy}
-use Rattle.boxes.proofs.Whole.{Good, length-header}
+use Rattle.boxes.proofs.Whole.{length-header}
 use Rattle.boxes.proofs.Reading.{All, parts, write-cons}
-use Rattle.boxes.proofs.Every.{all-head, all-tail}
-use Rattle.boxes.proofs.Meaning.{meant-is, nth-hit, nth-next, nth-miss, place-hit, place-next, place-miss}
+use Rattle.boxes.proofs.Meaning.{meant-is, nth-hit, nth-next, nth-miss, place-hit, place-next, place-miss, form-hit, form-next, form-miss}
 use Rattle.boxes.proofs.Numbered.{by-number}
 
 -- ys stands in xs from place p on
@@ -53,33 +52,33 @@ lies-in {zs} {ys} {xs} {q} {p} l m =
 -- ---- what is found
 
 -- with a box more before it
-lies-behind : (x : Box) → Good x → (l : List Box) (r : List ℕ) {ys : List ℕ} {p : ℕ} → Lies ys (write l ++ r) p → Lies ys (write (x ∷ l) ++ r) (size x + p)
-lies-behind x g l r i = rw (write-cons x l r, ← append-assoc) (lies-past (header x ++ x .body) (size x) (rw (length-append, length-header) (omega (arith, g .head))) i)
+lies-behind : (x : Box) (l : List Box) (r : List ℕ) {ys : List ℕ} {p : ℕ} → Lies ys (write l ++ r) p → Lies ys (write (x ∷ l) ++ r) (size x + p)
+lies-behind x l r i = rw (write-cons x l r, ← append-assoc) (lies-past (header x ++ x .body) (size x) (rw (length-append, length-header)) i)
 
-lies-nth : (c n : ℕ) (l : List Box) → All Good l → (r : List ℕ) → Lies (nth c n l) (write l ++ r) (startIn c n l)
+lies-nth : (c n : ℕ) (l : List Box) (r : List ℕ) → Lies (nth c n l) (write l ++ r) (startIn c n l)
 unfolding nth startIn placeBy write
 lies-nth c =
-    by-number c (λ n l. All Good l → (r : List ℕ) → Lies (nth c n l) (write l ++ r) (startIn c n l))
-    (λ n a r. lies-none r 0 (omega arith))
-    (λ n x l e ih a r. rw (nth-miss c x l e n, place-miss c x l e (λ y. y .head) n) (lies-behind x (all-head a) l r (ih (all-tail a) r)))
-    (λ x l e a r. rw (nth-hit c x l e, place-hit c x l e (λ y. y .head), write-cons x l r) (lies-front (header x) (x .body) (write l ++ r) (x .head) (rw (length-header, all-head a .head))))
-    (λ n x l e ih a r. rw (nth-next c x l e n, place-next c x l e (λ y. y .head) n) (lies-behind x (all-head a) l r (ih (all-tail a) r)))
+    by-number c (λ n l. (r : List ℕ) → Lies (nth c n l) (write l ++ r) (startIn c n l))
+    (λ n r. lies-none r 0 (omega arith))
+    (λ n x l e ih r. rw (nth-miss c x l e n, place-miss c x l e head n) (lies-behind x l r (ih r)))
+    (λ x l e r. rw (nth-hit c x l e, place-hit c x l e head, write-cons x l r) (lies-front (header x) (x .body) (write l ++ r) (head x) (length-header x)))
+    (λ n x l e ih r. rw (nth-next c x l e n, place-next c x l e head n) (lies-behind x l r (ih r)))
 
 -- the payload of the n-th box that c means, where there is one; else nothing
 pub lies-found : (c n : ℕ) (xs : List ℕ) → Bytes xs → Lies (nth c n (boxes xs)) xs (startIn c n (boxes xs))
-lies-found c n xs v = rw (parts xs v .again) at (lies-nth c n (boxes xs) (parts xs v .good) (after xs))
+lies-found c n xs v = rw (parts xs v .again) at (lies-nth c n (boxes xs) (after xs))
 
 -- the n-th box of a code lies where it starts, header and all
-whole-nth : (c : ℕ) → (c ≡ ANY → ⊥) → (n : ℕ) (l : List Box) → All Good l → n < count c l → (r : List ℕ) → Lies (boxBy c (nth c n l)) (write l ++ r) (placeIn c n l)
-unfolding count placeIn boxBy header
+whole-nth : (c : ℕ) → (c ≡ ANY → ⊥) → (n : ℕ) (l : List Box) → n < count c l → (r : List ℕ) → Lies (boxBy (formIn c n l) c (nth c n l)) (write l ++ r) (placeIn c n l)
+unfolding count placeIn boxBy
 whole-nth c z =
-    by-number c (λ n l. All Good l → n < count c l → (r : List ℕ) → Lies (boxBy c (nth c n l)) (write l ++ r) (placeIn c n l))
-    (λ n a h r. absurd (omega arith))
-    (λ n x l e ih a h r. rw (nth-miss c x l e n, place-miss c x l e (λ y. 0) n) (lies-behind x (all-head a) l r (ih (all-tail a) (omega arith) r)))
-    (λ x l e a h r.
-    let q : boxBy c (x .body) ≡ header x ++ x .body = rw (meant-is c (x .code) z e, all-head a .head) in
-    rw (nth-hit c x l e, place-hit c x l e (λ y. 0), q, write-cons x l r, ← append-assoc) (lies-front [] (header x ++ x .body) (write l ++ r) 0 refl))
-    (λ n x l e ih a h r. rw (nth-next c x l e n, place-next c x l e (λ y. 0) n) (lies-behind x (all-head a) l r (ih (all-tail a) (omega arith) r)))
+    by-number c (λ n l. n < count c l → (r : List ℕ) → Lies (boxBy (formIn c n l) c (nth c n l)) (write l ++ r) (placeIn c n l))
+    (λ n h r. absurd (omega arith))
+    (λ n x l e ih h r. rw (nth-miss c x l e n, form-miss c x l e n, place-miss c x l e (λ y. 0) n) (lies-behind x l r (ih (omega arith) r)))
+    (λ x l e h r.
+    let q : boxBy (x .form) c (x .body) ≡ header x ++ x .body = ap (λ (d : ℕ). header (record { form = x .form; code = d; body = x .body }) ++ x .body) (sym (meant-is c (x .code) z e)) in
+    rw (nth-hit c x l e, form-hit c x l e, place-hit c x l e (λ y. 0), q, write-cons x l r, ← append-assoc) (lies-front [] (header x ++ x .body) (write l ++ r) 0 refl))
+    (λ n x l e ih h r. rw (nth-next c x l e n, form-next c x l e n, place-next c x l e (λ y. 0) n) (lies-behind x l r (ih (omega arith) r)))
 
-pub lies-whole : (c : ℕ) → (c ≡ ANY → ⊥) → (n : ℕ) (xs : List ℕ) → Bytes xs → n < count c (boxes xs) → Lies (boxBy c (nth c n (boxes xs))) xs (placeIn c n (boxes xs))
-lies-whole c z n xs v h = rw (parts xs v .again) at (whole-nth c z n (boxes xs) (parts xs v .good) h (after xs))
+pub lies-whole : (c : ℕ) → (c ≡ ANY → ⊥) → (n : ℕ) (xs : List ℕ) → Bytes xs → n < count c (boxes xs) → Lies (boxBy (formIn c n (boxes xs)) c (nth c n (boxes xs))) xs (placeIn c n (boxes xs))
+lies-whole c z n xs v h = rw (parts xs v .again) at (whole-nth c z n (boxes xs) h (after xs))

@@ -9,7 +9,7 @@ use borrow.Author.Tests.{eqb-true, eqb-false}
 use Rattle.wire.specs.Tests.{pick, ifEq}
 use Rattle.wire.proofs.Tests.{eq-yea, eq-nay}
 use Rattle.boxes.specs.Box.{Box, size, remade}
-use Rattle.boxes.specs.Seek.{ANY, meant, count, nth, placeBy}
+use Rattle.boxes.specs.Seek.{ANY, meant, count, nth, placeBy, formIn}
 use Rattle.boxes.specs.Way.{nthBy}
 
 -- ---- one box
@@ -74,6 +74,14 @@ module _ (c : ℕ) (x : Box) (l : List Box) where
     unfolding placeBy ifEq
     place-next f n = rw e
 
+    pub form-hit : formIn c 0 (x ∷ l) ≡ x .form
+    unfolding formIn ifEq
+    form-hit = rw e
+
+    pub form-next : (n : ℕ) → formIn c (suc n) (x ∷ l) ≡ formIn c n l
+    unfolding formIn ifEq
+    form-next n = rw e
+
     pub by-hit : (f : List ℕ → List ℕ) → nthBy c 0 f (x ∷ l) ≡ remade x (f (x .body)) ∷ l
     unfolding nthBy ifEq
     by-hit f = rw e
@@ -94,6 +102,10 @@ module _ (c : ℕ) (x : Box) (l : List Box) where
     pub place-miss : (f : Box → ℕ) (n : ℕ) → placeBy f c n (x ∷ l) ≡ size x + placeBy f c n l
     unfolding placeBy ifEq
     place-miss f n = rw e
+
+    pub form-miss : (n : ℕ) → formIn c n (x ∷ l) ≡ formIn c n l
+    unfolding formIn ifEq
+    form-miss n = rw e
 
     pub by-miss : (f : List ℕ → List ℕ) (n : ℕ) → nthBy c n f (x ∷ l) ≡ x ∷ nthBy c n f l
     unfolding nthBy ifEq

@@ -1,7 +1,7 @@
 -- Box by box: a list of which the n-th box that a code means has its body by f, and the list as it was. Assumes nothing.
 use Prim.Native.Nat.{ℕ, _+_, _≤_, _<_}
 use native.Mathlib.Omega.{arith}
-use mathlib.Core.Path.{_≡_}
+use mathlib.Core.Path.{_≡_, ap}
 use mathlib.Core.List.{List}
 use lib.ListN.{length}
 use Rattle.wire.specs.Numbers.{Bytes}
@@ -10,8 +10,9 @@ use Rattle.boxes.specs.Seek.{meant, nth}
 use Rattle.boxes.specs.Way.{nthBy}
 use Rattle.boxes.specs.Kin.{All2}
 use Rattle.boxes.specs.Kin.All2.{nil, cons}
-use Rattle.boxes.proofs.Reading.{All, Filled, length-cons}
+use Rattle.boxes.proofs.Reading.{All, Shut, shut-here, shut-past, Filled, length-cons}
 use Rattle.boxes.proofs.Reading.All.{some}
+use Rattle.boxes.proofs.Reading.Shut.{next}
 use Rattle.boxes.proofs.Every.{all-head, all-tail}
 use Rattle.boxes.proofs.Meaning.{nth-hit, nth-next, nth-miss, by-hit, by-next, by-miss}
 use Rattle.boxes.proofs.Numbered.{by-number}
@@ -27,6 +28,16 @@ module _ (c : ℕ) (f : List ℕ → List ℕ) where
       (λ n x l e ih a. rw (by-miss c x l e f n) (some (all-head a) (ih (all-tail a))))
       (λ x l e a. rw (by-hit c x l e f) (some {x = remade x (f (x .body))} (h x (all-head a)) (all-tail a)))
       (λ n x l e ih a. rw (by-next c x l e f n) (some (all-head a) (ih (all-tail a))))
+
+  -- a form stays, and so an open box is the last
+  pub nth-shut : {r : List ℕ} (n : ℕ) (l : List Box) → Shut r l → Shut r (nthBy c n f l)
+  unfolding nthBy
+  nth-shut {r} =
+      by-number c (λ n l. Shut r l → Shut r (nthBy c n f l))
+      (λ n a. a)
+      (λ n x l e ih a. rw (by-miss c x l e f n) (next (λ o. (ap (nthBy c n f) (shut-here a o .0), shut-here a o .1)) (ih (shut-past a))))
+      (λ x l e a. rw (by-hit c x l e f) (next {x = remade x (f (x .body))} {l = l} (shut-here a) (shut-past a)))
+      (λ n x l e ih a. rw (by-next c x l e f n) (next (λ o. (ap (nthBy c n f) (shut-here a o .0), shut-here a o .1)) (ih (shut-past a))))
 
   -- each is as it was, or it is the n-th, with its body by f
   pub nth-all2 : (R : Box → Box → Type 0) → ((x : Box) → R x x) → (n : ℕ) (l : List Box) → All Filled l → length (write (nthBy c n f l)) < 4294967296

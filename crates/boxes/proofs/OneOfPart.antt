@@ -12,10 +12,10 @@ use Rattle.boxes.specs.Seek.{meant, count, nth}
 use Rattle.boxes.specs.Way.{nthBy, overNth}
 use Rattle.boxes.specs.Kin.{All2}
 use Rattle.boxes.proofs.Whole.{Good}
-use Rattle.boxes.proofs.Reading.{All, parts, lengths, bytes-after}
+use Rattle.boxes.proofs.Reading.{All, Shut, parts, lengths, bytes-after}
 use Rattle.boxes.proofs.Rewriting.{bytes-write}
 use Rattle.boxes.proofs.OneOfList.{list-here, list-other}
-use Rattle.boxes.proofs.OneAmong.{nth-all, nth-all2, nth-by-length}
+use Rattle.boxes.proofs.OneAmong.{nth-all, nth-shut, nth-all2, nth-by-length}
 use Rattle.boxes.proofs.Written.{boxes-write, after-write}
 
 module _ (c n : ℕ) (f : List ℕ → List ℕ) (xs : List ℕ) where
@@ -35,15 +35,18 @@ module _ (c n : ℕ) (f : List ℕ → List ℕ) (xs : List ℕ) where
       few = omega (arith, length-append (write (nthBy c n f (boxes xs))) (after xs))
 
       good : All Good (nthBy c n f (boxes xs))
-      good = nth-all c f (λ x g. record { head = g .head; code = g .code }) n (boxes xs) (parts xs v .good)
+      good = nth-all c f (λ x g. record { code = g .code }) n (boxes xs) (parts xs v .good)
+
+      shut : Shut (after xs) (nthBy c n f (boxes xs))
+      shut = nth-shut c f n (boxes xs) (parts xs v .shut)
 
       pub boxes-nth : boxes (overNth c n f xs) ≡ nthBy c n f (boxes xs)
       unfolding overNth
-      boxes-nth = boxes-write (after xs) (parts xs v .rest) good few
+      boxes-nth = boxes-write (after xs) (parts xs v .rest) good shut few
 
       pub after-nth : after (overNth c n f xs) ≡ after xs
       unfolding overNth
-      after-nth = after-write (after xs) (parts xs v .rest) good few
+      after-nth = after-write (after xs) (parts xs v .rest) good shut few
 
       -- box by box
       pub over-level : (R : Box → Box → Type 0) → ((x : Box) → R x x)

@@ -3,7 +3,7 @@ use Prim.Native.Nat.{ℕ, _+_, _-_, _≤_}
 use native.Mathlib.Omega.{arith}
 use mathlib.Core.Path.{_≡_, refl, sym, ap, _∙_}
 use mathlib.Core.Bool.{Bool, true, false}
-use mathlib.Core.List.{List, _∷_, _++_}
+use mathlib.Core.List.{List, [], _∷_, _++_}
 use lib.ListN.{length}
 use lib.Seq.{length-take-le}
 use Rattle.wire.proofs.Clauses.{eq-is}
@@ -12,30 +12,24 @@ use Rattle.wire.specs.Numbers.{Bytes}
 use Rattle.boxes.specs.declared.walk.BoxAt.{BoxAt}
 use Rattle.boxes.specs.declared.seek.Tiling.{Tiling}
 use Rattle.boxes.specs.declared.seek.Tiling.the-variants.{Whole, Torn}
-use Rattle.boxes.specs.Box.{Box, write}
+use Rattle.boxes.specs.Box.{Box, head, write}
 use Rattle.boxes.specs.Boxes.{boxes, total, after, tiles}
 use Rattle.boxes.specs.Walk.{boxAt}
 use Rattle.boxes.specs.Seek.{tilingOf, count, nth, placeBy, placeIn, startIn, Cut}
-use Rattle.boxes.proofs.Whole.{Good}
-use Rattle.boxes.proofs.Reading.{All, Headed, heads, parts, lengths, length-cons}
-use Rattle.boxes.proofs.Reading.All.{none, some}
-use Rattle.boxes.proofs.Every.{all-map, all-left}
+use Rattle.boxes.proofs.Reading.{lengths, length-cons}
 use Rattle.boxes.proofs.Meaning.{nth-hit, nth-next, nth-miss, place-hit, place-next, place-miss}
 use Rattle.boxes.proofs.Numbered.{by-number, place-is, place-past}
 
 -- ---- boxes written take their sizes
 
-headed-write : {l : List Box} → All Headed l → length (write l) ≡ total l
+pub length-write : (l : List Box) → length (write l) ≡ total l
 unfolding write total
-headed-write none = refl
-headed-write (some {x} {l} g a) = length-cons x l ∙ omega (arith, headed-write a)
-
-pub length-write : {l : List Box} → All Good l → length (write l) ≡ total l
-length-write a = headed-write (all-map (λ x g. g .head) a)
+length-write [] = refl
+length-write (x ∷ l) = length-cons x l ∙ omega (arith, length-write l)
 
 -- the boxes of a part, and then what is past them
 pub total-is : (xs : List ℕ) → total (boxes xs) + length (after xs) ≡ length xs
-total-is xs = omega (arith, headed-write (heads xs), lengths xs)
+total-is xs = omega (arith, length-write (boxes xs), lengths xs)
 
 -- where the n-th box starts, and all of its payload
 pub place-most : (c n : ℕ) (l : List Box) → placeIn c n l ≤ total l
@@ -52,17 +46,15 @@ unfolding startIn placeBy nth total
 start-most c =
     by-number c (λ n l. startIn c n l + length (nth c n l) ≤ total l)
     (λ n. omega arith)
-    (λ n x l e ih. rw (nth-miss c x l e n, place-miss c x l e (λ y. y .head) n) (omega arith))
-    (λ x l e. rw (nth-hit c x l e, place-hit c x l e (λ y. y .head)) (omega arith))
-    (λ n x l e ih. rw (nth-next c x l e n, place-next c x l e (λ y. y .head) n) (omega arith))
+    (λ n x l e ih. rw (nth-miss c x l e n, place-miss c x l e head n) (omega arith))
+    (λ x l e. rw (nth-hit c x l e, place-hit c x l e head) (omega arith))
+    (λ n x l e ih. rw (nth-next c x l e n, place-next c x l e head n) (omega arith))
 
 -- ---- the n-th box
 
 -- the boxes before it end where it starts
 pub total-before : {xs : List ℕ} {c n : ℕ} {b : BoxAt} → Bytes xs → (s : Cut xs c n b) → total (s .p) ≡ b .at
-total-before {xs} {b = b} v s =
-    let g : All Good (s .p ++ boxAt xs b ∷ s .q) = rw (s .list) at (parts xs v .good) in
-    sym (length-write (all-left (s .p) _ g)) ∙ sym (ap length (s .before)) ∙ length-take-le (b .at) xs (omega (arith, s .inside))
+total-before {xs} {b = b} v s = sym (length-write (s .p)) ∙ sym (ap length (s .before)) ∙ length-take-le (b .at) xs (omega (arith, s .inside))
 
 by-cut : (f : Box → ℕ) (c : ℕ) {xs : List ℕ} {n : ℕ} {b : BoxAt} → Bytes xs → Cut xs c n b → placeBy f c n (boxes xs) ≡ b .at + f (boxAt xs b)
 by-cut f c {xs} {n} {b} v s = rw (s .list) (place-is f c n (s .p) (boxAt xs b) (s .q) (s .nth) (s .hit) ∙ omega (arith, total-before v s))
@@ -76,7 +68,7 @@ module _ (c n : ℕ) (xs : List ℕ) (v : Bytes xs) where
 
   pub start-at : {b : BoxAt} → Cut xs c n b → (b .at + b .head ≡ startIn c n (boxes xs)) × (b .at + b .head ≤ length xs)
   unfolding startIn
-  start-at s = (sym (by-cut (λ x. x .head) c v s), omega (arith, s .inside, s .least))
+  start-at s = (omega (arith, by-cut head c v s, s .head), omega (arith, s .inside, s .least))
 
   module _ (h : count c (boxes xs) ≤ n) {r : ℕ} (e : r ≡ total (boxes xs)) where
     pub place-none : (r ≡ placeIn c n (boxes xs)) × (r ≤ length xs)
@@ -85,7 +77,7 @@ module _ (c n : ℕ) (xs : List ℕ) (v : Bytes xs) where
 
     pub start-none : (r ≡ startIn c n (boxes xs)) × (r ≤ length xs)
     unfolding startIn
-    start-none = (e ∙ sym (place-past (λ x. x .head) c n (boxes xs) h), omega (arith, total-is xs))
+    start-none = (e ∙ sym (place-past head c n (boxes xs) h), omega (arith, total-is xs))
 
 -- how a part ends, as a test
 module _ (xs : List ℕ) {t : Tiling} (e : t ≡ tilingOf xs) where

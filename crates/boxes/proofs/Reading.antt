@@ -5,13 +5,15 @@ use mathlib.Core.Path.{_≡_, refl, sym, ap, _∙_}
 use mathlib.Core.Bool.{Bool, true, false}
 use mathlib.Core.List.{List, [], _∷_, _++_, append-assoc}
 use lib.ListN.{length, drop, length-append, length-drop}
-use lib.Seq.{drop-drop}
+use lib.Seq.{drop-drop, drop-length}
 use Rattle.wire.specs.Tests.{pick}
 use Rattle.wire.specs.Numbers.{Bytes}
 use Rattle.wire.proofs.Numbers.{bytes-drop, bytes-take, word-fits}
-use Rattle.boxes.specs.Box.{Box, header, write}
-use Rattle.boxes.specs.Boxes.{HEAD, sizeOf, whole, frontBox, boxesBy, boxes, total, after}
-use Rattle.boxes.proofs.Whole.{whole-true, short-not, length-header, size-front, rebox, Good}
+use Rattle.boxes.specs.declared.walk.Form.{Form}
+use Rattle.boxes.specs.declared.walk.Form.the-variants.{Open}
+use Rattle.boxes.specs.Box.{Box, head, header, write}
+use Rattle.boxes.specs.Boxes.{formOf, sizeBy, headFront, sizeOf, whole, frontBox, boxesBy, boxes, total, after}
+use Rattle.boxes.proofs.Whole.{whole-least, short-not, length-header, size-front, rebox, Good}
 
 -- ---- the bytes of boxes
 
@@ -19,7 +21,7 @@ pub write-cons : (x : Box) (l : List Box) (r : List ℕ) → write (x ∷ l) ++ 
 unfolding write
 write-cons x l r = rw (append-assoc, append-assoc)
 
-pub length-cons : (x : Box) (l : List Box) → length (write (x ∷ l)) ≡ 8 + (length (x .body) + length (write l))
+pub length-cons : (x : Box) (l : List Box) → length (write (x ∷ l)) ≡ head x + (length (x .body) + length (write l))
 unfolding write
 length-cons x l = rw (length-append, length-header, length-append)
 
@@ -41,7 +43,7 @@ enough (suc n) (suc m) xs h k = go (whole xs) refl (enough n m (drop (sizeOf xs)
   where
     go : (t : Bool) → whole xs ≡ t → (length (drop (sizeOf xs) xs) ≤ n → length (drop (sizeOf xs) xs) ≤ m → boxesBy n (drop (sizeOf xs) xs) ≡ boxesBy m (drop (sizeOf xs) xs))
         → pick t (frontBox xs ∷ boxesBy n (drop (sizeOf xs) xs)) [] ≡ pick t (frontBox xs ∷ boxesBy m (drop (sizeOf xs) xs)) []
-    go true e ih = let w = whole-true xs e in ap (λ (l : List Box). frontBox xs ∷ l) (ih (rw length-drop (omega arith)) (rw length-drop (omega arith)))
+    go true e ih = let w = whole-least xs e in ap (λ (l : List Box). frontBox xs ∷ l) (ih (rw length-drop (omega arith)) (rw length-drop (omega arith)))
     go false e ih = refl
 
 pub boxes-stop : (xs : List ℕ) → whole xs ≡ false → boxes xs ≡ []
@@ -50,9 +52,9 @@ boxes-stop xs e = by-stop (length xs) xs e
 
 pub boxes-next : (xs : List ℕ) → whole xs ≡ true → boxes xs ≡ frontBox xs ∷ boxes (drop (sizeOf xs) xs)
 unfolding boxes
-boxes-next [] e = absurd (omega (arith, whole-true [] e))
+boxes-next [] e = absurd (omega (arith, whole-least [] e))
 boxes-next (x ∷ xs) e =
-    let w = whole-true (x ∷ xs) e in
+    let w = whole-least (x ∷ xs) e in
     rw (e, enough (length xs) (length (drop (sizeOf (x ∷ xs)) (x ∷ xs))) (drop (sizeOf (x ∷ xs)) (x ∷ xs)) (rw length-drop (omega arith)) (omega arith))
 
 pub after-stop : (xs : List ℕ) → whole xs ≡ false → after xs ≡ xs
@@ -72,7 +74,7 @@ module _ (P : List ℕ → Type 0) (none : (xs : List ℕ) → whole xs ≡ fals
   by-length (suc n) xs l = go (whole xs) refl (by-length n (drop (sizeOf xs) xs))
     where
       go : (t : Bool) → whole xs ≡ t → (length (drop (sizeOf xs) xs) ≤ n → P (drop (sizeOf xs) xs)) → P xs
-      go true e ih = let w = whole-true xs e in more xs e (ih (rw length-drop (omega arith)))
+      go true e ih = let w = whole-least xs e in more xs e (ih (rw length-drop (omega arith)))
       go false e ih = none xs e
 
   pub by-boxes : (xs : List ℕ) → P xs
@@ -84,7 +86,7 @@ lengths =
     by-boxes (λ xs. length (write (boxes xs)) + length (after xs) ≡ length xs)
     (λ xs e. rw (boxes-stop xs e, after-stop xs e) (omega arith))
     (λ xs e ih.
-    let w = whole-true xs e in
+    let w = whole-least xs e in
     rw (boxes-next xs e, after-next xs e) (omega (arith, length-cons (frontBox xs) (boxes (drop (sizeOf xs) xs)), size-front xs e, length-drop (sizeOf xs) xs)))
 
 -- ---- a property of every box
@@ -93,12 +95,22 @@ pub data All (P : Box → Type 0) : List Box → Type 0 where
   none : All P []
   some : {x : Box} {l : List Box} → P x → All P l → All P (x ∷ l)
 
--- a header of eight bytes
-abbrev pub Headed : Box → Type 0
-Headed x = x .head ≡ HEAD
+-- what holds of every box there is
+pub all-of : {P : Box → Type 0} → ((x : Box) → P x) → (l : List Box) → All P l
+all-of h [] = none
+all-of h (x ∷ l) = some (h x) (all-of h l)
 
-pub heads : (xs : List ℕ) → All Headed (boxes xs)
-heads = by-boxes (λ xs. All Headed (boxes xs)) (λ xs e. rw (boxes-stop xs e) none) (λ xs e ih. rw (boxes-next xs e) (some refl ih))
+-- an open box is the last of the list, and r, which stands past it, is empty
+pub data Shut (r : List ℕ) : List Box → Type 0 where
+  end : Shut r []
+  next : {x : Box} {l : List Box} → (x .form ≡ Open → (l ≡ []) × (r ≡ [])) → Shut r l → Shut r (x ∷ l)
+
+module _ {r : List ℕ} {x : Box} {l : List Box} where
+  pub shut-here : Shut r (x ∷ l) → x .form ≡ Open → (l ≡ []) × (r ≡ [])
+  shut-here (next o z) = o
+
+  pub shut-past : Shut r (x ∷ l) → Shut r l
+  shut-past (next o z) = z
 
 -- ---- of a part of bytes
 
@@ -108,19 +120,25 @@ Filled x = Bytes (x .body)
 
 pub record Parts (xs : List ℕ) : Type 0 where
   pub good : All Good (boxes xs)
+  pub shut : Shut (after xs) (boxes xs)
   pub filled : All Filled (boxes xs)
   pub again : write (boxes xs) ++ after xs ≡ xs
   pub rest : whole (after xs) ≡ false
 
 parts-none : (xs : List ℕ) → whole xs ≡ false → Parts xs
 unfolding write
-parts-none xs e = record { good = rw (boxes-stop xs e) none; filled = rw (boxes-stop xs e) none; again = rw (boxes-stop xs e) (after-stop xs e); rest = rw (after-stop xs e) e }
+parts-none xs e = record { good = rw (boxes-stop xs e) none; shut = rw (boxes-stop xs e) end; filled = rw (boxes-stop xs e) none; again = rw (boxes-stop xs e) (after-stop xs e); rest = rw (after-stop xs e) e }
+
+-- nothing is left past an open box
+past-open : (xs : List ℕ) → formOf xs ≡ Open → drop (sizeOf xs) xs ≡ []
+past-open xs e = ap (λ (f : Form). drop (sizeBy f xs) xs) e ∙ drop-length xs
 
 parts-more : (xs : List ℕ) → Bytes xs → whole xs ≡ true → Parts (drop (sizeOf xs) xs) → Parts xs
 parts-more xs h e p =
     record {
-      good = rw (boxes-next xs e) (some (record { head = refl; code = word-fits 4 xs 4 h }) (p .good));
-      filled = rw (boxes-next xs e) (some (bytes-take (sizeOf xs - HEAD) (drop HEAD xs) (bytes-drop HEAD xs h)) (p .filled));
+      good = rw (boxes-next xs e) (some (record { code = word-fits 4 xs 4 h }) (p .good));
+      shut = rw (boxes-next xs e, after-next xs e) (next {l = boxes (drop (sizeOf xs) xs)} (λ o. rw (past-open xs o) (boxes-stop [] (short-not [] (omega arith)), after-stop [] (short-not [] (omega arith)))) (p .shut));
+      filled = rw (boxes-next xs e) (some (bytes-take (sizeOf xs - headFront xs) (drop (headFront xs) xs) (bytes-drop (headFront xs) xs h)) (p .filled));
       again = rw (boxes-next xs e, after-next xs e) (write-cons (frontBox xs) (boxes (drop (sizeOf xs) xs)) (after (drop (sizeOf xs) xs)) ∙ rw (p .again) (rebox xs h e));
       rest = rw (after-next xs e) (p .rest);
     }

@@ -6,12 +6,15 @@ use mathlib.Core.List.{List, [], _∷_, _++_, map}
 use lib.ListN.{length, length-append}
 use Rattle.wire.specs.Numbers.{Bytes, bytes}
 use Rattle.wire.proofs.Numbers.{bytes-append, bytes-bytes}
-use Rattle.boxes.specs.Box.{Box, size, header, write}
+use Rattle.boxes.specs.declared.walk.Form.{Form}
+use Rattle.boxes.specs.declared.walk.Form.the-variants.{Plain, Wide, Open}
+use Rattle.boxes.specs.Box.{Box, fieldOf, moreOf, size, header, write}
 use Rattle.boxes.specs.Boxes.{boxes, after}
 use Rattle.boxes.specs.Rewrite.{Bodies, over, overBoxes}
 use Rattle.boxes.proofs.Whole.{Good}
-use Rattle.boxes.proofs.Reading.{All, Filled, parts, lengths, length-cons, write-boxes, bytes-after}
+use Rattle.boxes.proofs.Reading.{All, Shut, Filled, parts, lengths, length-cons, write-boxes, bytes-after}
 use Rattle.boxes.proofs.Reading.All.{none, some}
+use Rattle.boxes.proofs.Reading.Shut.{end, next}
 use Rattle.boxes.proofs.Written.{boxes-write, after-write}
 
 pub open-over : (f : Bodies) (xs : List ℕ) → overBoxes f xs ≡ write (map (over f) (boxes xs)) ++ after xs
@@ -20,7 +23,11 @@ open-over f xs = refl
 
 good-over : (f : Bodies) {l : List Box} → All Good l → All Good (map (over f) l)
 good-over f none = none
-good-over f (some {x} g a) = some {x = over f x} (record { head = g .head; code = g .code }) (good-over f a)
+good-over f (some {x} g a) = some {x = over f x} (record { code = g .code }) (good-over f a)
+
+shut-over : (f : Bodies) {r : List ℕ} {l : List Box} → Shut r l → Shut r (map (over f) l)
+shut-over f end = end
+shut-over f (next {x} {l} o z) = next {x = over f x} {l = map (over f) l} (λ e. (rw (o e .0), o e .1)) (shut-over f z)
 
 -- ---- what a rewriting holds
 
@@ -31,11 +38,11 @@ module _ (f : Bodies) (xs : List ℕ) (h : Bytes xs) (s : length (overBoxes f xs
 
   pub boxes-over : boxes (overBoxes f xs) ≡ map (over f) (boxes xs)
   unfolding overBoxes
-  boxes-over = boxes-write (after xs) (parts xs h .rest) (good-over f (parts xs h .good)) small
+  boxes-over = boxes-write (after xs) (parts xs h .rest) (good-over f (parts xs h .good)) (shut-over f (parts xs h .shut)) small
 
   pub after-over : after (overBoxes f xs) ≡ after xs
   unfolding overBoxes
-  after-over = after-write (after xs) (parts xs h .rest) (good-over f (parts xs h .good)) small
+  after-over = after-write (after xs) (parts xs h .rest) (good-over f (parts xs h .good)) (shut-over f (parts xs h .shut)) small
 
 -- ---- lengths
 
@@ -73,9 +80,16 @@ module _ (f g e : Bodies) (joins : (c : ℕ) (b : List ℕ) → Bytes b → leng
 
 -- ---- bytes
 
+bytes-more : (f : Form) (n : ℕ) → Bytes (moreOf f n)
+bytes-more Plain n = λ i. omega arith
+bytes-more Wide n = bytes-bytes 8 n
+bytes-more Open n = λ i. omega arith
+
 bytes-header : (x : Box) → Bytes (header x)
 unfolding header
-bytes-header x = bytes-append (bytes 4 (size x)) (bytes 4 (x .code)) (bytes-bytes 4 (size x)) (bytes-bytes 4 (x .code))
+bytes-header x =
+    bytes-append (bytes 4 (fieldOf (x .form) (size x))) (bytes 4 (x .code) ++ moreOf (x .form) (size x)) (bytes-bytes 4 (fieldOf (x .form) (size x)))
+    (bytes-append (bytes 4 (x .code)) (moreOf (x .form) (size x)) (bytes-bytes 4 (x .code)) (bytes-more (x .form) (size x)))
 
 pub bytes-write : {l : List Box} → All Filled l → Bytes (write l)
 unfolding write

@@ -46,7 +46,7 @@ module _ {xs : List ℕ} {at : ℕ} {b : BoxAt} {w : Walk} (s : Ran xs at b w) w
 
   -- as long as it says
   pub ran-size : size (boxAt xs b) ≡ b .span
-  ran-size = omega (arith, length-payload, s .least)
+  ran-size = omega (arith, length-payload, s .least, s .head)
 
   -- the next starts where it ends
   pub ran-next : (p : ℕ) → p + at + size (boxAt xs b) ≡ p + w .at
@@ -62,7 +62,7 @@ module _ {xs : List ℕ} {at : ℕ} {b : BoxAt} {w : Walk} (s : Ran xs at b w) w
     here : take (at + b .span) xs ≡ take at xs ++ (header (boxAt xs b) ++ payload xs b)
     here =
         let l : length (take at xs) ≡ at = length-take-le at xs (omega (arith, s .inside)) in
-        let m : length (header (boxAt xs b) ++ payload xs b) ≡ b .span = rw (length-append, length-header, length-payload) (omega (arith, s .least, s .eight)) in
+        let m : length (header (boxAt xs b) ++ payload xs b) ≡ b .span = rw (length-append, length-header, length-payload) (omega (arith, s .least, s .head)) in
         ap (take (at + b .span)) (sym (take-append-drop at xs)) ∙ take-past (take at xs) (drop at xs) at (b .span) l
         ∙ ap (λ (t : List ℕ). take at xs ++ t) (ap (take (b .span)) (ran-bytes ∙ sym (append-assoc (header (boxAt xs b)) (payload xs b) (drop (w .at) xs))) ∙ take-at (header (boxAt xs b) ++ payload xs b) (drop (w .at) xs) (b .span) m)
 
@@ -97,6 +97,7 @@ module _ {xs : List ℕ} {c seen at : ℕ} (i : Passed xs c seen at) where
           hit = omega (arith, e, meant-most c (b .code));
           before = rw (s .start) (i .bytes);
           past = rw (s .start, ← s .next, i .rest, s .rest) (sym (write-boxes (drop (w .at) xs) (bytes-drop (w .at) xs v)));
+          head = s .head;
           eight = s .eight;
           least = s .least;
           inside = rw (s .start) (s .inside);

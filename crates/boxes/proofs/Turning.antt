@@ -5,13 +5,14 @@ use mathlib.Core.Path.{_≡_, refl, sym, ap, _∙_}
 use mathlib.Core.List.{List, [], _∷_, _++_, append-assoc}
 use lib.ListN.{length, getD, take, drop, length-append, length-take, length-drop}
 use lib.Seq.{drop-cons}
-use Rattle.wire.specs.Numbers.{Bytes, bytes}
+use Rattle.wire.specs.Numbers.{Bytes}
 use Rattle.wire.specs.Writing.{Put}
 use Rattle.wire.proofs.Writing.{put-before}
 use Rattle.boxes.specs.declared.walk.BoxAt.{BoxAt}
 use Rattle.boxes.specs.declared.way.Turn.{Turn}
-use Rattle.boxes.specs.Box.{Box, size, header, remade}
-use Rattle.boxes.specs.Boxes.{HEAD, boxes, after}
+use Rattle.boxes.specs.declared.walk.Form.{Form}
+use Rattle.boxes.specs.Box.{Box, headOf, headerBy, size, header, remade}
+use Rattle.boxes.specs.Boxes.{boxes, after}
 use Rattle.boxes.specs.Walk.{payload, boxAt}
 use Rattle.boxes.specs.Seek.{count, Cut}
 use Rattle.boxes.specs.Way.{turns, overNth, overTurn, editWay, tailBy, boxBy, around, Under}
@@ -22,21 +23,17 @@ use Rattle.boxes.proofs.Reading.{write-cons, write-append, write-boxes}
 
 -- ---- of a part, as a search cuts it
 
-pub length-boxBy : (c : ℕ) (ys : List ℕ) → length (boxBy c ys) ≡ 8 + length ys
+pub length-boxBy : (f : Form) (c : ℕ) (ys : List ℕ) → length (boxBy f c ys) ≡ headOf f + length ys
 unfolding boxBy
-length-boxBy c ys = rw (length-append, length-header)
-
-boxBy-is : (xs : List ℕ) (b : BoxAt) (ys : List ℕ) → b .head ≡ HEAD → header (remade (boxAt xs b) ys) ++ ys ≡ boxBy (b .code) ys
-unfolding boxBy
-boxBy-is xs b ys e = ap (λ (n : ℕ). header (record { head = n; code = b .code; body = ys }) ++ ys) e
+length-boxBy f c ys = rw (length-append, length-header)
 
 module _ (c n : ℕ) (f : List ℕ → List ℕ) (xs : List ℕ) where
   pub nth-at : {b : BoxAt} → Cut xs c n b → around xs b (f (payload xs b)) ≡ overNth c n f xs
-  unfolding overNth around
+  unfolding overNth around boxBy
   nth-at {b} s =
       let y : Box = remade (boxAt xs b) (f (payload xs b)) in
       sym (rw (s .list, nth-by c f n (s .p) (boxAt xs b) (s .q) (s .nth) (s .hit), write-append (s .p) (y ∷ s .q), append-assoc, write-cons y (s .q) (after xs), ← s .past, ← s .before)
-      (ap (λ (t : List ℕ). take (b .at) xs ++ t) (sym (append-assoc (header y) (f (payload xs b)) (drop (b .at + b .span) xs)) ∙ ap (λ (t : List ℕ). t ++ drop (b .at + b .span) xs) (boxBy-is xs b (f (payload xs b)) (s .eight)))))
+      (ap (λ (t : List ℕ). take (b .at) xs ++ t) (sym (append-assoc (header y) (f (payload xs b)) (drop (b .at + b .span) xs)))))
 
   pub nth-missing : Bytes xs → count c (boxes xs) ≤ n → xs ≡ overNth c n f xs
   unfolding overNth
@@ -79,19 +76,19 @@ way-length (t ∷ way) n new xs =
 
 -- ---- a body first, and then its header
 
-header-of : (x : Box) (n : ℕ) → n ≡ size x → bytes 4 n ++ bytes 4 (x .code) ≡ header x
+header-of : (x : Box) (n : ℕ) → n ≡ size x → headerBy (x .form) n (x .code) ≡ header x
 unfolding header
-header-of x n e = rw e
+header-of x n e = ap (λ (m : ℕ). headerBy (x .form) m (x .code)) e
 
-pub pen-box : {ys out mid after : List ℕ} {at r n c : ℕ} → Put ys out (at + 8) r mid → n ≡ r - at → Under n c mid at r after → Put (boxBy c ys) out at r after
+pub pen-box : (f : Form) (c : ℕ) {ys out mid after : List ℕ} {at r n h : ℕ} → h ≡ headOf f → Put ys out (at + h) r mid → n ≡ r - at → Under f n c mid at r after → Put (boxBy f c ys) out at r after
 unfolding boxBy
-pen-box {ys} {out} {mid} {after} {at} {r} {n} {c} p e u =
-    let x : Box = record { head = HEAD; code = c; body = ys } in
-    let l : length (header x) ≡ 8 = length-header x in
+pen-box f c {ys} {out} {mid} {after} {at} {r} {n} {h} q p e u =
+    let x : Box = record { form = f; code = c; body = ys } in
+    let l : length (header x) ≡ h = length-header x ∙ sym q in
     record {
       next = rw (length-append, l) (omega (arith, p .next));
       same = u .same ∙ p .same;
-      is = λ h.
-          let q : bytes 4 n ++ bytes 4 c ≡ header x = header-of x n (omega (arith, p .next)) in
-          u .is (rw (p .same) h) ∙ rw (q, p .is h) (rw l at (put-before out at (header x) ys (omega (arith, p .next))));
+      is = λ k.
+          let w : headerBy f n c ≡ header x = header-of x n (omega (arith, p .next)) in
+          u .is (rw (p .same) k) ∙ rw (w, p .is k) (rw l at (put-before out at (header x) ys (omega (arith, p .next))));
     }

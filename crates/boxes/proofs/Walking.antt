@@ -4,83 +4,59 @@ use native.Mathlib.Omega.{arith}
 use mathlib.Core.Path.{_≡_, refl, sym, ap, subst, _∙_}
 use mathlib.Core.Bool.{Bool, true, false}
 use mathlib.Core.List.{List}
-use lib.Dec.{ltb, leb}
+use lib.Dec.{leb}
 use lib.ListN.{length, drop, length-drop}
 use lib.Seq.{drop-drop}
-use borrow.Author.Tests.{ltb-true, ltb-false, leb-true, leb-false}
-use Rattle.wire.specs.Tests.{pick, ifLt, ifLe}
+use borrow.Author.Tests.{leb-true, leb-false}
+use Rattle.wire.specs.Tests.{pick, ifEq, ifLe}
 use Rattle.wire.specs.Numbers.{word}
-use Rattle.wire.proofs.Tests.{lt-yea, lt-nay, le-yea, le-nay}
+use Rattle.wire.proofs.Tests.{eq-yea, eq-nay, le-yea, le-nay}
 use Rattle.wire.proofs.Numbers.{word-drop}
+use Rattle.boxes.specs.declared.walk.Form.{Form}
+use Rattle.boxes.specs.declared.walk.Form.the-variants.{Plain, Wide, Open}
 use Rattle.boxes.specs.declared.walk.Walk.{Walk}
 use Rattle.boxes.specs.declared.walk.BoxAt.{BoxAt}
 use Rattle.boxes.specs.declared.walk.Step.{Step}
 use Rattle.boxes.specs.declared.walk.Step.the-variants.{Found, End, Broken}
-use Rattle.boxes.specs.Boxes.{HEAD, sizeOf, whole}
-use Rattle.boxes.specs.Walk.{stepAt, Ran, Over, Stepped}
-use Rattle.boxes.proofs.Whole.{whole-of, small-not, long-not, short-not}
+use Rattle.boxes.specs.Box.{headOf}
+use Rattle.boxes.specs.Boxes.{formOf, sizeBy, headFront, sizeOf, whole}
+use Rattle.boxes.specs.Walk.{foundAt, stepAt, Ran, Over, Stepped}
+use Rattle.boxes.proofs.Whole.{head-least, whole-true, whole-of, not-whole, short-not}
 use Rattle.boxes.proofs.Reading.{boxes-next, boxes-stop, after-next, after-stop}
 
--- ---- the ways through a step, as the code takes them
-
 module _ (xs : List ℕ) (at : ℕ) where
-  pub step-end : length xs ≤ at → End ≡ stepAt xs at
-  unfolding stepAt
-  step-end h = le-yea _ _ _ _ _ h refl
+  abbrev ys : List ℕ
+  ys = drop at xs
 
-  pub step-rest : at < length xs → length xs < at + 8 → Broken at ≡ stepAt xs at
-  unfolding stepAt
-  step-rest h k = le-nay _ _ _ _ _ h (lt-yea _ _ _ _ _ (omega arith) refl)
+  -- ---- what a step says of the boxes
 
-  pub step-small : at + 8 ≤ length xs → word 4 xs at < 8 → Broken at ≡ stepAt xs at
-  unfolding stepAt
-  step-small h k = le-nay _ _ _ _ _ (omega arith) (lt-nay _ _ _ _ _ (omega arith) (lt-yea _ _ _ _ _ k refl))
+  over : whole ys ≡ false → Over xs at
+  over e = record { list = boxes-stop ys e; rest = after-stop ys e }
 
-  pub step-large : at + 8 ≤ length xs → 8 ≤ word 4 xs at → length xs < at + word 4 xs at → Broken at ≡ stepAt xs at
-  unfolding stepAt
-  step-large h k g = le-nay _ _ _ _ _ (omega arith) (lt-nay _ _ _ _ _ (omega arith) (lt-nay _ _ _ _ _ k (lt-yea _ _ _ _ _ (omega arith) refl)))
-
-  pub step-found : (n c : ℕ) → n ≡ word 4 xs at → c ≡ word 4 xs (at + 4) → 8 ≤ n → at + n ≤ length xs
-      → Found (record { at = at; head = HEAD; span = n; code = c }) (record { at = at + n }) ≡ stepAt xs at
-  unfolding stepAt
-  step-found n c e f h g =
-      le-nay _ _ _ _ _ (omega arith) (lt-nay _ _ _ _ _ (omega arith) (lt-nay _ _ _ _ _ (omega arith) (lt-nay _ _ _ _ _ (omega arith) (rw (e, f)))))
-
-  -- ---- what it says of the boxes
-
-  size-at : sizeOf (drop at xs) ≡ word 4 xs at
-  size-at = word-drop 4 at xs 0 ∙ ap (word 4 xs) (omega arith)
-
-  over : whole (drop at xs) ≡ false → Over xs at
-  over e = record { list = boxes-stop (drop at xs) e; rest = after-stop (drop at xs) e }
-
-  found : 8 ≤ word 4 xs at → at + word 4 xs at ≤ length xs
-      → Ran xs at (record { at = at; head = HEAD; span = word 4 xs at; code = word 4 xs (at + 4) }) (record { at = at + word 4 xs at })
-  found h l =
-      let e : whole (drop at xs) ≡ true = whole-of (drop at xs) (rw size-at h) (rw (size-at, length-drop) (omega arith)) in
-      let n : at + word 4 xs at - (at + HEAD) ≡ word 4 xs at - HEAD = omega arith in
+  found : whole ys ≡ true → Ran xs at (foundAt ys at) (record { at = at + sizeOf ys })
+  found e =
+      let w = whole-true ys e in
+      let l = length-drop at xs in
+      let n : at + sizeOf ys - (at + headFront ys) ≡ sizeOf ys - headFront ys = omega arith in
       record {
         start = refl;
-        eight = refl;
-        least = h;
-        inside = l;
+        head = refl;
+        eight = head-least (formOf ys);
+        least = w .0;
+        inside = omega (arith, head-least (formOf ys));
         next = refl;
-        list = boxes-next (drop at xs) e ∙ rw (n, size-at, word-drop 4 at xs 4, drop-drop HEAD at xs, drop-drop (word 4 xs at) at xs);
-        rest = after-next (drop at xs) e ∙ rw (size-at, drop-drop (word 4 xs at) at xs);
+        list = boxes-next ys e ∙ rw (n, drop-drop (headFront ys) at xs, drop-drop (sizeOf ys) at xs);
+        rest = after-next ys e ∙ rw (drop-drop (sizeOf ys) at xs);
       }
 
   pub stepped : Stepped xs at (stepAt xs at)
-  unfolding stepAt ifLe ifLt
-  stepped = go _ _ _ _ refl refl refl refl
+  unfolding stepAt ifLe
+  stepped = go _ _ refl refl
     where
-      go : (t₁ t₂ t₃ t₄ : Bool) → leb (length xs) at ≡ t₁ → ltb (length xs - at) HEAD ≡ t₂ → ltb (word 4 xs at) HEAD ≡ t₃ → ltb (length xs - at) (word 4 xs at) ≡ t₄
-          → Stepped xs at (pick t₁ End (pick t₂ (Broken at) (pick t₃ (Broken at) (pick t₄ (Broken at)
-          (Found (record { at = at; head = HEAD; span = word 4 xs at; code = word 4 xs (at + 4) }) (record { at = at + word 4 xs at }))))))
-      go true t₂ t₃ t₄ e₁ e₂ e₃ e₄ = let h : length xs ≤ at = leb-true _ _ e₁ in (over (short-not _ (rw length-drop (omega arith))), h)
-      go false true t₃ t₄ e₁ e₂ e₃ e₄ = let h : at < length xs = leb-false _ _ e₁ in let k : length xs - at < HEAD = ltb-true _ _ e₂ in (over (short-not _ (rw length-drop (omega arith))), refl, h)
-      go false false true t₄ e₁ e₂ e₃ e₄ = let h : at < length xs = leb-false _ _ e₁ in let k : word 4 xs at < HEAD = ltb-true _ _ e₃ in (over (small-not _ (rw size-at k)), refl, h)
-      go false false false true e₁ e₂ e₃ e₄ = let h : at < length xs = leb-false _ _ e₁ in let k : length xs - at < word 4 xs at = ltb-true _ _ e₄ in (over (long-not _ (rw (size-at, length-drop) k)), refl, h)
-      go false false false false e₁ e₂ e₃ e₄ = found (omega (arith, ltb-false)) (omega (arith, leb-false, ltb-false))
+      go : (s t : Bool) → leb (length xs) at ≡ s → whole ys ≡ t → Stepped xs at (pick s End (pick t (Found (foundAt ys at) (record { at = at + sizeOf ys })) (Broken at)))
+      go true t e f = let h : length xs ≤ at = leb-true _ _ e in (over (short-not _ (rw length-drop (omega arith))), h)
+      go false true e f = found f
+      go false false e f = (over f, refl, leb-false _ _ e)
 
   -- ---- the same of a step's answer s
 
@@ -95,3 +71,66 @@ module _ (xs : List ℕ) (at : ℕ) where
 
   pub broke : (s : Step) (p : ℕ) → s ≡ stepAt xs at → s ≡ Broken p → Over xs at × (p ≡ at) × (at < length xs)
   broke s p e f = stepped-as s (Broken p) e f
+
+-- ---- the ways through a step, as the code takes them
+
+module _ (xs : List ℕ) (at : ℕ) where
+  pub step-end : length xs ≤ at → End ≡ stepAt xs at
+  unfolding stepAt
+  step-end h = le-yea _ _ _ _ _ h refl
+
+  step-broken : at < length xs → whole (drop at xs) ≡ false → Broken at ≡ stepAt xs at
+  unfolding stepAt
+  step-broken h e = le-nay _ _ _ _ _ h (rw e)
+
+  pub step-rest : at < length xs → length xs < at + 8 → Broken at ≡ stepAt xs at
+  step-rest h k = step-broken h (short-not _ (rw length-drop (omega arith)))
+
+  -- a box of a form, which is no box where its size is too small or too large
+  module _ (f : Form) (n : ℕ) (e : formOf (drop at xs) ≡ f) (s : sizeBy f (drop at xs) ≡ n) (h : at < length xs) where
+    size-is : sizeOf (drop at xs) ≡ n
+    size-is = rw e s
+
+    step-not : (headOf f ≤ n → at + n ≤ length xs → ⊥) → Broken at ≡ stepAt xs at
+    step-not k = step-broken h (not-whole (drop at xs) (λ l m. k (rw (e, s) at l) (omega (arith, size-is, length-drop at xs))))
+
+    step-found : headOf f ≤ n → at + n ≤ length xs → Found (record { at = at; form = f; head = headOf f; span = n; code = word 4 xs (at + 4) }) (record { at = at + n }) ≡ stepAt xs at
+    unfolding stepAt
+    step-found l m =
+        let w : whole (drop at xs) ≡ true = whole-of (drop at xs) (rw (e, s) l) (omega (arith, size-is, length-drop at xs)) in
+        le-nay _ _ _ _ _ h (rw (w, e, s, word-drop 4 at xs 4))
+
+  field-at : word 4 (drop at xs) 0 ≡ word 4 xs at
+  field-at = word-drop 4 at xs 0 ∙ ap (word 4 xs) (omega arith)
+
+  -- the three forms, by their size fields
+  plain-at : 2 ≤ word 4 xs at → formOf (drop at xs) ≡ Plain
+  unfolding formOf
+  plain-at h = sym (eq-nay _ _ _ _ _ (omega (arith, field-at)) (eq-nay _ _ _ _ _ (omega (arith, field-at)) refl))
+
+  wide-at : word 4 xs at ≡ 1 → formOf (drop at xs) ≡ Wide
+  unfolding formOf
+  wide-at h = sym (eq-nay _ _ _ _ _ (omega (arith, field-at)) (eq-yea _ _ _ _ _ (field-at ∙ h) refl))
+
+  open-at : word 4 xs at ≡ 0 → formOf (drop at xs) ≡ Open
+  unfolding formOf
+  open-at h = sym (eq-yea _ _ _ _ _ (field-at ∙ h) refl)
+
+  pub plain-not : {n : ℕ} → n ≡ word 4 xs at → 2 ≤ n → at < length xs → (8 ≤ n → at + n ≤ length xs → ⊥) → Broken at ≡ stepAt xs at
+  plain-not {n} e h l k = step-not Plain n (plain-at (omega arith)) (field-at ∙ sym e) l k
+
+  pub plain-found : {n : ℕ} → n ≡ word 4 xs at → 8 ≤ n → at + n ≤ length xs
+      → Found (record { at = at; form = Plain; head = 8; span = n; code = word 4 xs (at + 4) }) (record { at = at + n }) ≡ stepAt xs at
+  plain-found {n} e h l = step-found Plain n (plain-at (omega arith)) (field-at ∙ sym e) (omega arith) h l
+
+  module _ (w : word 4 xs at ≡ 1) where
+    pub wide-not : at < length xs → (16 ≤ word 8 xs (at + 8) → at + word 8 xs (at + 8) ≤ length xs → ⊥) → Broken at ≡ stepAt xs at
+    wide-not l k = step-not Wide _ (wide-at w) (word-drop 8 at xs 8) l k
+
+    pub wide-found : {n : ℕ} → n ≡ word 8 xs (at + 8) → 16 ≤ n → at + n ≤ length xs
+        → Found (record { at = at; form = Wide; head = 16; span = n; code = word 4 xs (at + 4) }) (record { at = at + n }) ≡ stepAt xs at
+    wide-found {n} e h l = step-found Wide n (wide-at w) (word-drop 8 at xs 8 ∙ sym e) (omega arith) h l
+
+  pub open-found : word 4 xs at ≡ 0 → at + 8 ≤ length xs
+      → Found (record { at = at; form = Open; head = 8; span = length xs - at; code = word 4 xs (at + 4) }) (record { at = at + (length xs - at) }) ≡ stepAt xs at
+  open-found z l = step-found Open (length xs - at) (open-at z) (length-drop at xs) (omega arith) (omega arith) (omega arith)

@@ -3,12 +3,14 @@ use Prim.Native.Nat.{ℕ, zero, suc, _+_, _-_}
 use mathlib.Core.Bool.{Bool, true, false}
 use mathlib.Core.List.{List, [], _∷_}
 use lib.ListN.{length, take, drop}
-use Rattle.wire.specs.Tests.{pick, ifLe}
+use Rattle.wire.specs.Tests.{pick, ifEq, ifLe}
 use Rattle.wire.specs.Numbers.{word}
 use Rattle.wire.specs.Clauses.{isEq}
-use Rattle.boxes.specs.Box.{Box, size}
+use Rattle.boxes.specs.declared.walk.Form.{Form}
+use Rattle.boxes.specs.declared.walk.Form.the-variants.{Plain, Wide, Open}
+use Rattle.boxes.specs.Box.{Box, headOf, size}
 
--- the length of a header
+-- the length of a plain header, and the least of any
 abbrev pub HEAD : ℕ
 HEAD = 8
 
@@ -16,17 +18,29 @@ HEAD = 8
 abbrev pub FRONT : ℕ
 FRONT = 8
 
--- what the size field at the front says
+-- the form of the box at the front, by its size field
+unfoldable pub formOf : List ℕ → Form
+formOf xs = ifEq (word 4 xs 0) 0 Open (ifEq (word 4 xs 0) 1 Wide Plain)
+
+-- its size, which each form says in its own way; an open box reaches to the end
+abbrev pub sizeBy : Form → List ℕ → ℕ
+sizeBy Plain xs = word 4 xs 0
+sizeBy Wide xs = word 8 xs 8
+sizeBy Open xs = length xs
+
+abbrev pub headFront : List ℕ → ℕ
+headFront xs = headOf (formOf xs)
+
 abbrev pub sizeOf : List ℕ → ℕ
-sizeOf xs = word 4 xs 0
+sizeOf xs = sizeBy (formOf xs) xs
 
 -- a whole box stands at the front: its size is at least its header's, and it ends inside
 unfoldable pub whole : List ℕ → Bool
-whole xs = ifLe HEAD (sizeOf xs) (ifLe (sizeOf xs) (length xs) true false) false
+whole xs = ifLe (headFront xs) (sizeOf xs) (ifLe (sizeOf xs) (length xs) true false) false
 
 -- the box at the front, where it is whole
 abbrev pub frontBox : List ℕ → Box
-frontBox xs = record { head = HEAD; code = word 4 xs 4; body = take (sizeOf xs - HEAD) (drop HEAD xs) }
+frontBox xs = record { form = formOf xs; code = word 4 xs 4; body = take (sizeOf xs - headFront xs) (drop (headFront xs) xs) }
 
 abbrev pub boxesBy : ℕ → List ℕ → List Box
 boxesBy zero xs = []

@@ -5,12 +5,14 @@ use mathlib.Core.List.{List, [], _∷_, _++_}
 use lib.ListN.{length, take, drop}
 use Rattle.wire.specs.Tests.{pick, ifEq}
 use Rattle.boxes.specs.declared.walk.BoxAt.{BoxAt}
+use Rattle.boxes.specs.declared.walk.Form.{Form}
+use Rattle.boxes.specs.declared.walk.Form.the-variants.{Plain}
 use Rattle.boxes.specs.declared.seek.Tiling.{Tiling}
 use Rattle.boxes.specs.declared.seek.Tiling.the-variants.{Whole, Torn}
 use Rattle.boxes.specs.declared.seek.Seen.{Seen}
 use Rattle.boxes.specs.declared.seek.Seen.the-variants.{At, Missing}
-use Rattle.boxes.specs.Box.{Box, size, write}
-use Rattle.boxes.specs.Boxes.{HEAD, boxes, after, tiles}
+use Rattle.boxes.specs.Box.{Box, headOf, head, size, write}
+use Rattle.boxes.specs.Boxes.{boxes, after, tiles}
 use Rattle.boxes.specs.Walk.{boxAt}
 
 -- boxes tile the part, or the tiling is torn where the bytes past the last box start
@@ -52,7 +54,12 @@ unfoldable pub placeIn : ℕ → ℕ → List Box → ℕ
 placeIn c n l = placeBy (λ x. 0) c n l
 
 unfoldable pub startIn : ℕ → ℕ → List Box → ℕ
-startIn c n l = placeBy (λ x. x .head) c n l
+startIn c n l = placeBy head c n l
+
+-- the form of the n-th box that c means; that of a plain one where there is none
+unfoldable pub formIn : ℕ → ℕ → List Box → Form
+formIn c n [] = Plain
+formIn c n (x ∷ l) = ifEq (meant c (x .code)) 0 (formIn c n l) (byNumber n (x .form) (λ m. formIn c m l))
 
 -- b is the n-th box that c means: the boxes before it, and those after it
 pub record Cut (xs : List ℕ) (c n : ℕ) (b : BoxAt) : Type 0 where
@@ -63,7 +70,8 @@ pub record Cut (xs : List ℕ) (c n : ℕ) (b : BoxAt) : Type 0 where
   pub hit : meant c (b .code) ≡ 1
   pub before : take (b .at) xs ≡ write p
   pub past : drop (b .at + b .span) xs ≡ write q ++ after xs
-  pub eight : b .head ≡ HEAD
+  pub head : b .head ≡ headOf (b .form)
+  pub eight : 8 ≤ b .head
   pub least : b .head ≤ b .span
   pub inside : b .at + b .span ≤ length xs
 

@@ -3,35 +3,37 @@ use Prim.Native.Nat.{ℕ, _+_, _-_, _≤_, _<_}
 use mathlib.Core.Path.{_≡_}
 use mathlib.Core.List.{List, [], _∷_}
 use lib.ListN.{length, take, drop}
-use Rattle.wire.specs.Tests.{ifLt, ifLe}
+use Rattle.wire.specs.Tests.{pick, ifLe}
 use Rattle.wire.specs.Numbers.{word}
 use Rattle.boxes.specs.declared.walk.Walk.{Walk}
 use Rattle.boxes.specs.declared.walk.BoxAt.{BoxAt}
 use Rattle.boxes.specs.declared.walk.Step.{Step}
 use Rattle.boxes.specs.declared.walk.Step.the-variants.{Found, End, Broken}
-use Rattle.boxes.specs.Box.{Box}
-use Rattle.boxes.specs.Boxes.{HEAD, boxes, after}
+use Rattle.boxes.specs.Box.{Box, headOf}
+use Rattle.boxes.specs.Boxes.{formOf, headFront, sizeOf, whole, boxes, after}
 
--- rule 2 at one place: nothing left; a rest too short for a header; a size that is too small, or ends past the part; a box
+-- the box that ys, the bytes from a place on, start with
+abbrev pub foundAt : List ℕ → ℕ → BoxAt
+foundAt ys at = record { at = at; form = formOf ys; head = headFront ys; span = sizeOf ys; code = word 4 ys 4 }
+
+-- rule 2 at one place: nothing left; a whole box; or no box, which breaks it there
 unfoldable pub stepAt : List ℕ → ℕ → Step
 stepAt xs at =
     ifLe (length xs) at End
-    (ifLt (length xs - at) HEAD (Broken at)
-    (ifLt (word 4 xs at) HEAD (Broken at)
-    (ifLt (length xs - at) (word 4 xs at) (Broken at)
-    (Found (record { at = at; head = HEAD; span = word 4 xs at; code = word 4 xs (at + 4) }) (record { at = at + word 4 xs at })))))
+    (pick (whole (drop at xs)) (Found (foundAt (drop at xs) at) (record { at = at + sizeOf (drop at xs) })) (Broken at))
 
 -- the payload of a box that was found, and the box
 abbrev pub payload : List ℕ → BoxAt → List ℕ
 payload xs b = take (b .at + b .span - (b .at + b .head)) (drop (b .at + b .head) xs)
 
 abbrev pub boxAt : List ℕ → BoxAt → Box
-boxAt xs b = record { head = b .head; code = b .code; body = payload xs b }
+boxAt xs b = record { form = b .form; code = b .code; body = payload xs b }
 
 -- a box was found at place at: it lies inside, and it is the first of the boxes from there on
 pub record Ran (xs : List ℕ) (at : ℕ) (b : BoxAt) (w : Walk) : Type 0 where
   pub start : b .at ≡ at
-  pub eight : b .head ≡ HEAD
+  pub head : b .head ≡ headOf (b .form)
+  pub eight : 8 ≤ b .head
   pub least : b .head ≤ b .span
   pub inside : at + b .span ≤ length xs
   pub next : w .at ≡ at + b .span

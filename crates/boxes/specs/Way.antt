@@ -4,12 +4,12 @@ use mathlib.Core.Path.{_≡_}
 use mathlib.Core.List.{List, [], _∷_, _++_}
 use lib.ListN.{length, take, drop}
 use Rattle.wire.specs.Tests.{ifEq}
-use Rattle.wire.specs.Numbers.{bytes}
 use Rattle.wire.specs.Writing.{put}
 use Rattle.boxes.specs.declared.walk.BoxAt.{BoxAt}
 use Rattle.boxes.specs.declared.way.Turn.{Turn}
-use Rattle.boxes.specs.Box.{Box, header, write, remade}
-use Rattle.boxes.specs.Boxes.{HEAD, boxes, after}
+use Rattle.boxes.specs.declared.walk.Form.{Form}
+use Rattle.boxes.specs.Box.{Box, headOf, headerBy, header, write, remade}
+use Rattle.boxes.specs.Boxes.{boxes, after}
 use Rattle.boxes.specs.Seek.{meant, byNumber}
 
 -- the n-th box that c means, from 0, with its body by f
@@ -40,21 +40,22 @@ editWay (t ∷ w) h xs = overTurn t (λ ys. editWay w h ys) xs
 abbrev pub tailBy : ℕ → List ℕ → List ℕ → List ℕ
 tailBy n new xs = take n xs ++ new
 
--- a box of a code over a body
-unfoldable pub boxBy : ℕ → List ℕ → List ℕ
-boxBy c ys = header (record { head = HEAD; code = c; body = ys }) ++ ys
+-- a box of a form and a code over a body
+unfoldable pub boxBy : Form → ℕ → List ℕ → List ℕ
+boxBy f c ys = header (record { form = f; code = c; body = ys }) ++ ys
 
--- a part with ys for the body of its box b
+-- a part with ys for the body of its box b, whose form stays
 unfoldable pub around : List ℕ → BoxAt → List ℕ → List ℕ
-around xs b ys = take (b .at) xs ++ (boxBy (b .code) ys ++ drop (b .at + b .span) xs)
+around xs b ys = take (b .at) xs ++ (boxBy (b .form) (b .code) ys ++ drop (b .at + b .span) xs)
 
 -- a header for a box of n bytes, put at place at before what ends at place r, where that fits
-pub record Under (n c : ℕ) (out : List ℕ) (at r : ℕ) (after : List ℕ) : Type 0 where
+pub record Under (f : Form) (n c : ℕ) (out : List ℕ) (at r : ℕ) (after : List ℕ) : Type 0 where
   pub same : length after ≡ length out
-  pub is : r ≤ length out → after ≡ put out at (bytes 4 n ++ bytes 4 c)
+  pub is : r ≤ length out → after ≡ put out at (headerBy f n c)
 
 -- a box lies in a part
 pub record BoxInside (xs : List ℕ) (b : BoxAt) : Type 0 where
-  pub eight : b .head ≡ HEAD
+  pub head : b .head ≡ headOf (b .form)
+  pub eight : 8 ≤ b .head
   pub least : b .head ≤ b .span
   pub inside : b .at + b .span ≤ length xs

@@ -1,24 +1,36 @@
 // The walk over the boxes of a part, by value.
 use wire::number;
 ghost use mathlib.Core.Path.{_≡_};
-ghost use Prim.Native.Nat.{_+_, _≤_};
+ghost use Prim.Native.Nat.{_+_, _-_, _≤_, _<_};
 ghost use lib.ListN.{length};
+ghost use Rattle.wire.specs.Numbers.{word};
+ghost use Rattle.boxes.specs.declared.walk.Step.the-variants.{Found};
 ghost use Rattle.boxes.specs.Walk.{stepAt, payload};
 
-// The length of a header.
+// The length of a plain header, and of a wide one.
 pub const HEAD: usize = 8;
+
+pub const WIDE_HEAD: usize = 16;
 
 // The length of version, flags and count, which stand before the boxes that an `stsd` or a `dref` lists.
 pub const FRONT: usize = 8;
+
+// How a header says the size of its box: in its size field; in eight bytes more, after a 1; or by a 0 that it reaches to the end.
+pub enum Form {
+    Plain,
+    Wide,
+    Open,
+}
 
 // The place that a walk has come to.
 pub struct Walk {
     pub at: usize,
 }
 
-// A box in a part: where it starts, how long its header and how long all of it is, and its code.
+// A box in a part: where it starts, its header's form and length, how long all of it is, and its code.
 pub struct BoxAt {
     pub at: usize,
+    pub form: Form,
     pub head: usize,
     pub span: usize,
     pub code: usize,
@@ -28,6 +40,56 @@ pub enum Step {
     Found(BoxAt, Walk),
     End,
     Broken(usize),
+}
+
+// The box at a place that has so long a header.
+fn found(part: &[u8], at: usize, form: Form, head: usize, span: usize) -> Step
+    requires { ⌜ (at + 8 ≤ length (now part)) × (span ≤ length (now part) - at) ⌝ }
+    ensures { λ r. ⌜ r ≡ Found (record { at = at; form = form; head = head; span = span; code = word 4 (now (part .entry)) (at + 4) }) (record { at = at + span }) ⌝ }
+{
+    Step::Found(
+        BoxAt {
+            at,
+            form,
+            head,
+            span,
+            code: number::word32_in(part, at + 4),
+        },
+        Walk { at: at + span },
+    )
+}
+
+// A size field of 1.
+fn wide(part: &[u8], at: usize) -> Step
+    requires { ⌜ (at + 8 ≤ length (now part)) × (word 4 (now part) at ≡ 1) ⌝ }
+    ensures { λ r. ⌜ r ≡ stepAt (now (part .entry)) at ⌝ }
+{
+    let left = part.len() - at;
+    if left < WIDE_HEAD {
+        return Step::Broken(at);
+    }
+    let span = number::word64_in(part, at + 8);
+    if span < WIDE_HEAD {
+        return Step::Broken(at);
+    }
+    if left < span {
+        return Step::Broken(at);
+    }
+    found(part, at, Form::Wide, WIDE_HEAD, span)
+}
+
+// A size field that says no size of a plain box.
+fn marked(part: &[u8], at: usize, field: usize) -> Step
+    requires { ⌜ (at + 8 ≤ length (now part)) × (field ≡ word 4 (now part) at) × (field < 8) ⌝ }
+    ensures { λ r. ⌜ r ≡ stepAt (now (part .entry)) at ⌝ }
+{
+    if field == 0 {
+        return found(part, at, Form::Open, HEAD, part.len() - at);
+    }
+    if field == 1 {
+        return wide(part, at);
+    }
+    Step::Broken(at)
 }
 
 impl Walk {
@@ -46,21 +108,12 @@ impl Walk {
         }
         let span = number::word32_in(part, at);
         if span < HEAD {
-            return Step::Broken(at);
+            return marked(part, at, span);
         }
         if left < span {
             return Step::Broken(at);
         }
-        let code = number::word32_in(part, at + 4);
-        Step::Found(
-            BoxAt {
-                at,
-                head: HEAD,
-                span,
-                code,
-            },
-            Walk { at: at + span },
-        )
+        found(part, at, Form::Plain, HEAD, span)
     }
 }
 

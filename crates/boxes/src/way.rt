@@ -3,13 +3,15 @@ use crate::seek;
 use crate::seek::Seen;
 use crate::walk;
 use crate::walk::BoxAt;
+use crate::walk::Form;
 use wire::number;
 use wire::pen;
 ghost use mathlib.Core.Path.{_≡_};
 ghost use mathlib.Core.List.{_∷_};
 ghost use Prim.Native.Nat.{_+_, _-_, _^_, _≤_, _<_};
 ghost use lib.ListN.{length, drop};
-ghost use Rattle.wire.specs.Writing.{Put};
+ghost use Rattle.wire.specs.Writing.{put, Put};
+ghost use Rattle.boxes.specs.Box.{headOf, fieldOf, moreOf};
 ghost use Rattle.boxes.specs.Walk.{payload};
 ghost use Rattle.boxes.specs.Way.{Under, BoxInside, turns, boxBy, around, tailBy, overNth, editWay};
 
@@ -32,14 +34,40 @@ fn turn_at(way: &[usize], i: usize) -> Turn
     }
 }
 
+// What the size field of a header of a form says of a box of n bytes.
+fn field(form: Form, n: usize) -> usize
+    ensures { λ r. ⌜ r ≡ fieldOf form n ⌝ }
+{
+    match form {
+        Form::Plain => n,
+        Form::Wide => 1,
+        Form::Open => 0,
+    }
+}
+
+// Puts the rest of a wide header: the size of a box of n bytes.
+fn put_wide(out: &mut [u8], at: usize, form: Form, n: usize)
+    requires { ⌜ at + headOf form ≤ length (now out) ⌝ }
+    ensures { λ _. ⌜ now (out .exit) ≡ put (now (out .entry)) (at + 8) (moreOf form n) ⌝ }
+{
+    match form {
+        Form::Plain => {}
+        Form::Wide => {
+            number::put64(out, at + 8, n);
+        }
+        Form::Open => {}
+    }
+}
+
 // Puts the header of a box that ends at place r, where the box fits.
-fn put_header(out: &mut [u8], at: usize, r: usize, code: usize)
-    requires { ⌜ (at + 8 ≤ r) × (r < 2 ^ 63) ⌝ }
-    ensures { λ _. ⌜ Under (r - at) code (now (out .entry)) at r (now (out .exit)) ⌝ }
+fn put_header(out: &mut [u8], at: usize, r: usize, form: Form, code: usize)
+    requires { ⌜ (at + headOf form ≤ r) × (r < 2 ^ 63) ⌝ }
+    ensures { λ _. ⌜ Under form (r - at) code (now (out .entry)) at r (now (out .exit)) ⌝ }
 {
     if r <= out.len() {
-        number::put32(out, at, r - at);
+        number::put32(out, at, field(form, r - at));
         number::put32(out, at + 4, code);
+        put_wide(out, at, form, r - at);
     }
 }
 
@@ -58,17 +86,18 @@ fn put_box(
     out: &mut [u8],
     at: usize,
     body: &[u8],
-    code: usize,
+    b: BoxAt,
     way: &[usize],
     i: usize,
     keep: usize,
     new: &[u8],
 ) -> usize
-    requires { ⌜ (i ≤ length (now way)) × (at + 8 + length (now body) + length (now new) < 2 ^ 62) ⌝ }
-    ensures { λ r. ⌜ Put (boxBy code (editWay (turns (drop i (now (way .entry)))) (tailBy keep (now (new .entry))) (now (body .entry)))) (now (out .entry)) at r (now (out .exit)) ⌝ }
+    requires { ⌜ (i ≤ length (now way)) × (b .head ≡ headOf (b .form)) × (at + b .head + length (now body) + length (now new) < 2 ^ 62) ⌝ }
+    ensures { λ r. ⌜ Put (boxBy (b .form) (b .code) (editWay (turns (drop i (now (way .entry)))) (tailBy keep (now (new .entry))) (now (body .entry)))) (now (out .entry)) at r (now (out .exit)) ⌝ }
 {
-    let r = put_way(out, at + walk::HEAD, body, way, i, keep, new);
-    put_header(out, at, r, code);
+    let r = put_way(out, at + b.head, body, way, i, keep, new);
+    let form = b.form;
+    put_header(out, at, r, form, b.code);
     r
 }
 
@@ -83,13 +112,13 @@ fn put_around(
     keep: usize,
     new: &[u8],
 ) -> usize
-    requires { ⌜ (i ≤ length (now way)) × (b .head ≡ 8) × (b .head ≤ b .span) × (b .at + b .span ≤ length (now src)) × (at + length (now src) + length (now new) < 2 ^ 62) ⌝ }
+    requires { ⌜ (i ≤ length (now way)) × (b .head ≡ headOf (b .form)) × (b .head ≤ b .span) × (b .at + b .span ≤ length (now src)) × (at + length (now src) + length (now new) < 2 ^ 62) ⌝ }
     ensures { λ r. ⌜ Put (around (now (src .entry)) b (editWay (turns (drop i (now (way .entry)))) (tailBy keep (now (new .entry))) (payload (now (src .entry)) b))) (now (out .entry)) at r (now (out .exit)) ⌝ }
 {
     let before = b.at;
     let past = b.at + b.span;
     let j = pen::put_part(out, at, &src[..before]);
-    let k = put_box(out, j, walk::body(src, b), b.code, way, i, keep, new);
+    let k = put_box(out, j, walk::body(src, b), b, way, i, keep, new);
     pen::put_part(out, k, &src[past..])
 }
 
@@ -151,16 +180,8 @@ pub fn put_within(
     let before = b.at;
     let past = b.at + b.span;
     let j = pen::put_part(out, 0, &src[..before]);
-    let r = put_around(
-        out,
-        j + walk::HEAD,
-        walk::body(src, b),
-        k,
-        way,
-        0,
-        keep,
-        new,
-    );
-    put_header(out, j, r, b.code);
+    let r = put_around(out, j + b.head, walk::body(src, b), k, way, 0, keep, new);
+    let form = b.form;
+    put_header(out, j, r, form, b.code);
     pen::put_part(out, r, &src[past..])
 }

@@ -211,16 +211,16 @@ word-take w n xs at h k =
 pub word-front : (n : ℕ) (xs ys : List ℕ) → take n xs ≡ ys → length ys ≡ n → (w at : ℕ) → at + w ≤ n → word w xs at ≡ word w ys at
 word-front n xs ys e l w at h = sym (word-take w n xs at h (omega (arith, length-take n xs, ap length e))) ∙ ap (λ (zs : List ℕ). word w zs at) e
 
--- the two widths of the format, as code puts them together
+-- the widths of the format, as code puts them together
 pub word16-is : (xs : List ℕ) (at : ℕ) {a b : ℕ} → a ≡ getD xs at 0 → b ≡ getD xs (at + 1) 0 → at + 2 ≤ length xs → a * 256 + b ≡ word 2 xs at
 word16-is xs at p q h = rw (p, q, ← word-byte xs at, ← word-byte xs (at + 1)) (word-join 1 1 xs at h)
 
 pub word32-is : (xs : List ℕ) (at : ℕ) {a b : ℕ} → a ≡ word 2 xs at → b ≡ word 2 xs (at + 2) → at + 4 ≤ length xs → a * 65536 + b ≡ word 4 xs at
 word32-is xs at p q h = rw (p, q) (word-join 2 2 xs at h)
 
+pub word64-is : (xs : List ℕ) (at : ℕ) {a b : ℕ} → a ≡ word 4 xs at → b ≡ word 4 xs (at + 4) → at + 8 ≤ length xs → a * 4294967296 + b ≡ word 8 xs at
+word64-is xs at p q h = rw (p, q) (word-join 4 4 xs at h)
+
 pub bytes16-is : (n : ℕ) → n / 256 % 256 ∷ n % 256 ∷ [] ≡ bytes 2 n
 unfolding bytes bytesOn
 bytes16-is n = refl
-
-pub bytes32-is : (n : ℕ) → bytes 2 (n / 65536) ++ bytes 2 n ≡ bytes 4 n
-bytes32-is n = bytes-join 2 2 n

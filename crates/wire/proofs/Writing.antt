@@ -1,5 +1,5 @@
 -- Laws of writing. Assumes nothing.
-use Prim.Native.Nat.{ℕ, _+_, _-_, _/_, _%_, _≤_, _<_}
+use Prim.Native.Nat.{ℕ, _+_, _-_, _/_, _%_, _^_, _≤_, _<_}
 use native.Mathlib.Omega.{arith}
 use native.Mathlib.Nat.{add-assoc}
 use native.Mathlib.Numerals.{add-one}
@@ -9,7 +9,7 @@ use lib.ListN.{length, getD, take, drop, set, length-append, length-take, length
 use lib.Seq.{take-add, take-append-le, take-take, take-at, drop-at, drop-drop, length-take-le, take-suc, set-split, sets-eq}
 use Rattle.wire.specs.Numbers.{bytes}
 use Rattle.wire.specs.Writing.{put, Wrote, Put}
-use Rattle.wire.proofs.Numbers.{length-bytes, bytes16-is, bytes32-is}
+use Rattle.wire.proofs.Numbers.{length-bytes, bytes16-is, bytes-join}
 
 -- ---- put
 
@@ -79,11 +79,13 @@ put-piece out at xs i k piece {held = held} m p q r h l =
 pub put16-is : (out : List ℕ) (at n : ℕ) {after : List ℕ} → after ≡ put out at (n / 256 % 256 ∷ n % 256 ∷ []) → after ≡ put out at (bytes 2 n)
 put16-is out at n e = rw (bytes16-is n) at e
 
-pub put32-is : (out : List ℕ) (at n : ℕ) {mid after : List ℕ} → mid ≡ put out at (bytes 2 (n / 65536)) → after ≡ put mid (at + 2) (bytes 2 n) → at + 4 ≤ length out → after ≡ put out at (bytes 4 n)
-put32-is out at n p q h =
-    let l = length-bytes 2 (n / 65536) in
-    let m = length-bytes 2 n in
-    q ∙ rw (p, ← bytes32-is n) (rw l at (put-put out at (bytes 2 (n / 65536)) (bytes 2 n) (omega arith)))
+-- the bytes of a number, its upper half first
+pub halves-put : (w : ℕ) (out : List ℕ) (at n : ℕ) {mid after : List ℕ} → mid ≡ put out at (bytes w (n / 256 ^ w)) → after ≡ put mid (at + w) (bytes w n) → at + (w + w) ≤ length out
+    → after ≡ put out at (bytes (w + w) n)
+halves-put w out at n p q h =
+    let l = length-bytes w (n / 256 ^ w) in
+    let m = length-bytes w n in
+    q ∙ rw (p, ← bytes-join w w n) (rw l at (put-put out at (bytes w (n / 256 ^ w)) (bytes w n) (omega arith)))
 
 -- ---- to the front
 

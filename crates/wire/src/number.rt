@@ -46,6 +46,14 @@ pub fn word32_in(part: &[u8], at: usize) -> usize
     word16_in(part, at) * 65536 + word16_in(part, at + 2)
 }
 
+// The 64-bit number at a place inside.
+pub fn word64_in(part: &[u8], at: usize) -> usize
+    requires { ⌜ at + 8 ≤ length (now part) ⌝ }
+    ensures { λ r. ⌜ r ≡ word 8 (now (part .entry)) at ⌝ }
+{
+    word32_in(part, at) * 4294967296 + word32_in(part, at + 4)
+}
+
 // The 16-bit number at any place, 0 where it doesn't lie inside.
 pub fn word16(part: &[u8], at: usize) -> usize
     ensures { λ r. ⌜ (r ≡ word 2 (now (part .entry)) at) × (r < 2 ^ 16) ⌝ }
@@ -121,4 +129,13 @@ pub fn put32(out: &mut [u8], at: usize, n: usize)
 {
     put16(out, at, n / 65536);
     put16(out, at + 2, n);
+}
+
+// Puts a number of 64 bits at a place.
+pub fn put64(out: &mut [u8], at: usize, n: usize)
+    requires { ⌜ at + 8 ≤ length (now out) ⌝ }
+    ensures { λ _. ⌜ now (out .exit) ≡ put (now (out .entry)) at (bytes 8 n) ⌝ }
+{
+    put32(out, at, n / 4294967296);
+    put32(out, at + 4, n);
 }

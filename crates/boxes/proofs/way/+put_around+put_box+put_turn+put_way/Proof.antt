@@ -70,7 +70,7 @@ pub +put-around+put-box+put-turn+put-way-spec : {M : Type 1} → statement M
     (λ c. take-size _ _ (omega arith))
     (λ c κs. rw length-take (omega arith))
     (λ c κs. search needs)
-    (λ c κs. let a = c .before .before .before .before .before .before .before .before .before .before .before .before .args in let p = c .before .before .before .before .before .before .before .before .before .before .before .before .pre .1 in let h = around-room (a .src .now) (a .b) (p .1) (p .2) (p .3) (c .before .before .before .before .put-part .ensures) _ (c .body .ensures) in (omega arith, (omega arith, omega arith)))
+    (λ c κs. let a = c .before .before .before .before .before .before .before .before .before .before .before .before .args in let p = c .before .before .before .before .before .before .before .before .before .before .before .before .pre .1 in let h = around-room (a .src .now) (a .b) (p .1) (p .2) (p .3) (c .before .before .before .before .put-part .ensures) _ (c .body .ensures) in (omega arith, (omega arith, p .1, omega arith)))
     (λ c. search needs)
     (λ c. search needs)
     (λ c. search needs)
@@ -81,13 +81,14 @@ pub +put-around+put-box+put-turn+put-way-spec : {M : Type 1} → statement M
     (λ t. put-box-lts.spec (put-way-below t, put-way.Post, put-header-reads.Asked, put-header-reads.Learnt) (and 4 put-box-kinds.ps (is 4 put-box-kinds.ps μ-put-box t) put-box.Pre) put-box.Post
     (λ c. search needs)
     (λ c κs. search needs)
-    (λ c κs. let a = c .before .before .before .before .before .before .before .before .before .args in let h = way-length (turns (drop (a .i) (a .way .now))) (a .keep) (a .new .now) (a .body .now) in let e = c .before .before .before .put-way .ensures .next in (omega arith, omega arith))
+    (λ c κs. let s = c .before .before .before .before .before .before .before .before .before .before in let a = s .args in let h = way-length (turns (drop (a .i) (a .way .now))) (a .keep) (a .new .now) (a .body .now) in let e = c .before .before .before .put-way .ensures .next in (omega (arith, s .pre .1 .1), omega arith))
     (λ c. search needs)
-    (λ c. pen-box (c .before .before .before .before .before .before .put-way .ensures) refl (c .before .before .put-header .ensures)))
+    (λ c. let s = c .before .before .before .before .before .before .before .before .before .before .before .before .before in
+    pen-box (s .args .b .form) (s .args .b .code) (s .pre .1 .1) (c .before .before .before .before .before .before .put-way .ensures) refl (c .before .before .put-header .ensures)))
     (λ t. put-turn-lts.spec (nth-reads.Asked, nth-reads.Learnt, put-around-below t, put-around.Post, put-part-reads.Asked, put-part-reads.Learnt) (put-turn-at t) put-turn.Post
     (λ c κs. search needs)
     (λ c. search needs)
-    (λ c κs. let a = c .before .before .before .before .before .before .before .before .before .args in let s = cut-as (a .src .now) (a .t .code) (a .t .nth) _ (c .before .before .before .before .nth .ensures) _ (c .before .before .b .given .1) in (omega arith, (omega arith, s .eight, s .least, s .inside, omega arith)))
+    (λ c κs. let a = c .before .before .before .before .before .before .before .before .before .args in let s = cut-as (a .src .now) (a .t .code) (a .t .nth) _ (c .before .before .before .before .nth .ensures) _ (c .before .before .b .given .1) in (omega arith, (omega arith, s .head, s .least, s .inside, omega arith)))
     (λ c. search needs)
     (λ c κs. search needs)
     (λ c. search needs)

@@ -18,35 +18,43 @@ put-within-spec = tie.close (tie.spec
     (λ c. search needs)
     (λ c. take-size _ _ (omega arith))
     (λ c κs. rw length-take (omega arith))
-    (λ c. let a = c .before .before .before .before .before .before .before .before .before .before .before .args in omega (arith, c .before .before .before .put-part .ensures .next, length-take (a .b .at) (a .src .now)))
+    (λ c.
+    let s = c .before .before .before .before .before .before .before .before .before .before .before .before in
+    omega (arith, s .pre .0 .least, s .pre .0 .inside, c .before .before .before .before .put-part .ensures .next, length-take (s .args .b .at) (s .args .src .now)))
     (λ c κs. search needs)
     (λ c κs.
-    let s = c .before .before .before .before .before .before .before .before .before .before .before .before in
+    let s = c .before .before .before .before .before .before .before .before .before .before .before .before .before in
     let a = s .args in
     let k = s .pre .1 in
     let e = ap length (c .body .ensures) in
     let i = payload-length (a .src .now) (a .b) (s .pre .0 .least) (s .pre .0 .inside) in
-    (omega arith, k .eight, k .least, omega (arith, k .inside), omega (arith, c .before .before .before .before .put-part .ensures .next, length-take (a .b .at) (a .src .now), s .pre .0 .inside)))
+    (omega arith, k .head, k .least, omega (arith, k .inside), omega (arith, c .before .before .before .before .before .put-part .ensures .next, length-take (a .b .at) (a .src .now), s .pre .0 .inside, s .pre .0 .least)))
     (λ c κs.
-    let s = c .before .before .before .before .before .before .before .before .before .before .before .before .before .before .before .before in
+    let s = c .before .before .before .before .before .before .before .before .before .before .before .before .before .before .before .before .before in
     let a = s .args in
     let i = payload-length (a .src .now) (a .b) (s .pre .0 .least) (s .pre .0 .inside) in
     let q = rw (c .before .before .before .before .body .ensures) at (c .before .before .before .put-around .ensures) in
     let z = payload (payload (a .src .now) (a .b)) (a .k) in
-    let h = around-most (payload (a .src .now) (a .b)) (a .k) (editWay (turns (a .way .now)) (tailBy (a .keep) (a .new .now)) z) (length (a .new .now)) (s .pre .1) (way-length (turns (a .way .now)) (a .keep) (a .new .now) z) in
-    (omega (arith, q .next), omega (arith, q .next, h, c .before .before .before .before .before .before .before .before .put-part .ensures .next, length-take (a .b .at) (a .src .now))))
-    (λ c. search needs)
-    (λ c. search needs)
+    let h = around-most (payload (a .src .now) (a .b)) (a .k) (editWay (turns (a .way .now)) (tailBy (a .keep) (a .new .now)) z) (length (a .new .now)) (s .pre .1)
+    (way-length (turns (a .way .now)) (a .keep) (a .new .now) z) in
+    (omega (arith, q .next, s .pre .0 .head), omega (arith, q .next, h, s .pre .0 .least, s .pre .0 .inside, c .before .before .before .before .before .before .before .before .before .put-part .ensures .next, length-take (a .b .at) (a .src .now))))
+    (λ c. omega (arith, c .before .before .before .before .before .before .before .before .before .before .before .before .before .before .before .before .before .before .before .before .before .pre .0 .inside))
+    (λ c. omega (arith, c .before .before .before .before .before .before .before .before .before .before .before .before .before .before .before .before .before .before .before .before .before .pre .0 .inside))
     (λ c. search needs)
     (λ c κs.
-    let s = c .before .before .before .before .before .before .before .before .before .before .before .before .before .before .before .before .before .before .before .before .before in
+    let s = c .before .before .before .before .before .before .before .before .before .before .before .before .before .before .before .before .before .before .before .before .before .before in
     let a = s .args in
     let i = payload-length (a .src .now) (a .b) (s .pre .0 .least) (s .pre .0 .inside) in
     let q = rw (c .before .before .before .before .before .before .before .before .before .body .ensures) at (c .before .before .before .before .before .before .before .before .put-around .ensures) in
     let z = payload (payload (a .src .now) (a .b)) (a .k) in
-    let h = around-most (payload (a .src .now) (a .b)) (a .k) (editWay (turns (a .way .now)) (tailBy (a .keep) (a .new .now)) z) (length (a .new .now)) (s .pre .1) (way-length (turns (a .way .now)) (a .keep) (a .new .now) z) in
-    rw (tail-is (a .src .now) (a .b .at + a .b .span) (s .pre .0 .inside), length-drop) (omega (arith, q .next, h, c .before .before .before .before .before .before .before .before .before .before .before .before .before .put-part .ensures .next, length-take (a .b .at) (a .src .now))))
+    let h = around-most (payload (a .src .now) (a .b)) (a .k) (editWay (turns (a .way .now)) (tailBy (a .keep) (a .new .now)) z) (length (a .new .now)) (s .pre .1)
+    (way-length (turns (a .way .now)) (a .keep) (a .new .now) z) in
+    rw (tail-is (a .src .now) (a .b .at + a .b .span) (s .pre .0 .inside), length-drop)
+    (omega (arith, q .next, h, s .pre .0 .least, s .pre .0 .inside, c .before .before .before .before .before .before .before .before .before .before .before .before .before .before .put-part .ensures .next, length-take (a .b .at) (a .src .now))))
     (λ c. search needs)
     (λ c.
-    let a = c .before .before .before .before .before .before .before .before .before .before .before .before .before .before .before .before .before .before .before .before .before .before .before .before .args in
-    around-put (a .src .now) (a .b) _ (c .before .before .before .before .before .before .before .before .before .before .before .before .before .before .before .before .put-part .ensures) (pen-box (rw (c .before .before .before .before .before .before .before .before .before .before .before .before .body .ensures) at (c .before .before .before .before .before .before .before .before .before .before .before .put-around .ensures)) refl (c .before .before .before .before .before .before .before .put-header .ensures)) (c .before .before .put-part2 .ensures) (c .before .before .before .before .before .before .before .before .before .before .before .before .before .before .before .before .before .before .before .before .before .before .before .before .pre .0 .inside)))
+    let s = c .before .before .before .before .before .before .before .before .before .before .before .before .before .before .before .before .before .before .before .before .before .before .before .before .before in
+    let a = s .args in
+    let q = rw (c .before .before .before .before .before .before .before .before .before .before .before .before .body .ensures) at (c .before .before .before .before .before .before .before .before .before .before .before .put-around .ensures) in
+    around-put (a .src .now) (a .b) _ (c .before .before .before .before .before .before .before .before .before .before .before .before .before .before .before .before .before .put-part .ensures) (pen-box (a .b .form) (a .b .code) (s .pre .0 .head) q refl (c .before .before .before .before .before .before .before .put-header .ensures))
+    (c .before .before .put-part2 .ensures) (s .pre .0 .inside)))

@@ -1,5 +1,6 @@
+-- The two halves of a number of 32 bits.
 use borrow.Author.Needs.{needs}
-use Rattle.wire.proofs.Writing.{put32-is}
+use Rattle.wire.proofs.Writing.{halves-put}
 use native.Mathlib.Omega.{arith}
 use Rattle.wire.proofs.number.put32.Statement.{statement}
 use Rattle.wire.proofs.number.put32.Tie as tie
@@ -10,4 +11,4 @@ put32-spec = tie.close (tie.spec
     (λ c. search needs)
     (λ c κs. search needs)
     (λ c. search needs)
-    (λ c. put32-is _ _ _ (c .before .before .before .before .before .before .put16 .ensures) (c .before .before .put162 .ensures) (omega arith)))
+    (λ c. halves-put 2 _ _ _ (c .before .before .before .before .before .before .put16 .ensures) (c .before .before .put162 .ensures) (omega arith)))
