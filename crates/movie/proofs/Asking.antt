@@ -8,7 +8,7 @@ use Rattle.codes.specs.Codes.{MOOV, TRAK, STSD}
 use Rattle.boxes.specs.declared.walk.BoxAt.{BoxAt}
 use Rattle.boxes.specs.declared.seek.Seen.{Seen}
 use Rattle.boxes.specs.declared.seek.Seen.the-variants as seen
-use Rattle.boxes.specs.Boxes.{boxes, HEAD, FRONT}
+use Rattle.boxes.specs.Boxes.{boxes, FRONT}
 use Rattle.boxes.specs.Seek.{ANY, find, nth, startIn, SeenAs}
 use Rattle.boxes.proofs.Numbered.{found-short}
 use Rattle.boxes.proofs.Cutting.{cut-as, none-as}
@@ -17,7 +17,7 @@ use Rattle.movie.specs.declared.entry.Named.{Named}
 use Rattle.movie.specs.declared.entry.Named.the-variants.{At, Missing}
 use Rattle.movie.specs.declared.entry.Spot.{Spot}
 use Rattle.movie.specs.declared.entry.Spot.the-variants.{In, Past}
-use Rattle.movie.specs.Ways.{toStsd, placeAlong}
+use Rattle.movie.specs.Ways.{toStsd, startAlong}
 use Rattle.movie.specs.Movie.{track, sampleTable}
 use Rattle.movie.specs.Stsds.{stsdsFrom, stsds}
 use Rattle.movie.specs.Entries.{entriesIn, entries}
@@ -41,7 +41,7 @@ spot-past xs {moov} e i r s f =
     let g : (p : ℕ) → length (entriesIn (stsdsFrom 0 (boxes moov) p)) ≤ i = subst (SpotAs moov i) f s in
     rw e at (g (startIn MOOV 0 (boxes xs)))
 
-pub list-start-is : (xs : List ℕ) (t : ℕ) {moov b : List ℕ} → moov ≡ find MOOV (boxes xs) → b ≡ track xs t → {i j k : ℕ} → i ≡ startIn MOOV 0 (boxes xs) → j ≡ startIn TRAK t (boxes moov) → k ≡ placeAlong toStsd b → i + j + k + HEAD + FRONT ≡ listStart xs t
+pub list-start-is : (xs : List ℕ) (t : ℕ) {moov b : List ℕ} → moov ≡ find MOOV (boxes xs) → b ≡ track xs t → {i j k : ℕ} → i ≡ startIn MOOV 0 (boxes xs) → j ≡ startIn TRAK t (boxes moov) → k ≡ startAlong toStsd b → i + j + k + FRONT ≡ listStart xs t
 unfolding listStart
 list-start-is xs t e f o p q = rw (o, p, q, f, e)
 

@@ -9,7 +9,7 @@ use Rattle.wire.specs.Numbers.{Bytes}
 use Rattle.codes.specs.Codes.{TRAK}
 use Rattle.wire.proofs.Tests.{eq-yea, eq-nay}
 use Rattle.boxes.specs.declared.walk.BoxAt.{BoxAt}
-use Rattle.boxes.specs.Box.{Box, size, header}
+use Rattle.boxes.specs.Box.{Box, head, size, header}
 use Rattle.boxes.specs.Boxes.{boxes, total}
 use Rattle.boxes.specs.Walk.{payload, boxAt}
 use Rattle.boxes.specs.Seek.{ANY, meant, count, Cut}
@@ -48,11 +48,11 @@ module _ (x : Box) (e : meant TRAK (x .code) ≡ 1) where
   unfolding held
   held-hit = sym (eq-yea _ _ _ _ _ track-code refl)
 
-  pub stsds-hit : (l : List Box) (t p : ℕ) → stsdsFrom t (x ∷ l) p ≡ stsdOf (t + 1) (x .body) (p + x .head) ∷ stsdsFrom (t + 1) l (p + size x)
+  pub stsds-hit : (l : List Box) (t p : ℕ) → stsdsFrom t (x ∷ l) p ≡ stsdOf (t + 1) (x .body) (p + head x) ∷ stsdsFrom (t + 1) l (p + size x)
   unfolding stsdsFrom
   stsds-hit l t p = sym (eq-yea _ _ _ _ _ track-code refl)
 
-  pub after-hit : (l : List Box) (t p : ℕ) → entriesIn (stsdsFrom t (x ∷ l) p) ≡ entriesOf (stsdOf (t + 1) (x .body) (p + x .head)) ++ entriesIn (stsdsFrom (t + 1) l (p + size x))
+  pub after-hit : (l : List Box) (t p : ℕ) → entriesIn (stsdsFrom t (x ∷ l) p) ≡ entriesOf (stsdOf (t + 1) (x .body) (p + head x)) ++ entriesIn (stsdsFrom (t + 1) l (p + size x))
   unfolding entriesIn
   after-hit l t p = ap entriesIn (stsds-hit l t p)
 

@@ -7,7 +7,7 @@ use lib.ListN.{length, drop, length-append}
 use Rattle.codes.specs.Codes.{MOOV, TRAK}
 use Rattle.boxes.specs.declared.walk.Walk.{Walk}
 use Rattle.boxes.specs.declared.walk.BoxAt.{BoxAt}
-use Rattle.boxes.specs.Box.{Box, size}
+use Rattle.boxes.specs.Box.{Box, head, size}
 use Rattle.boxes.specs.Boxes.{FRONT, boxes}
 use Rattle.boxes.specs.Walk.{payload, Ran, Over}
 use Rattle.boxes.specs.Seek.{ANY, count, find, startIn}
@@ -39,7 +39,7 @@ unfolding stsdsFrom entriesIn heldIn
 length-after t [] p = refl
 length-after t (x ∷ l) p =
     meant-or TRAK (x .code)
-    (λ e. rw (after-hit x e l t p, length-append, held-hit x e) (omega (arith, length-after (t + 1) l (p + size x), length-of (t + 1) (x .body) (p + x .head))))
+    (λ e. rw (after-hit x e l t p, length-append, held-hit x e) (omega (arith, length-after (t + 1) l (p + size x), length-of (t + 1) (x .body) (p + head x))))
     (λ e. rw (after-miss x e l t p, held-miss x e) (omega (arith, length-after t l (p + size x))))
 
 -- ---- the walk

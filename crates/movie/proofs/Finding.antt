@@ -9,7 +9,7 @@ use Rattle.wire.specs.Numbers.{word}
 use Rattle.boxes.specs.Boxes.{boxes}
 use Rattle.boxes.specs.Seek.{count, nth, find, placeIn, startIn}
 use Rattle.boxes.proofs.Numbered.{found-short}
-use Rattle.movie.specs.Ways.{toStsd, follow, placeAlong}
+use Rattle.movie.specs.Ways.{toStsd, follow, startAlong, placeAlong}
 use Rattle.movie.specs.Movie.{tracks, track, sampleTable, references, handler, scale, movieTicks}
 
 module _ (xs : List ℕ) {moov : List ℕ} (e : moov ≡ find MOOV (boxes xs)) where
@@ -37,11 +37,15 @@ module _ (b : List ℕ) {mdia : List ℕ} (e : mdia ≡ find MDIA (boxes b)) whe
   unfolding references follow
   references-are f g h i = rw (i, h, g, f, e)
 
-  -- where its `stsd` starts, and no number on the way there is large
+  -- where its `stsd` starts, and its payload, and no number on the way there is large
   module _ {minf stbl : List ℕ} (f : minf ≡ find MINF (boxes mdia)) (g : stbl ≡ find STBL (boxes minf)) where
     pub place-is : {i j k m : ℕ} → i ≡ startIn MDIA 0 (boxes b) → j ≡ startIn MINF 0 (boxes mdia) → k ≡ startIn STBL 0 (boxes minf) → m ≡ placeIn STSD 0 (boxes stbl) → i + j + k + m ≡ placeAlong toStsd b
     unfolding placeAlong
     place-is {i} {j} {k} {m} o p q r = let z : i + j + k + m ≡ i + (j + (k + m)) = omega arith in z ∙ rw (o, p, q, r, g, f, e)
+
+    pub start-is : {i j k m : ℕ} → i ≡ startIn MDIA 0 (boxes b) → j ≡ startIn MINF 0 (boxes mdia) → k ≡ startIn STBL 0 (boxes minf) → m ≡ startIn STSD 0 (boxes stbl) → i + j + k + m ≡ startAlong toStsd b
+    unfolding startAlong
+    start-is {i} {j} {k} {m} o p q r = let z : i + j + k + m ≡ i + (j + (k + (m + 0))) = omega arith in z ∙ rw (o, p, q, r, g, f, e)
 
     pub place-few : (length mdia ≤ length b) × (length minf ≤ length b) × (length stbl ≤ length b)
     place-few = let h = found-short MDIA 0 b e in let k = found-short MINF 0 mdia f in let l = found-short STBL 0 minf g in (h, omega arith, omega arith)

@@ -2,27 +2,24 @@
 use Prim.Native.Nat.{ℕ, _+_, _-_, _<_}
 use native.Mathlib.Omega.{arith}
 use mathlib.Core.Path.{_≡_, sym, ap, _∙_}
-use mathlib.Core.List.{List, [], _∷_, _++_, append-nil}
+use mathlib.Core.List.{List, [], _∷_, _++_}
 use lib.ListN.{length, take, drop, length-drop}
 use lib.Seq.{drop-drop}
-use Rattle.codes.specs.Codes.{MOOV, TRAK, MDIA, MINF, STBL, STSD}
+use Rattle.codes.specs.Codes.{MOOV, TRAK}
 use Rattle.wire.specs.Numbers.{Bytes}
 use Rattle.wire.proofs.Numbers.{bytes-drop}
 use Rattle.boxes.specs.declared.walk.BoxAt.{BoxAt}
 use Rattle.boxes.specs.Box.{header}
-use Rattle.boxes.specs.Boxes.{boxes, HEAD, FRONT}
+use Rattle.boxes.specs.Boxes.{boxes, FRONT}
 use Rattle.boxes.specs.Walk.{payload, boxAt}
-use Rattle.boxes.specs.Seek.{ANY, find, nth, placeIn, startIn, Cut}
-use Rattle.boxes.specs.Way.{boxBy}
-use Rattle.boxes.proofs.Whole.{length-header}
-use Rattle.boxes.proofs.Numbered.{nth-there}
-use Rattle.boxes.proofs.Lying.{Lies, bytes-lies, lies-front, lies-in, lies-drop, lies-found, lies-whole}
+use Rattle.boxes.specs.Seek.{ANY, find, startIn, Cut}
+use Rattle.boxes.proofs.Lying.{Lies, bytes-lies, lies-in, lies-drop, lies-found}
 use Rattle.boxes.proofs.Cutting.{length-box, lies-box}
 use Rattle.movie.specs.declared.entry.EntryAt.{EntryAt}
 use Rattle.movie.specs.declared.entry.Named.{Named}
 use Rattle.movie.specs.declared.entry.Named.the-variants.{At, Missing}
-use Rattle.movie.specs.Ways.{toStsd, follow, placeAlong}
-use Rattle.movie.specs.Movie.{movie, mdia, minf, track}
+use Rattle.movie.specs.Ways.{toStsd, follow, startAlong}
+use Rattle.movie.specs.Movie.{movie, track}
 use Rattle.movie.specs.Stsds.{stsds}
 use Rattle.movie.specs.Entries.{Entry, entriesOf, entries}
 use Rattle.movie.specs.Named.{listIn, stsdAt, listStart, InTrack, Placed, PlacedAs, EntryIs, NamedAs}
@@ -36,38 +33,26 @@ bytes-follow (c ∷ cs) b v = bytes-follow cs (find c (boxes b)) (bytes-lies (li
 
 -- ---- where the entries of a track lie
 
--- the `stsd` of a track whose payload is b, header and all, where it isn't empty
-pub lies-stsd : (b : List ℕ) → Bytes b → 0 < length (follow toStsd b) → Lies (boxBy STSD (follow toStsd b)) b (placeAlong toStsd b)
-unfolding follow placeAlong
-lies-stsd b v h =
-    let m = lies-found MDIA 0 b v in
-    let u = bytes-lies m v in
-    let n = lies-found MINF 0 (find MDIA (boxes b)) u in
-    let w = bytes-lies n u in
-    let s = lies-found STBL 0 (find MINF (mdia b)) w in
-    lies-in m (lies-in n (lies-in s (lies-whole STSD (λ z. omega arith) 0 (find STBL (minf b)) (bytes-lies s w) (nth-there STSD 0 (boxes (find STBL (minf b))) (λ q. let l = ap length q in omega arith)))))
+-- the payload at the end of a way
+lies-along : (cs : List ℕ) (b : List ℕ) → Bytes b → Lies (follow cs b) b (startAlong cs b)
+unfolding follow startAlong
+lies-along [] b v = lies-drop 0 b (omega arith)
+lies-along (c ∷ cs) b v = let m = lies-found c 0 b v in lies-in m (lies-along cs (find c (boxes b)) (bytes-lies m v))
 
 pub lies-track : (xs : List ℕ) (t : ℕ) → Bytes xs → Lies (track xs t) xs (startIn MOOV 0 (boxes xs) + startIn TRAK t (movie xs))
 unfolding track
 lies-track xs t v = let m = lies-found MOOV 0 xs v in lies-in m (lies-found TRAK t (find MOOV (boxes xs)) (bytes-lies m v))
 
--- that of track t, from 0, in the file
-pub stsd-lies : (xs : List ℕ) (t : ℕ) → Bytes xs → 0 < length (stsdAt xs t .body) → Lies (boxBy STSD (stsdAt xs t .body)) xs (stsdAt xs t .place)
-stsd-lies xs t v h = let l = lies-track xs t v in lies-in l (lies-stsd (track xs t) (bytes-lies l v) h)
-
--- the payload of a box that lies somewhere
-lies-body : (c : ℕ) (ys : List ℕ) {xs : List ℕ} {p : ℕ} → Lies (boxBy c ys) xs p → Lies ys xs (p + HEAD)
-unfolding boxBy
-lies-body c ys l =
-    let h = header (record { head = HEAD; code = c; body = ys }) in
-    lies-in l (rw append-nil at (lies-front h ys [] HEAD (length-header (record { head = HEAD; code = c; body = ys }))))
+-- that of the `stsd` of track t, from 0, in the file
+pub stsd-lies : (xs : List ℕ) (t : ℕ) → Bytes xs → Lies (stsdAt xs t .body) xs (stsdAt xs t .start)
+stsd-lies xs t v = let l = lies-track xs t v in lies-in l (lies-along toStsd (track xs t) (bytes-lies l v))
 
 pub lies-list : (xs : List ℕ) (t : ℕ) → Bytes xs → 0 < length (listIn (track xs t)) → Lies (listIn (track xs t)) xs (listStart xs t)
 unfolding listIn listStart
 lies-list xs t v h =
     let b = follow toStsd (track xs t) in
     let n = length-drop FRONT b in
-    lies-in (lies-body STSD b (stsd-lies xs t v (omega arith))) (lies-drop FRONT b (omega arith))
+    lies-in (stsd-lies xs t v) (lies-drop FRONT b (omega arith))
 
 pub bytes-list : (xs : List ℕ) (t : ℕ) → Bytes xs → Bytes (listIn (track xs t))
 unfolding listIn

@@ -9,7 +9,7 @@ use Rattle.wire.specs.Numbers.{Bytes}
 use Rattle.wire.proofs.Tests.{lt-yea, lt-nay}
 use Rattle.boxes.specs.declared.walk.Walk.{Walk}
 use Rattle.boxes.specs.declared.walk.BoxAt.{BoxAt}
-use Rattle.boxes.specs.Box.{Box, size}
+use Rattle.boxes.specs.Box.{Box, head, size}
 use Rattle.boxes.specs.Boxes.{boxes}
 use Rattle.boxes.specs.Walk.{payload, boxAt, Ran, Over}
 use Rattle.boxes.specs.Seek.{meant}
@@ -33,7 +33,7 @@ module _ (t : ℕ) (x : Box) (l : List Box) (p n : ℕ) where
   spot-past h =
       meant-or TRAK (x .code)
       (λ e.
-      let o : length (entriesOf (stsdOf (t + 1) (x .body) (p + x .head))) ≡ held (x .code) (x .body) = length-of (t + 1) (x .body) (p + x .head) ∙ sym (held-hit x e) in
+      let o : length (entriesOf (stsdOf (t + 1) (x .body) (p + head x))) ≡ held (x .code) (x .body) = length-of (t + 1) (x .body) (p + head x) ∙ sym (held-hit x e) in
       rw (stsds-hit x e l t p, e, o) (sym (lt-nay _ _ _ _ _ h refl)))
       (λ e.
       let z : t + 0 ≡ t = omega arith in
@@ -46,7 +46,7 @@ module _ (t : ℕ) (x : Box) (l : List Box) (p n : ℕ) where
   spot-in h =
       meant-or TRAK (x .code)
       (λ e.
-      let o : length (entriesOf (stsdOf (t + 1) (x .body) (p + x .head))) ≡ held (x .code) (x .body) = length-of (t + 1) (x .body) (p + x .head) ∙ sym (held-hit x e) in
+      let o : length (entriesOf (stsdOf (t + 1) (x .body) (p + head x))) ≡ held (x .code) (x .body) = length-of (t + 1) (x .body) (p + head x) ∙ sym (held-hit x e) in
       let z : t + 1 - 1 ≡ t = omega arith in
       rw (stsds-hit x e l t p, o, z) (sym (lt-yea _ _ _ _ _ h refl)))
       (λ e. absurd (omega (arith, held-miss x e)))

@@ -10,7 +10,7 @@ use Rattle.wire.specs.Numbers.{Bytes}
 use Rattle.wire.proofs.Lists.{drop-past}
 use Rattle.boxes.specs.declared.walk.Walk.{Walk}
 use Rattle.boxes.specs.declared.walk.BoxAt.{BoxAt}
-use Rattle.boxes.specs.Box.{Box, size}
+use Rattle.boxes.specs.Box.{Box, head, size}
 use Rattle.boxes.specs.Boxes.{boxes}
 use Rattle.boxes.specs.Walk.{payload, boxAt, Ran, Over}
 use Rattle.boxes.specs.Seek.{ANY, meant, count, startIn, Cut, Passed}
@@ -34,20 +34,20 @@ module _ (t : ℕ) (x : Box) (l : List Box) (p n : ℕ) where
       meant-or TRAK (x .code)
       (λ e.
       let m : n ≡ k + (n - k) = omega arith in
-      let o = length-of (t + 1) (x .body) (p + x .head) ∙ sym (held-hit x e) in
-      rw (after-hit x e l t p, e) (ap (λ (j : ℕ). drop j (entriesOf (stsdOf (t + 1) (x .body) (p + x .head)) ++ entriesIn (stsdsFrom (t + 1) l (p + size x)))) m ∙ drop-past (entriesOf (stsdOf (t + 1) (x .body) (p + x .head))) (entriesIn (stsdsFrom (t + 1) l (p + size x))) k (n - k) o))
+      let o = length-of (t + 1) (x .body) (p + head x) ∙ sym (held-hit x e) in
+      rw (after-hit x e l t p, e) (ap (λ (j : ℕ). drop j (entriesOf (stsdOf (t + 1) (x .body) (p + head x)) ++ entriesIn (stsdsFrom (t + 1) l (p + size x)))) m ∙ drop-past (entriesOf (stsdOf (t + 1) (x .body) (p + head x))) (entriesIn (stsdsFrom (t + 1) l (p + size x))) k (n - k) o))
       (λ e.
       let z : t + 0 ≡ t = omega arith in
       let m : n - k ≡ n = omega (arith, held-miss x e) in
       rw (after-miss x e l t p, e, z, m))
 
   -- it is in it
-  after-in : n < held (x .code) (x .body) → (meant TRAK (x .code) ≡ 1) × (n < count ANY (boxes (listIn (x .body)))) × (drop n (entriesIn (stsdsFrom t (x ∷ l) p)) ≡ drop n (entriesOf (stsdOf (t + 1) (x .body) (p + x .head))) ++ entriesIn (stsdsFrom (t + 1) l (p + size x)))
+  after-in : n < held (x .code) (x .body) → (meant TRAK (x .code) ≡ 1) × (n < count ANY (boxes (listIn (x .body)))) × (drop n (entriesIn (stsdsFrom t (x ∷ l) p)) ≡ drop n (entriesOf (stsdOf (t + 1) (x .body) (p + head x))) ++ entriesIn (stsdsFrom (t + 1) l (p + size x)))
   after-in h =
       meant-or TRAK (x .code)
       (λ e.
       let k = held-hit x e in
-      (e, omega arith, rw (after-hit x e l t p) (drop-append-le n (entriesOf (stsdOf (t + 1) (x .body) (p + x .head))) (entriesIn (stsdsFrom (t + 1) l (p + size x))) (omega (arith, length-of (t + 1) (x .body) (p + x .head))))))
+      (e, omega arith, rw (after-hit x e l t p) (drop-append-le n (entriesOf (stsdOf (t + 1) (x .body) (p + head x))) (entriesIn (stsdsFrom (t + 1) l (p + size x))) (omega (arith, length-of (t + 1) (x .body) (p + head x))))))
       (λ e. absurd (omega (arith, held-miss x e)))
 
 -- ---- the walk
@@ -81,7 +81,7 @@ module _ {ys : List ℕ} {i t left at : ℕ} (g : Gone ys i t left at) where
           few = rw (← y) (a .1);
           rest = λ p. entriesIn (stsdsFrom (t + 1) (boxes (drop (w .at) ys)) (p + at + size (boxAt ys b)));
           is = λ p.
-              let q : p + startIn TRAK t (boxes ys) ≡ p + at + b .head = omega (arith, z, s .start) in
+              let q : p + startIn TRAK t (boxes ys) ≡ p + at + head (boxAt ys b) = omega (arith, z, s .start, s .head) in
               g .is p ∙ rw (s .list, ← y, q) (after-in t (boxAt ys b) (boxes (drop (w .at) ys)) (p + at) left (omega arith) .2);
         }
 

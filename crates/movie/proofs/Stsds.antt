@@ -5,10 +5,12 @@ use mathlib.Core.Path.{_≡_, refl, sym, ap, subst, _∙_}
 use mathlib.Core.List.{List, [], _∷_}
 use lib.ListN.{length, take, drop}
 use Rattle.wire.specs.Tests.{ifEq}
-use Rattle.codes.specs.Codes.{MOOV, TRAK}
-use Rattle.boxes.specs.Box.{Box, size}
-use Rattle.boxes.specs.Boxes.{HEAD, boxes}
+use Rattle.codes.specs.Codes.{MOOV, TRAK, STSD}
+use Rattle.boxes.specs.declared.walk.Form.the-variants.{Plain}
+use Rattle.boxes.specs.Box.{Box, head, size}
+use Rattle.boxes.specs.Boxes.{boxes}
 use Rattle.boxes.specs.Containers.{parent, kindIn}
+use Rattle.boxes.specs.Way.{boxBy}
 use Rattle.boxes.specs.Seek.{meant, count, nth, startIn}
 use Rattle.boxes.specs.Kin.{All2, Leaf, KinBox, Kin}
 use Rattle.boxes.specs.Kin.All2.{nil as none2, cons as more2}
@@ -26,22 +28,22 @@ abbrev stsdNth : ℕ → List Box → ℕ → ℕ → Stsd
 stsdNth t l p n = stsdOf (t + 1 + n) (nth TRAK n l) (p + startIn TRAK n l)
 
 module _ (x : Box) (l : List Box) (t p : ℕ) where
-  number-first : meant TRAK (x .code) ≡ 1 → stsdNth t (x ∷ l) p 0 ≡ stsdOf (t + 1) (x .body) (p + x .head)
+  number-first : meant TRAK (x .code) ≡ 1 → stsdNth t (x ∷ l) p 0 ≡ stsdOf (t + 1) (x .body) (p + head x)
   unfolding startIn
-  number-first e = let z : t + 1 + 0 ≡ t + 1 = omega arith in rw (z, nth-hit TRAK x l e, place-hit TRAK x l e (λ y. y .head))
+  number-first e = let z : t + 1 + 0 ≡ t + 1 = omega arith in rw (z, nth-hit TRAK x l e, place-hit TRAK x l e head)
 
   number-next : meant TRAK (x .code) ≡ 1 → (n : ℕ) → stsdNth t (x ∷ l) p (suc n) ≡ stsdNth (t + 1) l (p + size x) n
   unfolding startIn
   number-next e n =
       let z : t + 1 + suc n ≡ t + 1 + 1 + n = omega arith in
       let s : p + (size x + startIn TRAK n l) ≡ p + size x + startIn TRAK n l = omega arith in
-      rw (z, nth-next TRAK x l e n, place-next TRAK x l e (λ y. y .head) n, s)
+      rw (z, nth-next TRAK x l e n, place-next TRAK x l e head n, s)
 
   number-miss : meant TRAK (x .code) ≡ 0 → (n : ℕ) → stsdNth t (x ∷ l) p n ≡ stsdNth t l (p + size x) n
   unfolding startIn
   number-miss e n =
       let s : p + (size x + startIn TRAK n l) ≡ p + size x + startIn TRAK n l = omega arith in
-      rw (nth-miss TRAK x l e n, place-miss TRAK x l e (λ y. y .head) n, s)
+      rw (nth-miss TRAK x l e n, place-miss TRAK x l e head n, s)
 
 -- ---- each of them
 
@@ -84,10 +86,10 @@ module _ (P : Stsd → Type 0) where
   unfolding stsds track
   each-stsd xs h = each-from (movie xs) 0 (startIn MOOV 0 (boxes xs)) (λ n k. let z : 0 + 1 + n ≡ n + 1 = omega arith in rw z (h n k))
 
--- ---- the bytes that stand at their places
+-- ---- what stands at their places
 
 abbrev span : List ℕ → Stsd → List ℕ
-span xs s = take (HEAD + length (s .body)) (drop (s .place) xs)
+span xs s = boxBy Plain STSD (take (length (s .body)) (drop (s .start) xs))
 
 standing-from : (xs : List ℕ) (n : ℕ) (l : List Box) (t p : ℕ) → n < count TRAK l → standing xs (stsdsFrom t l p) n ≡ span xs (stsdNth t l p n)
 unfolding count standing
@@ -98,7 +100,7 @@ standing-from xs =
     (λ x l e t p k. ap (λ (m : List Stsd). standing xs m 0) (stsds-hit x e l t p) ∙ ap (span xs) (sym (number-first x l t p e)))
     (λ n x l e ih t p k. ap (λ (m : List Stsd). standing xs m (suc n)) (stsds-hit x e l t p) ∙ ih (t + 1) (p + size x) (omega arith) ∙ ap (span xs) (sym (number-next x l t p e n)))
 
-pub standing-at : (xs : List ℕ) (n : ℕ) → n < tracks xs → standing xs (stsds xs) n ≡ take (HEAD + length (stsdAt xs n .body)) (drop (stsdAt xs n .place) xs)
+pub standing-at : (xs : List ℕ) (n : ℕ) → n < tracks xs → standing xs (stsds xs) n ≡ boxBy Plain STSD (take (length (stsdAt xs n .body)) (drop (stsdAt xs n .start) xs))
 unfolding stsds track
 standing-at xs n k = standing-from xs n (movie xs) 0 (startIn MOOV 0 (boxes xs)) k
 
@@ -122,7 +124,7 @@ module _ (Q : List ℕ → List ℕ → Type 0) (G : Leaf) (d : ℕ) (h : (b b�
       meant-or TRAK (x .code)
       (λ e.
       let f : meant TRAK (y .code) ≡ 1 = rw (r .code) at e in
-      rw (stsds-hit x e l t p, stsds-hit y f m u q) (cons (t + 1) (u + 1) (p + x .head) (q + y .head) (kin-track x y r (meant-is TRAK (x .code) (λ z. omega arith) e)) (kin-from a (t + 1) (u + 1) (p + size x) (q + size y))))
+      rw (stsds-hit x e l t p, stsds-hit y f m u q) (cons (t + 1) (u + 1) (p + head x) (q + head y) (kin-track x y r (meant-is TRAK (x .code) (λ z. omega arith) e)) (kin-from a (t + 1) (u + 1) (p + size x) (q + size y))))
       (λ e. let f : meant TRAK (y .code) ≡ 0 = rw (r .code) at e in rw (stsds-miss x e l t p, stsds-miss y f m u q) (kin-from a t u (p + size x) (q + size y)))
 
   pub kin-stsds : (xs ys : List ℕ) → Kin G (suc d) MOOV xs ys → (p q : ℕ) → Pairs Q (stsdsFrom 0 (boxes xs) p) (stsdsFrom 0 (boxes ys) q)

@@ -3,7 +3,7 @@ use Prim.Native.Nat.{ℕ, _+_}
 use mathlib.Core.List.{List, [], _∷_, _++_}
 use lib.ListN.{drop}
 use Rattle.boxes.specs.Box.{Box, size, header}
-use Rattle.boxes.specs.Boxes.{HEAD, FRONT, boxes}
+use Rattle.boxes.specs.Boxes.{FRONT, boxes}
 use Rattle.movie.specs.Stsds.{Stsd, stsds}
 
 -- its track, from 1; its place in the file; the whole box
@@ -19,7 +19,7 @@ entriesFrom t (x ∷ l) p = record { track = t; place = p; bytes = header x ++ x
 
 -- the boxes past the front of an `stsd`
 unfoldable pub entriesOf : Stsd → List Entry
-entriesOf s = entriesFrom (s .track) (boxes (drop FRONT (s .body))) (s .place + HEAD + FRONT)
+entriesOf s = entriesFrom (s .track) (boxes (drop FRONT (s .body))) (s .start + FRONT)
 
 unfoldable pub entriesIn : List Stsd → List Entry
 entriesIn [] = []

@@ -6,7 +6,7 @@ use lib.ListN.{length, take, drop}
 use Rattle.wire.specs.Tests.{ifEq, ifLt}
 use Rattle.codes.specs.Codes.{MOOV, TRAK}
 use Rattle.boxes.specs.declared.walk.BoxAt.{BoxAt}
-use Rattle.boxes.specs.Boxes.{boxes, HEAD, FRONT}
+use Rattle.boxes.specs.Boxes.{boxes, FRONT}
 use Rattle.boxes.specs.Seek.{ANY, count, byNumber, nth as nthIn, startIn, Cut}
 use Rattle.movie.specs.declared.entry.EntryAt.{EntryAt}
 use Rattle.movie.specs.declared.entry.Named.{Named}
@@ -31,7 +31,7 @@ abbrev pub stsdAt : List ℕ → ℕ → Stsd
 stsdAt xs t = stsdOf (t + 1) (trackOf xs t) (startIn MOOV 0 (boxes xs) + startIn TRAK t (movie xs))
 
 unfoldable pub listStart : List ℕ → ℕ → ℕ
-listStart xs t = stsdAt xs t .place + HEAD + FRONT
+listStart xs t = stsdAt xs t .start + FRONT
 
 -- entry i of the boxes of `moov` is entry n of track t, both from 0, wherever those boxes start
 pub record InTrack (ys : List ℕ) (i t n : ℕ) : Type 0 where

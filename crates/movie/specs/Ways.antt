@@ -20,6 +20,11 @@ unfoldable pub follow : List ℕ → List ℕ → List ℕ
 follow [] b = b
 follow (c ∷ cs) b = follow cs (find c (boxes b))
 
+-- how far into b the payload at the end of a way starts
+unfoldable pub startAlong : List ℕ → List ℕ → ℕ
+startAlong [] b = 0
+startAlong (c ∷ cs) b = startIn c 0 (boxes b) + startAlong cs (find c (boxes b))
+
 -- how far into b the box at the end of a way starts
 unfoldable pub placeAlong : List ℕ → List ℕ → ℕ
 placeAlong [] b = 0

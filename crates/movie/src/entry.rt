@@ -122,7 +122,7 @@ fn list_start(file: &[u8], t: usize) -> usize
 {
     let moov = seek::payload(file, codes::MOOV, 0);
     let to_track = seek::start(file, codes::MOOV, 0) + seek::start(moov, codes::TRAK, t);
-    to_track + crate::stsd_place(crate::track(file, t)) + walk::HEAD + walk::FRONT
+    to_track + crate::stsd_start(crate::track(file, t)) + walk::FRONT
 }
 
 // Entry n of track t, both from 0.

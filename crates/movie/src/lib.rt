@@ -6,7 +6,7 @@ use wire::number;
 ghost use mathlib.Core.Path.{_≡_};
 ghost use Prim.Native.Nat.{_*_, _^_, _≤_, _<_};
 ghost use lib.ListN.{length};
-ghost use Rattle.movie.specs.Ways.{toStsd, placeAlong};
+ghost use Rattle.movie.specs.Ways.{toStsd, startAlong, placeAlong};
 ghost use Rattle.movie.specs.Movie.{tracks as tracksOf, track as trackOf, sampleTable, references as referencesOf, handler as handlerOf, scale as scaleOf, movieTicks as ticksOf};
 
 // How many tracks a file has.
@@ -43,6 +43,18 @@ pub fn stsd_place(track: &[u8]) -> usize
     let stbl = seek::payload(minf, codes::STBL, 0);
     let to_minf = seek::start(track, codes::MDIA, 0) + seek::start(mdia, codes::MINF, 0);
     to_minf + seek::start(minf, codes::STBL, 0) + seek::place(stbl, codes::STSD, 0)
+}
+
+// How far into a track's payload that of its `stsd` starts.
+pub fn stsd_start(track: &[u8]) -> usize
+    requires { ⌜ length (now track) < 2 ^ 61 ⌝ }
+    ensures { λ r. ⌜ (r ≡ startAlong toStsd (now (track .entry))) × (r ≤ 4 * length (now (track .entry))) ⌝ }
+{
+    let mdia = seek::payload(track, codes::MDIA, 0);
+    let minf = seek::payload(mdia, codes::MINF, 0);
+    let stbl = seek::payload(minf, codes::STBL, 0);
+    let to_minf = seek::start(track, codes::MDIA, 0) + seek::start(mdia, codes::MINF, 0);
+    to_minf + seek::start(minf, codes::STBL, 0) + seek::start(stbl, codes::STSD, 0)
 }
 
 // How many data references it has.
