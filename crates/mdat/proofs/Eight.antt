@@ -6,7 +6,6 @@ use mathlib.Core.Bool.{true, false}
 use mathlib.Core.List.{List}
 use Rattle.wire.proofs.Sums.{all-none, all-more, all-of, all-at, all-fails}
 use Rattle.boxes.specs.Box.{Box}
-use Rattle.boxes.proofs.Reading.{All, Headed}
 use Rattle.sample_tables.specs.Tables.{items}
 use Rattle.sample_tables.specs.Sizes.{sampleCount, bytesFrom, Held}
 use Rattle.sample_tables.specs.Runs.{perChunk, runOf}
@@ -66,6 +65,6 @@ module _ (l : List Box) (stsc stsz stco : List ℕ) where
   eight-of = all-of (chunkIn l stsc stsz stco) (items stco)
 
   -- where relocation finds it
-  pub chunk-in : All Headed l → (k : ℕ) → chunkIn l stsc stsz stco k ≡ true → inAt l (offsetAt stco k) (extentAt stsc stsz stco k .bytes) ≡ true
+  pub chunk-in : (k : ℕ) → chunkIn l stsc stsz stco k ≡ true → inAt l (offsetAt stco k) (extentAt stsc stsz stco k .bytes) ≡ true
   unfolding chunkIn
-  chunk-in a k e = rw (extent-offset stsc stsz stco k) at (sym (lies-at a _ _) ∙ e)
+  chunk-in k e = rw (extent-offset stsc stsz stco k) at (sym (lies-at l _ _) ∙ e)

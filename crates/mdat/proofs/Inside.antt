@@ -10,13 +10,12 @@ use Rattle.wire.specs.Clauses.{isEq, isLe, every}
 use Rattle.codes.specs.Codes.{MDAT}
 use Rattle.wire.proofs.Clauses.{is-eq, not-eq, is-le, not-le, fails, done, holds as and}
 use Rattle.wire.proofs.Tests.{lt-or}
-use Rattle.boxes.specs.Box.{Box, size}
+use Rattle.boxes.specs.Box.{Box, head, size}
 use Rattle.boxes.specs.Boxes.{boxes}
 use Rattle.boxes.specs.Walk.{boxAt, Ran, Over}
 use Rattle.boxes.specs.declared.walk.Walk.{Walk}
 use Rattle.boxes.specs.declared.walk.BoxAt.{BoxAt}
-use Rattle.boxes.proofs.Reading.{All, Headed, heads}
-use Rattle.boxes.proofs.Reading.All.{none, some}
+use Rattle.boxes.proofs.Whole.{head-least}
 use Rattle.boxes.proofs.Seeking.{ran-size}
 use Rattle.mdat.specs.Payloads.{mdats, Spot, nowhere, spot, past, resolve, fits, inAt}
 use Rattle.mdat.specs.Rules.{lies}
@@ -44,16 +43,16 @@ passed : (ts : List Bool) (t : Bool) → false ≡ every ts → pick (every ts) 
 passed ts t e = rw (← e)
 
 -- no box has what stands before it
-pub lies-before : {l : List Box} → All Headed l → (p o n : ℕ) → o ≤ p → lies l p o n ≡ false
+pub lies-before : (l : List Box) (p o n : ℕ) → o ≤ p → lies l p o n ≡ false
 unfolding lies
-lies-before none p o n h = refl
-lies-before (some {x} {l} g a) p o n h = passed _ _ (fails 1 _ (not-le _ _ (omega arith))) ∙ lies-before a (p + size x) o n (omega arith)
+lies-before [] p o n h = refl
+lies-before (x ∷ l) p o n h = passed _ _ (fails 1 _ (not-le _ _ (omega (arith, head-least (x .form))))) ∙ lies-before l (p + size x) o n (omega arith)
 
 module _ (x : Box) (l : List Box) (p o n : ℕ) where
   -- up to its end the first box decides
-  pub lies-here : All Headed l → o ≤ p + size x → lies (x ∷ l) p o n ≡ held (x .code) (p + x .head) (p + size x) o n
+  pub lies-here : o ≤ p + size x → lies (x ∷ l) p o n ≡ held (x .code) (p + head x) (p + size x) o n
   unfolding lies
-  lies-here a h = rw (lies-before a (p + size x) o n h) (go (held (x .code) (p + x .head) (p + size x) o n))
+  lies-here h = rw (lies-before l (p + size x) o n h) (go (held (x .code) (p + head x) (p + size x) o n))
     where
       go : (t : Bool) → pick t true false ≡ t
       go true = refl
@@ -67,18 +66,18 @@ module _ (x : Box) (l : List Box) (p o n : ℕ) where
 -- ---- as relocation finds it
 
 module _ (x : Box) (l : List Box) (o n : ℕ) where
-  hit : x .code ≡ MDAT → x .head ≤ o → isLe (o - x .head + n) (length (x .body)) ≡ held (x .code) (x .head) (size x) o n
+  hit : x .code ≡ MDAT → head x ≤ o → isLe (o - head x + n) (length (x .body)) ≡ held (x .code) (head x) (size x) o n
   hit c k =
       lt-or (size x) (o + n)
       (λ e. not-le _ _ (omega arith) ∙ fails 2 _ (not-le _ _ e))
       (λ e. is-le _ _ (omega arith) ∙ and _ _ (is-eq _ _ c) (and _ _ (is-le _ _ k) (and _ _ (is-le _ _ e) done)))
 
   -- in the first box
-  in-here : o ≤ size x → inAt (x ∷ l) o n ≡ held (x .code) (x .head) (size x) o n
+  in-here : o ≤ size x → inAt (x ∷ l) o n ≡ held (x .code) (head x) (size x) o n
   unfolding inAt
   in-here h =
       rw (resolve-here x l o h) (mdat-or x
-      (λ c. lt-or o (x .head) (λ k. rw (within-low x c o k) (fails 1 _ (not-le _ _ k))) (λ k. rw (within-hit x c o k, mdats-hit x c l) (hit c k)))
+      (λ c. lt-or o (head x) (λ k. rw (within-low x c o k) (fails 1 _ (not-le _ _ k))) (λ k. rw (within-hit x c o k, mdats-hit x c l) (hit c k)))
       (λ c. rw (within-miss x c o) (fails 0 _ (not-eq _ _ c))))
 
   -- past it
@@ -90,15 +89,15 @@ module _ (x : Box) (l : List Box) (o n : ℕ) where
       go nowhere = rw (past-nowhere x)
       go (spot j i) = behind-some x j (λ k b. rw (b .spots i, b .body l))
 
-lies-from : {l : List Box} → All Headed l → (p o n : ℕ) → lies l p (p + o) n ≡ inAt l o n
+lies-from : (l : List Box) (p o n : ℕ) → lies l p (p + o) n ≡ inAt l o n
 unfolding lies inAt resolve
-lies-from none p o n = refl
-lies-from (some {x} {l} g a) p o n =
+lies-from [] p o n = refl
+lies-from (x ∷ l) p o n =
     lt-or (size x) o
     (λ k. let e : p + o ≡ p + size x + (o - size x) = omega arith in
-    lies-past x l p (p + o) n (omega arith) ∙ ap (λ (q : ℕ). lies l (p + size x) q n) e ∙ lies-from a (p + size x) (o - size x) n ∙ sym (in-past x l o n k))
-    (λ k. lies-here x l p (p + o) n a (omega arith) ∙ held-shift p (x .code) (x .head) (size x) o n ∙ sym (in-here x l o n k))
+    lies-past x l p (p + o) n (omega arith) ∙ ap (λ (q : ℕ). lies l (p + size x) q n) e ∙ lies-from l (p + size x) (o - size x) n ∙ sym (in-past x l o n k))
+    (λ k. lies-here x l p (p + o) n (omega arith) ∙ held-shift p (x .code) (head x) (size x) o n ∙ sym (in-here x l o n k))
 
 -- rule 8 holds of a place exactly where it resolves and fits
-pub lies-at : {l : List Box} → All Headed l → (o n : ℕ) → lies l 0 o n ≡ inAt l o n
-lies-at {l} a o n = let z : o ≡ 0 + o = omega arith in ap (λ (q : ℕ). lies l 0 q n) z ∙ lies-from a 0 o n
+pub lies-at : (l : List Box) (o n : ℕ) → lies l 0 o n ≡ inAt l o n
+lies-at l o n = let z : o ≡ 0 + o = omega arith in ap (λ (q : ℕ). lies l 0 q n) z ∙ lies-from l 0 o n

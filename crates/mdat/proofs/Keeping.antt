@@ -9,9 +9,7 @@ use lib.Seq.{take-take, drop-drop}
 use Rattle.wire.specs.Numbers.{Bytes}
 use Rattle.boxes.specs.Box.{Box, write}
 use Rattle.boxes.specs.Boxes.{boxes, after}
-use Rattle.boxes.proofs.Whole.{Good}
-use Rattle.boxes.proofs.Reading.{All, Headed, heads, parts, write-boxes}
-use Rattle.boxes.proofs.Every.{all-map}
+use Rattle.boxes.proofs.Reading.{write-boxes}
 use Rattle.sample_tables.specs.Tables.{items}
 use Rattle.sample_tables.specs.Sizes.{sizeAt, bytesFrom}
 use Rattle.sample_tables.specs.Chunks.{samplesIn, firstSample, offsetAt, chunkAt, extentOf}
@@ -59,19 +57,19 @@ module _ (xs ys stsc stsz o p : List ℕ) (k : ℕ) where
 
 -- ---- a track
 
-module _ (l m : List Box) (same : mdats l ≡ mdats m) (f : All Headed l) (g : All Good m) (stsc stsz o p : List ℕ) (r : Relocated l m o p) where
+module _ (l m : List Box) (same : mdats l ≡ mdats m) (stsc stsz o p : List ℕ) (r : Relocated l m o p) where
   pub eight-kept : chunksLie l stsc stsz o ≡ true → chunksLie m stsc stsz p ≡ true
   unfolding chunkIn extentOf chunkAt
   eight-kept e =
       eight-of m stsc stsz p (λ k h.
       let n : k < items o = omega (arith, r .same) in
-      rw (r .offsets k n) (lies-at (all-map (λ x q. q .head) g) _ _ ∙ relocate-in l m same g _ _ (chunk-in l stsc stsz o f k (eight-at l stsc stsz o e k n))))
+      rw (r .offsets k n) (lies-at m _ _ ∙ relocate-in l m same _ _ (chunk-in l stsc stsz o k (eight-at l stsc stsz o e k n))))
 
-  pub samples-kept : All Good l → chunksLie l stsc stsz o ≡ true → samplesOf (write l) stsc stsz o ≡ samplesOf (write m) stsc stsz p
+  pub samples-kept : chunksLie l stsc stsz o ≡ true → samplesOf (write l) stsc stsz o ≡ samplesOf (write m) stsc stsz p
   unfolding samplesOf extentOf chunkAt
-  samples-kept v e =
+  samples-kept e =
       rw (r .same) (join-same _ _ (items o) (λ k h.
-      chunk-same (write l) (write m) stsc stsz o p k (rw (r .offsets k h) (relocate-bytes l m same g v _ _ (chunk-in l stsc stsz o f k (eight-at l stsc stsz o e k h))))))
+      chunk-same (write l) (write m) stsc stsz o p k (rw (r .offsets k h) (relocate-bytes l m same _ _ (chunk-in l stsc stsz o k (eight-at l stsc stsz o e k h))))))
 
 -- ---- files that boxes tile
 
@@ -81,4 +79,4 @@ tiled xs v e = sym (append-nil (write (boxes xs))) ∙ ap (λ (z : List ℕ). wr
 pub file-samples-kept : (xs ys : List ℕ) → Bytes xs → Bytes ys → after xs ≡ [] → after ys ≡ [] → mdats (boxes xs) ≡ mdats (boxes ys)
     → (stsc stsz o p : List ℕ) → Relocated (boxes xs) (boxes ys) o p → chunksLie (boxes xs) stsc stsz o ≡ true → samplesOf xs stsc stsz o ≡ samplesOf ys stsc stsz p
 file-samples-kept xs ys v w a b same stsc stsz o p r e =
-    rw (tiled xs v a, tiled ys w b) at (samples-kept (boxes xs) (boxes ys) same (heads xs) (parts ys w .good) stsc stsz o p r (parts xs v .good) e)
+    rw (tiled xs v a, tiled ys w b) at (samples-kept (boxes xs) (boxes ys) same stsc stsz o p r e)

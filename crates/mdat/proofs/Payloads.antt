@@ -4,7 +4,7 @@ use mathlib.Core.Path.{_≡_, refl, sym}
 use mathlib.Core.List.{List, _∷_}
 use Rattle.codes.specs.Codes.{MDAT}
 use Rattle.wire.proofs.Tests.{eq-yea, eq-nay, lt-yea, lt-nay, eq-or}
-use Rattle.boxes.specs.Box.{Box, size}
+use Rattle.boxes.specs.Box.{Box, head, size}
 use Rattle.mdat.specs.Payloads.{mdats, nowhere, spot, inBox, past, resolve, placeOf}
 
 pub mdat-or : {A : Type 0} (x : Box) → (x .code ≡ MDAT → A) → ((x .code ≡ MDAT → ⊥) → A) → A
@@ -28,15 +28,15 @@ module _ (x : Box) (e : x .code ≡ MDAT) where
   unfolding mdats
   mdats-hit l = sym (eq-yea _ _ _ _ _ e refl)
 
-  pub place-hit : (l : List Box) (i : ℕ) → placeOf (x ∷ l) 0 i ≡ x .head + i
+  pub place-hit : (l : List Box) (i : ℕ) → placeOf (x ∷ l) 0 i ≡ head x + i
   unfolding placeOf
   place-hit l i = sym (eq-yea _ _ _ _ _ e refl)
 
-  pub within-hit : (o : ℕ) → x .head ≤ o → inBox x o ≡ spot 0 (o - x .head)
+  pub within-hit : (o : ℕ) → head x ≤ o → inBox x o ≡ spot 0 (o - head x)
   unfolding inBox
   within-hit o h = sym (eq-yea _ _ _ _ _ e (lt-nay _ _ _ _ _ h refl))
 
-  pub within-low : (o : ℕ) → o < x .head → inBox x o ≡ nowhere
+  pub within-low : (o : ℕ) → o < head x → inBox x o ≡ nowhere
   unfolding inBox
   within-low o h = sym (eq-yea _ _ _ _ _ e (lt-yea _ _ _ _ _ h refl))
 

@@ -7,31 +7,26 @@ use lib.ListN.{length, getD, take, drop, length-append, length-drop}
 use lib.Seq.{take-append-le, drop-append-le}
 use Rattle.codes.specs.Codes.{MDAT}
 use Rattle.wire.proofs.Lists.{drop-past}
-use Rattle.boxes.specs.Box.{Box, size, header, write}
-use Rattle.boxes.proofs.Whole.{Good, length-header}
-use Rattle.boxes.proofs.Reading.{All}
-use Rattle.boxes.proofs.Reading.All.{none, some}
+use Rattle.boxes.specs.Box.{Box, head, size, header, write}
+use Rattle.boxes.proofs.Whole.{head-least, length-header}
 use Rattle.mdat.specs.Payloads.{mdats, spot, resolve, placeOf}
 use Rattle.mdat.proofs.Payloads.{resolve-here, resolve-past, mdats-hit, place-hit, within-hit}
 use Rattle.mdat.proofs.Behind.{Behind, front-or}
 
 -- ---- a box that was written
 
-headed : (x : Box) → Good x → length (header x) ≡ x .head
-headed x g = length-header x ∙ sym (g .head)
-
-module _ (x : Box) (l : List Box) (g : Good x) where
+module _ (x : Box) (l : List Box) where
   pub write-long : length (write (x ∷ l)) ≡ size x + length (write l)
   unfolding write
-  write-long = rw (length-append, length-append, headed x g) (omega arith)
+  write-long = rw (length-append, length-append, length-header x) (omega arith)
 
   drop-box : (p : ℕ) → drop (size x + p) (write (x ∷ l)) ≡ drop p (write l)
   unfolding write
-  drop-box p = rw (← append-assoc) (drop-past (header x ++ x .body) (write l) (size x) p (rw (length-append, headed x g)))
+  drop-box p = rw (← append-assoc) (drop-past (header x ++ x .body) (write l) (size x) p (rw (length-append, length-header x)))
 
-  drop-head : (i : ℕ) → drop (x .head + i) (write (x ∷ l)) ≡ drop i (x .body ++ write l)
+  drop-head : (i : ℕ) → drop (head x + i) (write (x ∷ l)) ≡ drop i (x .body ++ write l)
   unfolding write
-  drop-head i = drop-past (header x) (x .body ++ write l) (x .head) i (headed x g)
+  drop-head i = drop-past (header x) (x .body ++ write l) (head x) i (length-header x)
 
 -- n bytes from i on do not see what follows the list that they are in
 take-inside : (xs ys : List ℕ) (i n : ℕ) → i + n ≤ length xs → take n (drop i (xs ++ ys)) ≡ take n (drop i xs)
@@ -47,32 +42,32 @@ pub record There (l : List Box) (j i n : ℕ) : Type 0 where
   pub back : resolve l (placeOf l j i) ≡ spot j i
   pub bytes : take n (drop (placeOf l j i) (write l)) ≡ take n (drop i (getD (mdats l) j []))
 
-there-here : (x : Box) (l : List Box) (i n : ℕ) → Good x → x .code ≡ MDAT → i + n ≤ length (x .body) → There (x ∷ l) 0 i n
-there-here x l i n g e k =
+there-here : (x : Box) (l : List Box) (i n : ℕ) → x .code ≡ MDAT → i + n ≤ length (x .body) → There (x ∷ l) 0 i n
+there-here x l i n e k =
     let p = place-hit x e l i in
-    let q : x .head + i - x .head ≡ i = omega arith in
+    let q : head x + i - head x ≡ i = omega arith in
     record {
-      low = rw p (omega (arith, g .head));
-      high = rw p (omega (arith, write-long x l g));
-      back = rw p (resolve-here x l (x .head + i) (omega arith) ∙ within-hit x e (x .head + i) (omega arith) ∙ ap (spot 0) q);
-      bytes = rw (p, mdats-hit x e l, drop-head x l g i) (take-inside (x .body) (write l) i n k);
+      low = rw p (omega (arith, head-least (x .form)));
+      high = rw p (omega (arith, write-long x l));
+      back = rw p (resolve-here x l (head x + i) (omega arith) ∙ within-hit x e (head x + i) (omega arith) ∙ ap (spot 0) q);
+      bytes = rw (p, mdats-hit x e l, drop-head x l i) (take-inside (x .body) (write l) i n k);
     }
 
-there-behind : (x : Box) (l : List Box) (j k i n : ℕ) → Good x → Behind x j k → There l j i n → There (x ∷ l) k i n
-there-behind x l j k i n g b t =
+there-behind : (x : Box) (l : List Box) (j k i n : ℕ) → Behind x j k → There l j i n → There (x ∷ l) k i n
+there-behind x l j k i n b t =
     let p = b .place l i in
     let q : size x + placeOf l j i - size x ≡ placeOf l j i = omega arith in
     record {
       low = rw p (omega (arith, t .low));
-      high = rw p (omega (arith, write-long x l g, t .high));
+      high = rw p (omega (arith, write-long x l, t .high));
       back = rw p (resolve-past x l (size x + placeOf l j i) (omega (arith, t .low)) ∙ rw (q, t .back) (b .spots i));
-      bytes = rw (p, b .body l, drop-box x l g (placeOf l j i)) (t .bytes);
+      bytes = rw (p, b .body l, drop-box x l (placeOf l j i)) (t .bytes);
     }
 
-pub there : {l : List Box} → All Good l → (j i n : ℕ) → j < length (mdats l) → i + n ≤ length (getD (mdats l) j []) → There l j i n
+pub there : (l : List Box) (j i n : ℕ) → j < length (mdats l) → i + n ≤ length (getD (mdats l) j []) → There l j i n
 unfolding mdats
-there none j i n h k = absurd (omega arith)
-there (some {x} {l} g a) j i n h k =
+there [] j i n h k = absurd (omega arith)
+there (x ∷ l) j i n h k =
     front-or x l j h
-    (λ c e. rw (← e) (there-here x l i n g c (rw (← e, mdats-hit x c l) at k)))
-    (λ m b z. there-behind x l m j i n g b (there a m i n z (rw (b .body l) at k)))
+    (λ c e. rw (← e) (there-here x l i n c (rw (← e, mdats-hit x c l) at k)))
+    (λ m b z. there-behind x l m j i n b (there l m i n z (rw (b .body l) at k)))

@@ -7,8 +7,6 @@ use mathlib.Core.List.{List, []}
 use lib.ListN.{length, getD, take, drop}
 use Rattle.wire.proofs.Clauses.{is-le, le-is}
 use Rattle.boxes.specs.Box.{Box, write}
-use Rattle.boxes.proofs.Whole.{Good}
-use Rattle.boxes.proofs.Reading.{All}
 use Rattle.mdat.specs.Payloads.{mdats, Spot, nowhere, spot, resolve, placeOf, fits, inAt}
 use Rattle.mdat.specs.Relocate.{relocate}
 use Rattle.mdat.proofs.Places.{There, there}
@@ -45,10 +43,10 @@ module _ (l m : List Box) (o : ℕ) where
   unfolding relocate
   relocate-out e = rw e
 
-module _ (l m : List Box) (same : mdats l ≡ mdats m) (g : All Good m) where
+module _ (l m : List Box) (same : mdats l ≡ mdats m) where
   -- what stands at it, as far into the same payload
   lands : (o n : ℕ) (s : Lies l o n) → There m (s .j) (s .i) n
-  lands o n s = there g (s .j) (s .i) n (rw (← same) (resolved l o (s .j) (s .i) (s .found) .which)) (rw (← same) (s .room))
+  lands o n s = there m (s .j) (s .i) n (rw (← same) (resolved l o (s .j) (s .i) (s .found) .which)) (rw (← same) (s .room))
 
   pub relocate-found : (o n : ℕ) (s : Lies l o n) → resolve m (relocate l m o) ≡ spot (s .j) (s .i)
   relocate-found o n s = rw (relocate-to l m o (s .j) (s .i) (s .found)) (lands o n s .back)
@@ -60,11 +58,11 @@ module _ (l m : List Box) (same : mdats l ≡ mdats m) (g : All Good m) where
       lies-in (record { j = s .j; i = s .i; found = relocate-found o n s; room = rw (← same) (s .room) })
 
   -- it has the same bytes
-  pub relocate-bytes : All Good l → (o n : ℕ) → inAt l o n ≡ true → take n (drop o (write l)) ≡ take n (drop (relocate l m o) (write m))
-  relocate-bytes f o n h =
+  pub relocate-bytes : (o n : ℕ) → inAt l o n ≡ true → take n (drop o (write l)) ≡ take n (drop (relocate l m o) (write m))
+  relocate-bytes o n h =
       let s = in-lies l o n h in
       let r = resolved l o (s .j) (s .i) (s .found) in
-      let t = there f (s .j) (s .i) n (r .which) (s .room) in
+      let t = there l (s .j) (s .i) n (r .which) (s .room) in
       ap (λ (p : ℕ). take n (drop p (write l))) (r .is)
       ∙ t .bytes ∙ rw same (sym (lands o n s .bytes))
       ∙ ap (λ (p : ℕ). take n (drop p (write m))) (sym (relocate-to l m o (s .j) (s .i) (s .found)))

@@ -6,7 +6,7 @@ use mathlib.Core.List.{List, [], _∷_}
 use lib.ListN.{length, getD}
 use Rattle.codes.specs.Codes.{MDAT}
 use Rattle.wire.proofs.Tests.{lt-or}
-use Rattle.boxes.specs.Box.{Box, size}
+use Rattle.boxes.specs.Box.{Box, head, size}
 use Rattle.mdat.specs.Payloads.{mdats, spot, inBox, resolve, placeOf}
 use Rattle.mdat.proofs.Payloads.{mdat-or, resolve-here, resolve-past, mdats-hit, place-hit, within-hit, within-low, within-miss}
 use Rattle.mdat.proofs.Behind.{Behind, past-or}
@@ -18,18 +18,18 @@ pub record Found (l : List Box) (o j i : ℕ) : Type 0 where
   pub is : o ≡ placeOf l j i
 
 module _ (x : Box) (l : List Box) (o j i : ℕ) where
-  found-hit : o ≤ size x → inBox x o ≡ spot j i → x .code ≡ MDAT → x .head ≤ o → Found (x ∷ l) o j i
+  found-hit : o ≤ size x → inBox x o ≡ spot j i → x .code ≡ MDAT → head x ≤ o → Found (x ∷ l) o j i
   found-hit h e c k =
       let y = within-hit x c o k in
       let a : 0 ≡ j = cc in
-      let b : o - x .head ≡ i = cc in
+      let b : o - head x ≡ i = cc in
       let m = mdats-hit x c l in
       rw (← a) (record { which = rw m (omega arith); into = rw m (omega arith); is = rw (place-hit x c l i) (omega arith) })
 
   found-here : o ≤ size x → inBox x o ≡ spot j i → Found (x ∷ l) o j i
   found-here h e =
       mdat-or x
-      (λ c. lt-or o (x .head) (λ k. let y = within-low x c o k in let z : _≡_ {A = ℕ} 0 1 = cc in absurd (omega arith)) (λ k. found-hit h e c k))
+      (λ c. lt-or o (head x) (λ k. let y = within-low x c o k in let z : _≡_ {A = ℕ} 0 1 = cc in absurd (omega arith)) (λ k. found-hit h e c k))
       (λ c. let y = within-miss x c o in let z : _≡_ {A = ℕ} 0 1 = cc in absurd (omega arith))
 
   found-behind : size x < o → (h : ℕ) → Behind x h j → Found l (o - size x) h i → Found (x ∷ l) o j i

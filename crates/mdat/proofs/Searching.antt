@@ -13,7 +13,6 @@ use Rattle.boxes.specs.Boxes.{boxes}
 use Rattle.boxes.specs.Walk.{boxAt, Ran, Over}
 use Rattle.boxes.specs.declared.walk.Walk.{Walk}
 use Rattle.boxes.specs.declared.walk.BoxAt.{BoxAt}
-use Rattle.boxes.proofs.Reading.{heads}
 use Rattle.boxes.proofs.Seeking.{ran-size}
 use Rattle.mdat.specs.declared.payload.Payload.{Payload}
 use Rattle.mdat.specs.declared.payload.Looked.{Looked}
@@ -29,8 +28,8 @@ module _ {xs : List ℕ} {o at : ℕ} {b : BoxAt} {w : Walk} (s : Start xs o at)
   start-here : (q n : ℕ) → at ≤ q - 1 → q ≤ b .at + b .span → lies (boxes xs) 0 q n ≡ held (b .code) (b .at + b .head) (b .at + b .span) q n
   start-here q n k h =
       start-lies xs q at n (start-for s q k)
-      ∙ rw (r .list) (lies-here (boxAt xs b) (boxes (drop (w .at) xs)) at q n (heads (drop (w .at) xs)) (omega (arith, ran-size r, r .start))
-      ∙ rw (ran-size r, ← r .start))
+      ∙ rw (r .list) (lies-here (boxAt xs b) (boxes (drop (w .at) xs)) at q n (omega (arith, ran-size r, r .start))
+      ∙ rw (ran-size r, ← r .start, r .head))
 
   -- the payload of an `mdat`
   start-media : b .code ≡ MDAT → Media xs (record { start = b .at + b .head; end = b .at + b .span })

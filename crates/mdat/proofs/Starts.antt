@@ -9,7 +9,6 @@ use Rattle.boxes.specs.Boxes.{boxes, total}
 use Rattle.boxes.specs.Walk.{boxAt, Ran}
 use Rattle.boxes.specs.declared.walk.Walk.{Walk}
 use Rattle.boxes.specs.declared.walk.BoxAt.{BoxAt}
-use Rattle.boxes.proofs.Reading.{heads}
 use Rattle.boxes.proofs.Seeking.{ran-size}
 use Rattle.mdat.specs.Rules.{lies}
 use Rattle.mdat.specs.Search.{Start}
@@ -56,7 +55,7 @@ lies-behind (x ∷ front) l p o n h =
 
 -- a search from a start finds what one from the front finds
 pub start-lies : (xs : List ℕ) (o p n : ℕ) → Start xs o p → lies (boxes xs) 0 o n ≡ lies (boxes (drop p xs)) p o n
-start-lies xs zero p n s = lies-before (heads xs) 0 0 n (omega arith) ∙ sym (lies-before (heads (drop p xs)) p 0 n (omega arith))
+start-lies xs zero p n s = lies-before (boxes xs) 0 0 n (omega arith) ∙ sym (lies-before (boxes (drop p xs)) p 0 n (omega arith))
 start-lies xs (suc o) p n s =
     let e : 0 + total (s .front) ≡ p = omega (arith, s .long) in
     rw (s .list) (lies-behind (s .front) (boxes (drop p xs)) 0 (suc o) n (omega (arith, s .before, s .long))

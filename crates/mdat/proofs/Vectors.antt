@@ -8,7 +8,7 @@ use Rattle.wire.specs.Numbers.{bytesOn, bytes, word}
 use Rattle.wire.specs.Sums.{sumTo, allTo}
 use Rattle.wire.specs.Clauses.{isEq, isLe, every}
 use Rattle.wire.specs.Text.{text}
-use Rattle.boxes.specs.Boxes.{whole, boxes}
+use Rattle.boxes.specs.Boxes.{whole, boxes, formOf}
 use Rattle.sample_tables.specs.Sizes.{sizeAt, bytesFrom}
 use Rattle.sample_tables.specs.Runs.{runAmong, runOf}
 use Rattle.sample_tables.specs.Chunks.{samplesIn, firstSample, descriptionOf, chunkAt, extentOf}
@@ -42,15 +42,15 @@ eightAt o = chunksLie (boxes file) stsc stsz (stco o)
 
 -- rule 8: the chunk a byte early, in its place, a byte late
 chunks : eightAt 19 ∷ eightAt 20 ∷ eightAt 21 ∷ [] ≡ false ∷ true ∷ false ∷ []
-unfolding chunksIn allTo chunkIn lies extentOf chunkAt samplesIn firstSample descriptionOf runOf runAmong sizeAt bytesFrom sumTo boxes whole word bytes bytesOn every isEq isLe ifEq ifLt ifLe
+unfolding chunksIn allTo chunkIn lies extentOf chunkAt samplesIn firstSample descriptionOf runOf runAmong sizeAt bytesFrom sumTo boxes whole formOf word bytes bytesOn every isEq isLe ifEq ifLt ifLe
 chunks = refl
 
 -- no bytes at the payload's end, and past it
 ends : lies (boxes file) 0 25 0 ∷ lies (boxes file) 0 26 0 ∷ [] ≡ true ∷ false ∷ []
-unfolding lies boxes whole word bytes bytesOn every isEq isLe ifLe
+unfolding lies boxes whole formOf word bytes bytesOn every isEq isLe ifEq ifLe
 ends = refl
 
 -- without the first box the payload is 12 bytes nearer
 nearer : relocate (boxes file) (boxes media) 20 ≡ 8
-unfolding relocate resolve inBox past placeOf boxes whole word bytes bytesOn ifEq ifLt ifLe
+unfolding relocate resolve inBox past placeOf boxes whole formOf word bytes bytesOn ifEq ifLt ifLe
 nearer = refl

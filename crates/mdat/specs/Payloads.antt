@@ -6,7 +6,7 @@ use lib.ListN.{length, getD}
 use Rattle.wire.specs.Tests.{ifEq, ifLt}
 use Rattle.wire.specs.Clauses.{isLe}
 use Rattle.codes.specs.Codes.{MDAT}
-use Rattle.boxes.specs.Box.{Box, size}
+use Rattle.boxes.specs.Box.{Box, head, size}
 use Rattle.boxes.specs.Seek.{byNumber}
 
 -- the payloads of the `mdat` boxes, in order
@@ -21,7 +21,7 @@ pub data Spot : Type 0 where
 
 -- the spot o bytes into one box: in its payload, or at the end of it
 unfoldable pub inBox : Box → ℕ → Spot
-inBox x o = ifEq (x .code) MDAT (ifLt o (x .head) nowhere (spot 0 (o - x .head))) nowhere
+inBox x o = ifEq (x .code) MDAT (ifLt o (head x) nowhere (spot 0 (o - head x))) nowhere
 
 abbrev pub nextPayload : Spot → Spot
 nextPayload nowhere = nowhere
@@ -41,7 +41,7 @@ unfoldable pub placeOf : List Box → ℕ → ℕ → ℕ
 placeOf [] j i = 0
 placeOf (x ∷ l) j i =
     ifEq (x .code) MDAT
-    (byNumber j (x .head + i) (λ k. size x + placeOf l k i))
+    (byNumber j (head x + i) (λ k. size x + placeOf l k i))
     (size x + placeOf l j i)
 
 -- n bytes from a spot on don't pass the end of its payload

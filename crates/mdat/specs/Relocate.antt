@@ -3,7 +3,7 @@ use Prim.Native.Nat.{ℕ, _<_}
 use mathlib.Core.Path.{_≡_}
 use mathlib.Core.List.{List}
 use lib.ListN.{length}
-use Rattle.boxes.specs.Box.{Box}
+use Rattle.boxes.specs.Box.{Box, head}
 use Rattle.sample_tables.specs.Tables.{items}
 use Rattle.sample_tables.specs.Chunks.{offsetAt}
 use Rattle.mdat.specs.Payloads.{Spot, nowhere, spot, resolve, placeOf}
@@ -23,6 +23,6 @@ pub record Relocated (l m : List Box) (stco stco′ : List ℕ) : Type 0 where
 
 -- two boxes of the same layout
 pub record Alike (x y : Box) : Type 0 where
-  pub head : x .head ≡ y .head
+  pub head : head x ≡ head y
   pub code : x .code ≡ y .code
   pub long : length (x .body) ≡ length (y .body)

@@ -7,7 +7,7 @@ use Rattle.wire.specs.Tests.{pick}
 use Rattle.wire.specs.Clauses.{isEq, isLe, every}
 use Rattle.wire.specs.Sums.{allTo}
 use Rattle.codes.specs.Codes.{MDAT}
-use Rattle.boxes.specs.Box.{Box, size}
+use Rattle.boxes.specs.Box.{Box, head, size}
 use Rattle.sample_tables.specs.Tables.{items}
 use Rattle.sample_tables.specs.Sizes.{sampleCount, Sizes}
 use Rattle.sample_tables.specs.Chunks.{samplesOver, extentAt, Walkable}
@@ -15,7 +15,7 @@ use Rattle.sample_tables.specs.Chunks.{samplesOver, extentAt, Walkable}
 -- one of the boxes, which stand from place p on, is an `mdat` whose payload has the n bytes from place o on
 unfoldable pub lies : List Box → (p o n : ℕ) → Bool
 lies [] p o n = false
-lies (x ∷ l) p o n = pick (every (isEq (x .code) MDAT ∷ isLe (p + x .head) o ∷ isLe (o + n) (p + size x) ∷ [])) true (lies l (p + size x) o n)
+lies (x ∷ l) p o n = pick (every (isEq (x .code) MDAT ∷ isLe (p + head x) o ∷ isLe (o + n) (p + size x) ∷ [])) true (lies l (p + size x) o n)
 
 -- of chunk k of a track, in a file with the boxes l
 unfoldable pub chunkIn : List Box → (stsc stsz stco : List ℕ) → ℕ → Bool
