@@ -6,6 +6,7 @@ pub mod Numbered
 pub mod Every
 pub mod Walking
 pub mod Seeking
+pub mod Tallying
 pub mod Wording
 pub mod Aiming
 pub mod Rewriting

@@ -1,5 +1,6 @@
 -- A box: a header, which says the box's whole size and its four-byte code, and a payload.
 use Prim.Native.Nat.{ℕ, _+_}
+use mathlib.Core.Bool.{Bool, true, false}
 use mathlib.Core.List.{List, [], _∷_, _++_}
 use lib.ListN.{length}
 use Rattle.wire.specs.Numbers.{bytes}
@@ -11,6 +12,16 @@ abbrev pub headOf : Form → ℕ
 headOf Plain = 8
 headOf Wide = 16
 headOf Open = 8
+
+abbrev pub isPlain : Form → Bool
+isPlain Plain = true
+isPlain Wide = false
+isPlain Open = false
+
+abbrev pub isOpen : Form → Bool
+isOpen Plain = false
+isOpen Wide = false
+isOpen Open = true
 
 -- what the size field says of a box of n bytes: its size; "size field 1"; or "size 0 ..., meaning to the end of the file"
 abbrev pub fieldOf : Form → ℕ → ℕ

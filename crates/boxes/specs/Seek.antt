@@ -1,9 +1,11 @@
 -- Counting and finding boxes by their code.
 use Prim.Native.Nat.{ℕ, zero, suc, _+_, _-_, _≤_}
 use mathlib.Core.Path.{_≡_}
+use mathlib.Core.Bool.{Bool, true, false}
 use mathlib.Core.List.{List, [], _∷_, _++_}
 use lib.ListN.{length, take, drop}
 use Rattle.wire.specs.Tests.{pick, ifEq}
+use Rattle.wire.specs.Clauses.{every}
 use Rattle.boxes.specs.declared.walk.BoxAt.{BoxAt}
 use Rattle.boxes.specs.declared.walk.Form.{Form}
 use Rattle.boxes.specs.declared.walk.Form.the-variants.{Plain}
@@ -11,7 +13,7 @@ use Rattle.boxes.specs.declared.seek.Tiling.{Tiling}
 use Rattle.boxes.specs.declared.seek.Tiling.the-variants.{Whole, Torn}
 use Rattle.boxes.specs.declared.seek.Seen.{Seen}
 use Rattle.boxes.specs.declared.seek.Seen.the-variants.{At, Missing}
-use Rattle.boxes.specs.Box.{Box, headOf, head, size, write}
+use Rattle.boxes.specs.Box.{Box, isPlain, headOf, head, size, write}
 use Rattle.boxes.specs.Boxes.{boxes, after, tiles}
 use Rattle.boxes.specs.Walk.{boxAt}
 
@@ -88,3 +90,19 @@ pub record Passed (xs : List ℕ) (c seen at : ℕ) : Type 0 where
   pub rest : after xs ≡ after (drop at xs)
   pub few : seen ≤ at
   pub inside : at ≤ length xs
+
+-- ---- plain boxes alone
+
+-- "only the plain 8-byte header is read"
+unfoldable pub allPlain : List Box → Bool
+allPlain [] = true
+allPlain (x ∷ l) = pick (isPlain (x .form)) (allPlain l) false
+
+-- such boxes tile the part
+abbrev pub plainTiles : List ℕ → Bool
+plainTiles xs = every (tiles xs ∷ allPlain (boxes xs) ∷ [])
+
+-- c means `seen` of the boxes before place at, which are plain
+pub record Tallied (xs : List ℕ) (c seen at : ℕ) : Type 0 where
+  pub passed : Passed xs c seen at
+  pub plain : allPlain (boxes xs) ≡ allPlain (boxes (drop at xs))

@@ -6,9 +6,10 @@ use crate::walk::Walk;
 ghost use mathlib.Core.Path.{_≡_};
 ghost use Prim.Native.Nat.{_+_, _≤_, _<_};
 ghost use lib.ListN.{length};
+ghost use Rattle.wire.specs.Tests.{pick};
 ghost use Rattle.wire.specs.Clauses.{oneIf};
 ghost use Rattle.boxes.specs.Boxes.{boxes, total, tiles as tilesOf};
-ghost use Rattle.boxes.specs.Seek.{tilingOf, meant as meantBy, count as countOf, nth as nthIn, placeIn, startIn, SeenAs};
+ghost use Rattle.boxes.specs.Seek.{tilingOf, meant as meantBy, count as countOf, nth as nthIn, placeIn, startIn, SeenAs, plainTiles};
 
 // Any box is meant by this number.
 pub const ANY: usize = 0;
@@ -82,6 +83,32 @@ pub fn count(part: &[u8], c: usize) -> usize
             }
             Step::Broken(_) => {
                 return n;
+            }
+        }
+    }
+}
+
+// How many boxes have a code in a part that plain boxes tile, and 0 where they don't tile it.
+pub fn tally(part: &[u8], c: usize) -> usize
+    ensures { λ r. ⌜ r ≡ pick (plainTiles (now (part .entry))) (countOf c (boxes (now (part .entry)))) 0 ⌝ }
+{
+    let mut w = Walk { at: 0 };
+    let mut n = 0;
+    loop {
+        match w.step(part) {
+            Step::Found(b, next) => {
+                let form = b.form;
+                if walk::is_plain(form) == 0 {
+                    return 0;
+                }
+                n = n + meant(c, b.code);
+                w = next;
+            }
+            Step::End => {
+                return n;
+            }
+            Step::Broken(_) => {
+                return 0;
             }
         }
     }

@@ -3,8 +3,10 @@ use wire::number;
 ghost use mathlib.Core.Path.{_≡_};
 ghost use Prim.Native.Nat.{_+_, _-_, _≤_, _<_};
 ghost use lib.ListN.{length};
+ghost use Rattle.wire.specs.Clauses.{oneIf};
 ghost use Rattle.wire.specs.Numbers.{word};
 ghost use Rattle.boxes.specs.declared.walk.Step.the-variants.{Found};
+ghost use Rattle.boxes.specs.Box.{isPlain, isOpen};
 ghost use Rattle.boxes.specs.Walk.{stepAt, payload};
 
 // The length of a plain header, and of a wide one.
@@ -20,6 +22,28 @@ pub enum Form {
     Plain,
     Wide,
     Open,
+}
+
+// Whether a header is plain: 1 or 0.
+pub fn is_plain(form: Form) -> usize
+    ensures { λ r. ⌜ r ≡ oneIf (isPlain form) ⌝ }
+{
+    match form {
+        Form::Plain => 1,
+        Form::Wide => 0,
+        Form::Open => 0,
+    }
+}
+
+// Whether a box is open: 1 or 0.
+pub fn is_open(form: Form) -> usize
+    ensures { λ r. ⌜ r ≡ oneIf (isOpen form) ⌝ }
+{
+    match form {
+        Form::Plain => 0,
+        Form::Wide => 0,
+        Form::Open => 1,
+    }
 }
 
 // The place that a walk has come to.

@@ -7,8 +7,8 @@ use Rattle.wire.specs.Tests.{ifEq}
 use Rattle.wire.specs.Clauses.{isEq, isLe, every}
 use Rattle.wire.specs.Numbers.{bytes, word}
 use Rattle.codes.specs.Codes.{ESDS, AVCC, SOUN}
-use Rattle.boxes.specs.Boxes.{boxes, tiles}
-use Rattle.boxes.specs.Seek.{count}
+use Rattle.boxes.specs.Boxes.{boxes}
+use Rattle.boxes.specs.Seek.{count, plainTiles}
 use Rattle.entry_heads.specs.Kinds.{OtherKind, Mp4vKind, Mp4aKind, Avc1Kind, kindOf, handlerOf}
 use Rattle.entry_heads.specs.Heads.{headSize, headRule}
 use Rattle.entry_rules.specs.declared.entry.Around.{Around}
@@ -45,9 +45,9 @@ aroundRule Alone kind xs = true
 unfoldable pub esdsRule : List ℕ → Bool
 esdsRule xs = every (boxRule ESDS xs ∷ isLe 12 (length xs) ∷ isEq (word 4 xs 8) 0 ∷ [])
 
--- "boxes tile the rest, exactly one is avcC, all opaque"
+-- "boxes tile the rest, exactly one is avcC, all opaque"; inside an entry headers are plain
 unfoldable pub avcRule : List ℕ → Bool
-avcRule xs = every (tiles xs ∷ isEq (count AVCC (boxes xs)) 1 ∷ [])
+avcRule xs = every (plainTiles xs ∷ isEq (count AVCC (boxes xs)) 1 ∷ [])
 
 -- by the kind; after another code's head the "rest [is] opaque"
 unfoldable pub insideRule : ℕ → ℕ → List ℕ → Bool

@@ -96,14 +96,11 @@ fn esds_rule(part: &[u8]) -> usize
     1
 }
 
-// Whether boxes tile a part and one is `avcC`.
+// Whether plain boxes tile a part and one is `avcC`.
 fn avc_rule(part: &[u8]) -> usize
     ensures { λ r. ⌜ r ≡ oneIf (avcRule (now (part .entry))) ⌝ }
 {
-    if seek::tiles(part) == 0 {
-        return 0;
-    }
-    if seek::count(part, codes::AVCC) != 1 {
+    if seek::tally(part, codes::AVCC) != 1 {
         return 0;
     }
     1

@@ -6,7 +6,7 @@ use mathlib.Core.Bool.{Bool, true, false}
 use mathlib.Core.List.{List}
 use Rattle.wire.specs.Clauses.{oneIf}
 use Rattle.wire.proofs.Tests.{eq-yea, eq-nay}
-use Rattle.boxes.specs.Box.{Box}
+use Rattle.boxes.specs.Box.{Box, head}
 use Rattle.boxes.specs.Boxes.{after}
 use Rattle.boxes.specs.Walk.{Over}
 use Rattle.boxes.specs.Containers.{kindIn}
@@ -26,11 +26,11 @@ unless-is false p e q = q ∙ rw e (sym (eq-yea 0 0 (Bad p) Fine (Bad p) refl re
 -- ---- a box
 
 module _ (j : Judge) (go : ℕ → List ℕ → ℕ → ℕ → Verdict) (k : ℕ) (x : Box) (p : ℕ) {i : ℕ} {v : Verdict} where
-  pub box-leaf : i ≡ kindIn k (x .code) → i ≡ 0 → v ≡ j .leaf k (x .code) (x .body) p (p + x .head) → v ≡ judgeBox j go k x p
+  pub box-leaf : i ≡ kindIn k (x .code) → i ≡ 0 → v ≡ j .leaf k (x .code) (x .body) p (p + head x) → v ≡ judgeBox j go k x p
   unfolding judgeBox
   box-leaf e z q = eq-yea _ _ _ _ _ (sym e ∙ z) q
 
-  pub box-node : i ≡ kindIn k (x .code) → (i ≡ 0 → ⊥) → v ≡ go i (x .body) p (p + x .head) → v ≡ judgeBox j go k x p
+  pub box-node : i ≡ kindIn k (x .code) → (i ≡ 0 → ⊥) → v ≡ go i (x .body) p (p + head x) → v ≡ judgeBox j go k x p
   unfolding judgeBox
   box-node e z q = eq-nay _ _ _ _ _ (λ y. z (e ∙ y)) (rw (← e) q)
 

@@ -10,7 +10,7 @@ use Rattle.wire.proofs.Tests.{eq-yea, eq-nay, eq-any, lt-yea, lt-nay}
 use Rattle.wire.proofs.Clauses.{not-eq}
 use Rattle.boxes.specs.declared.walk.Walk.{Walk}
 use Rattle.boxes.specs.declared.walk.BoxAt.{BoxAt}
-use Rattle.boxes.specs.Box.{Box, size}
+use Rattle.boxes.specs.Box.{Box, head, size}
 use Rattle.boxes.specs.Boxes.{boxes, after}
 use Rattle.boxes.specs.Containers.{FILE, DEPTH, kindIn}
 use Rattle.boxes.specs.Walk.{boxAt, Ran, Over}
@@ -36,7 +36,7 @@ module _ (r : Rule) (d k : ℕ) where
   unfolding judgeBox
   box-most x q =
       eq-any (λ v. named v ≤ q + size x) (kindIn k (x .code)) 0 _ _ (unless-most _ (r .leaf k (x .code) (x .body)) q (omega arith))
-      (omega (arith, judge-most (placed r) (placed-bounded r) d (kindIn k (x .code)) (x .body) q (q + x .head) (omega arith)))
+      (omega (arith, judge-most (placed r) (placed-bounded r) d (kindIn k (x .code)) (x .body) q (q + head x) (omega arith)))
 
   pub first-broken : {xs : List ℕ} {base p at : ℕ} {whole v : Verdict} {b : BoxAt} {w : Walk} → Found f (placed r .end (after xs)) xs base whole Fine at → Ran xs at b w
       → v ≡ f (boxAt xs b) (base + b .at) → v ≡ Bad p → Bad p ≡ whole

@@ -5,7 +5,7 @@ use mathlib.Core.Path.{_≡_, refl, ap, subst, _∙_}
 use mathlib.Core.List.{List}
 use lib.ListN.{length}
 use Rattle.codes.specs.Codes.{TRAK, TKHD, MDIA, MDHD, HDLR, MINF, DINF, DREF, STBL, STSD, STTS, STSC, STSZ, STCO}
-use Rattle.boxes.specs.Box.{Box}
+use Rattle.boxes.specs.Box.{Box, head}
 use Rattle.boxes.specs.Boxes.{HEAD, boxes}
 use Rattle.boxes.specs.Seek.{count, find, startIn, placeIn}
 use Rattle.boxes.proofs.Reading.{All, Headed, heads}
@@ -37,8 +37,8 @@ unfolding count startIn placeIn
 start-eight c none h = absurd (omega arith)
 start-eight c (some {x} {l} e a) h =
     meant-or c (x .code)
-    (λ m. rw (place-hit c x l m (λ y. y .head), place-hit c x l m (λ y. 0)) (omega arith))
-    (λ m. rw (place-miss c x l m (λ y. y .head) 0, place-miss c x l m (λ y. 0) 0) (omega (arith, start-eight c a (omega arith))))
+    (λ m. rw (place-hit c x l m head, place-hit c x l m (λ y. 0)) (omega arith))
+    (λ m. rw (place-miss c x l m head 0, place-miss c x l m (λ y. 0) 0) (omega (arith, start-eight c a (omega arith))))
 
 module _ {xs : List ℕ} {trak : Slot} {t m i d s : Five}
     (gt : Gathered xs trak (firstWith TKHD) (firstWith MDIA) (firstWith MDIA) (firstWith MDIA) (firstWith MDIA) t)

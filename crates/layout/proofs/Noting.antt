@@ -9,7 +9,7 @@ use Rattle.wire.proofs.Tests.{eq-yea, eq-nay, eq-or, lt-or}
 use Rattle.wire.proofs.Clauses.{is-eq, not-eq}
 use Rattle.boxes.specs.declared.walk.Walk.{Walk}
 use Rattle.boxes.specs.declared.walk.BoxAt.{BoxAt}
-use Rattle.boxes.specs.Box.{Box, size}
+use Rattle.boxes.specs.Box.{Box, head, size}
 use Rattle.boxes.specs.Boxes.{boxes, after, tiles}
 use Rattle.boxes.specs.Seek.{count, nth, startIn, meant}
 use Rattle.boxes.specs.Walk.{boxAt, Ran, Over}
@@ -21,17 +21,17 @@ use Rattle.layout.specs.Slots.{slotIn, Lies, nowhere, Stands, noteOf}
 use Rattle.layout.proofs.Slots.{slot-part}
 
 module _ (c : ℕ) (x : Box) (l : List Box) where
-  start-hit : meant c (x .code) ≡ 1 → startIn c 0 (x ∷ l) ≡ x .head
+  start-hit : meant c (x .code) ≡ 1 → startIn c 0 (x ∷ l) ≡ head x
   unfolding startIn
-  start-hit e = place-hit c x l e (λ y. y .head)
+  start-hit e = place-hit c x l e head
 
   start-next : meant c (x .code) ≡ 1 → (n : ℕ) → startIn c (suc n) (x ∷ l) ≡ size x + startIn c n l
   unfolding startIn
-  start-next e n = place-next c x l e (λ y. y .head) n
+  start-next e n = place-next c x l e head n
 
   start-miss : meant c (x .code) ≡ 0 → (n : ℕ) → startIn c n (x ∷ l) ≡ size x + startIn c n l
   unfolding startIn
-  start-miss e n = place-miss c x l e (λ y. y .head) n
+  start-miss e n = place-miss c x l e head n
 
 -- of the boxes of the part ys before place at
 pub record Noted (xs ys : List ℕ) (p : ℕ) (u : Want) (at : ℕ) (s : Slot) : Type 0 where

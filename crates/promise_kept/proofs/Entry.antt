@@ -9,7 +9,7 @@ use lib.Seq.{drop-at, length-take-le}
 use Rattle.wire.specs.Numbers.{bytes, word}
 use Rattle.wire.proofs.Lists.{take-past}
 use Rattle.wire.proofs.Numbers.{length-bytes, word-bytes, word-right}
-use Rattle.boxes.specs.Box.{Box, size, header, remade}
+use Rattle.boxes.specs.Box.{Box, head, size, header, remade}
 use Rattle.boxes.specs.Boxes.{HEAD}
 use Rattle.boxes.specs.Way.{tailBy}
 use Rattle.boxes.proofs.Whole.{Good, length-header}
@@ -36,7 +36,7 @@ module _ (x : Box) (g : Good x) where
       let b = x .body in
       let t : take (8 + keep) (header x ++ b) ≡ header x ++ take keep b = take-past (header x) b 8 keep (length-header x) in
       let d : drop 4 (header x ++ take keep b) ≡ bytes 4 (x .code) ++ take keep b = rw append-assoc (drop-at (bytes 4 (size x)) (bytes 4 (x .code) ++ take keep b) 4 (length-bytes 4 (size x))) in
-      let n : x .head + length (take keep b ++ new) ≡ 8 + keep + length new = rw (length-append, length-take-le keep b h) (omega (arith, g .head)) in
+      let n : head x + length (take keep b ++ new) ≡ 8 + keep + length new = rw (length-append, length-take-le keep b h) (omega (arith, g .head)) in
       rw (t, d, n) (simp append-assoc)
 
   -- a given record that meets its rule, in the place of the entry's own

@@ -5,7 +5,7 @@ use mathlib.Core.Path.{_≡_, refl, sym, ap, _∙_}
 use mathlib.Core.List.{List, [], _∷_}
 use lib.ListN.{length, getD}
 use Rattle.codes.specs.Codes.{MDAT}
-use Rattle.boxes.specs.Box.{Box}
+use Rattle.boxes.specs.Box.{Box, head}
 use Rattle.boxes.specs.Seek.{meant, count, nth, startIn}
 use Rattle.boxes.proofs.Meaning.{meant-yes, meant-is, count-hit, count-miss, nth-hit, nth-next, nth-miss, place-hit, place-next, place-miss}
 use Rattle.boxes.proofs.Numbered.{by-number}
@@ -35,13 +35,13 @@ payload-of =
     record {
       which = rw (count-miss MDAT x l e) (p .which);
       body = nth-miss MDAT x l e j ∙ p .body ∙ sym (b .body l);
-      place = λ i. b .place l i ∙ rw (place-miss MDAT x l e (λ y. y .head) j) (omega (arith, p .place i));
+      place = λ i. b .place l i ∙ rw (place-miss MDAT x l e head j) (omega (arith, p .place i));
     })
     (λ x l e k.
     record {
       which = rw (count-hit MDAT x l e) (omega arith);
       body = nth-hit MDAT x l e ∙ sym (ap (λ (ms : List (List ℕ)). getD ms 0 []) (mdats-hit x (is-mdat x e) l));
-      place = λ i. payload-hit x (is-mdat x e) l i ∙ rw (place-hit MDAT x l e (λ y. y .head));
+      place = λ i. payload-hit x (is-mdat x e) l i ∙ rw (place-hit MDAT x l e head);
     })
     (λ j x l e ih k.
     let b = behind-hit x (is-mdat x e) j in
@@ -49,5 +49,5 @@ payload-of =
     record {
       which = rw (count-hit MDAT x l e) (omega (arith, p .which));
       body = nth-next MDAT x l e j ∙ p .body ∙ sym (b .body l);
-      place = λ i. b .place l i ∙ rw (place-next MDAT x l e (λ y. y .head) j) (omega (arith, p .place i));
+      place = λ i. b .place l i ∙ rw (place-next MDAT x l e head j) (omega (arith, p .place i));
     })

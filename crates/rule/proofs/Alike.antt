@@ -3,7 +3,7 @@ use Prim.Native.Nat.{ℕ, zero, suc, _+_}
 use mathlib.Core.Path.{_≡_, refl, sym, _∙_}
 use mathlib.Core.List.{List}
 use Rattle.wire.proofs.Tests.{eq-yea, eq-nay, eq-or}
-use Rattle.boxes.specs.Box.{Box, size}
+use Rattle.boxes.specs.Box.{Box, head, size}
 use Rattle.boxes.specs.Boxes.{boxes, after}
 use Rattle.boxes.specs.Containers.{kindIn}
 use Rattle.boxes.proofs.Reading.{All}
@@ -37,5 +37,5 @@ module _ (i j : ℕ → List ℕ → ℕ → ℕ → Verdict) (leaf : ℕ → �
             (all-map (λ x t q.
             eq-or (kindIn k (x .code)) 0
             (λ z. sym (eq-yea _ _ _ _ _ z refl) ∙ eq-yea _ _ _ _ _ z refl)
-            (λ z. sym (eq-nay _ _ _ _ _ z refl) ∙ same-verdict d (kindIn k (x .code)) (x .body) q (q + x .head) (t z) ∙ eq-nay _ _ _ _ _ z refl)) (inside d k xs h)) p,
+            (λ z. sym (eq-nay _ _ _ _ _ z refl) ∙ same-verdict d (kindIn k (x .code)) (x .body) q (q + head x) (t z) ∙ eq-nay _ _ _ _ _ z refl)) (inside d k xs h)) p,
       )

@@ -7,7 +7,7 @@ use mathlib.Core.List.{List, [], _∷_}
 use lib.ListN.{length}
 use Rattle.wire.specs.Tests.{ifEq}
 use Rattle.wire.proofs.Tests.{eq-any}
-use Rattle.boxes.specs.Box.{Box, size}
+use Rattle.boxes.specs.Box.{Box, head, size}
 use Rattle.boxes.specs.Boxes.{boxes, total, after}
 use Rattle.boxes.specs.Containers.{kindIn}
 use Rattle.boxes.proofs.Placing.{total-is}
@@ -75,5 +75,5 @@ module _ (j : Judge) (b : Bounded j) where
       (b .node k xs home p h)
       (list-most (p + length xs) (judgeBox j (judgeIn j d) k) (j .end (after xs))
       (λ x q. eq-any (λ v. named v ≤ q + size x) (kindIn k (x .code)) 0 _ _
-      (omega (arith, b .leaf k (x .code) (x .body) q (q + x .head) (omega arith))) (omega (arith, judge-most d (kindIn k (x .code)) (x .body) q (q + x .head) (omega arith))))
+      (omega (arith, b .leaf k (x .code) (x .body) q (q + head x) (omega arith))) (omega (arith, judge-most d (kindIn k (x .code)) (x .body) q (q + head x) (omega arith))))
       (boxes xs) p (omega arith) (λ q i. omega (arith, b .end (after xs) q)))

@@ -8,16 +8,16 @@ use lib.ListN.{drop}
 use Rattle.wire.proofs.Tests.{eq-any}
 use Rattle.boxes.specs.declared.walk.Walk.{Walk}
 use Rattle.boxes.specs.declared.walk.BoxAt.{BoxAt}
-use Rattle.boxes.specs.Box.{Box, size}
+use Rattle.boxes.specs.Box.{Box, head, size}
 use Rattle.boxes.specs.Boxes.{boxes, after}
 use Rattle.boxes.specs.Containers.{kindIn}
 use Rattle.boxes.specs.Walk.{boxAt, Ran, Over}
 use Rattle.rule.specs.declared.Verdict.{Verdict}
 use Rattle.rule.specs.declared.Verdict.the-variants.{Fine, Bad}
 use Rattle.rule.specs.Verdict.{sooner, unless}
-use Rattle.rule.specs.Judge.{judgeList, judgeBox, judgeIn}
-use Rattle.rule.specs.Rule.{Rule, placed}
-use Rattle.rule.proofs.Places.{sooner-right, unless-yea, unless-nay}
+use Rattle.rule.specs.Judge.{Judge, judgeList, judgeBox, judgeIn}
+use Rattle.rule.specs.Rule.{Rule, placed, placedBy}
+use Rattle.rule.proofs.Places.{sooner-then, sooner-turn, sooner-right, unless-yea, unless-nay}
 use Rattle.rule.proofs.Bounds.{named}
 use Rattle.rule.proofs.Traverse.{Found, found-more, found-over}
 
@@ -58,34 +58,52 @@ from-list m f e h g (x ∷ l) p n =
 
 -- ---- a container, and the loop over its boxes
 
-module _ (r : Rule) where
-  box-from : (d k : ℕ) → ((i : ℕ) (ys : List ℕ) (h q : ℕ) → h ≤ q → From h (judgeIn (placed r) d i ys h q)) → (x : Box) (p : ℕ)
-      → From p (judgeBox (placed r) (judgeIn (placed r) d) k x p)
+-- two judgements of a list are one, box by box
+swap : (a b c d : Verdict) → sooner (sooner a b) (sooner c d) ≡ sooner (sooner a c) (sooner b d)
+swap a b c d = sooner-then a b (sooner c d) ∙ ap (sooner a) (sym (sooner-then b c d) ∙ ap (λ (v : Verdict). sooner v d) (sooner-turn b c) ∙ sooner-then c b d) ∙ sym (sooner-then a c (sooner b d))
+
+list-both : (f g : Box → ℕ → Verdict) (e : ℕ → Verdict) (l : List Box) (p : ℕ) → sooner (judgeList f (λ q. Fine) l p) (judgeList g e l p) ≡ judgeList (λ x q. sooner (f x q) (g x q)) e l p
+unfolding judgeList sooner
+list-both f g e [] p = refl
+list-both f g e (x ∷ l) p = swap (f x p) _ (g x p) _ ∙ ap (sooner (sooner (f x p) (g x p))) (list-both f g e l (p + size x))
+
+module _ (t : ℕ → Box → Bool) (r : Rule) where
+  abbrev by : Judge
+  by = placedBy t r
+
+  -- what is asked of a box: its own test, and then as an opaque box or a container
+  abbrev pub boxFirst : ℕ → ℕ → Box → ℕ → Verdict
+  boxFirst d k x q = sooner (unless (t k x) q) (judgeBox by (judgeIn by d) k x q)
+
+  pub first-start : (d k : ℕ) (xs : List ℕ) (home p : ℕ)
+      → judgeIn by (suc d) k xs home p ≡ sooner (unless (r .node k xs) home) (judgeList (boxFirst d k) (placed r .end (after xs)) (boxes xs) p)
+  unfolding judgeIn
+  first-start d k xs home p = sooner-then _ _ _ ∙ ap (sooner (unless (r .node k xs) home)) (list-both _ _ _ (boxes xs) p)
+
+  box-from : (d k : ℕ) → ((i : ℕ) (ys : List ℕ) (h q : ℕ) → h ≤ q → From h (judgeIn by d i ys h q)) → (x : Box) (p : ℕ) → From p (boxFirst d k x p)
   unfolding judgeBox
   box-from d k ih x p =
-      eq-any (From p) (kindIn k (x .code)) 0 _ _ (from-unless p (r .leaf k (x .code) (x .body)) p (omega arith))
-      (ih (kindIn k (x .code)) (x .body) p (p + x .head) (omega arith))
+      from-sooner p _ _ (from-unless p (t k x) p (omega arith))
+      (eq-any (From p) (kindIn k (x .code)) 0 _ _ (from-unless p (r .leaf k (x .code) (x .body)) p (omega arith))
+      (ih (kindIn k (x .code)) (x .body) p (p + head x) (omega arith)))
 
-  from-in : (d k : ℕ) (xs : List ℕ) (home p : ℕ) → home ≤ p → From home (judgeIn (placed r) d k xs home p)
+  from-in : (d k : ℕ) (xs : List ℕ) (home p : ℕ) → home ≤ p → From home (judgeIn by d k xs home p)
   unfolding judgeIn
   from-in zero k xs home p h = from-fine home
   from-in (suc d) k xs home p h =
-      from-sooner home (unless (r .node k xs) home) (judgeList (judgeBox (placed r) (judgeIn (placed r) d) k) (placed r .end (after xs)) (boxes xs) p)
-      (from-unless home (r .node k xs) home (omega arith))
-      (from-list home _ _ (box-from d k (λ i ys g q z. from-in d i ys g q z)) (λ q. from-unless q (r .end (after xs)) q (omega arith)) (boxes xs) p h)
+      rw (first-start d k xs home p)
+      (from-sooner home _ _ (from-unless home (r .node k xs) home (omega arith))
+      (from-list home _ _ (box-from d k (λ i ys g q z. from-in d i ys g q z)) (λ q. from-unless q (r .end (after xs)) q (omega arith)) (boxes xs) p h))
 
   -- what is left from a place on
-  abbrev boxFirst : ℕ → ℕ → Box → ℕ → Verdict
-  boxFirst d k = judgeBox (placed r) (judgeIn (placed r) d) k
-
   left-from : (d k : ℕ) (xs : List ℕ) (l : List Box) (p : ℕ) → From p (judgeList (boxFirst d k) (placed r .end (after xs)) l p)
   left-from d k xs l p = from-list p _ _ (box-from d k (from-in d)) (λ q. from-unless q (r .end (after xs)) q (omega arith)) l p (omega arith)
 
   -- the container itself
-  pub first-node : (d k : ℕ) (xs : List ℕ) (home p : ℕ) → (d ≡ 0 → ⊥) → home ≤ p → r .node k xs ≡ false → Bad home ≡ judgeIn (placed r) d k xs home p
-  unfolding judgeIn unless
+  pub first-node : (d k : ℕ) (xs : List ℕ) (home p : ℕ) → (d ≡ 0 → ⊥) → home ≤ p → r .node k xs ≡ false → Bad home ≡ judgeIn by d k xs home p
+  unfolding unless
   first-node zero k xs home p z h e = absurd (z refl)
-  first-node (suc d) k xs home p z h e = rw e (sooner-settled p home _ h (left-from d k xs (boxes xs) p))
+  first-node (suc d) k xs home p z h e = rw (first-start d k xs home p, e) (sooner-settled p home _ h (left-from d k xs (boxes xs) p))
 
   -- a box of it, where nothing is broken before
   pub first-box : (d k : ℕ) {xs : List ℕ} {base p at : ℕ} {whole : Verdict} → Found (boxFirst d k) (placed r .end (after xs)) xs base whole (Bad p) at → p ≤ base + at → Bad p ≡ whole

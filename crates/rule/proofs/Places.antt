@@ -32,6 +32,13 @@ sooner-then (Bad p) Fine w = refl
 sooner-then (Bad p) (Bad q) Fine = refl
 sooner-then (Bad p) (Bad q) (Bad r) = ap Bad (omega arith)
 
+pub sooner-turn : (u v : Verdict) → sooner u v ≡ sooner v u
+unfolding sooner
+sooner-turn Fine Fine = refl
+sooner-turn Fine (Bad q) = refl
+sooner-turn (Bad p) Fine = refl
+sooner-turn (Bad p) (Bad q) = ap Bad (omega arith)
+
 -- as code goes
 pub sooner-right : (u v : Verdict) → u ≡ Fine → v ≡ sooner u v
 unfolding sooner

@@ -2,7 +2,7 @@
 use Prim.Native.Nat.{ℕ, zero, suc, _+_}
 use mathlib.Core.List.{List, [], _∷_}
 use Rattle.wire.specs.Tests.{ifEq}
-use Rattle.boxes.specs.Box.{Box, size}
+use Rattle.boxes.specs.Box.{Box, head, size}
 use Rattle.boxes.specs.Boxes.{boxes, after}
 use Rattle.boxes.specs.Containers.{kindIn}
 use Rattle.rule.specs.declared.Verdict.{Verdict}
@@ -23,7 +23,7 @@ judgeList j e (x ∷ l) p = sooner (j x p) (judgeList j e l (p + size x))
 
 -- a box in a container of kind k: an opaque one by itself, a container by what it holds
 unfoldable pub judgeBox : Judge → (ℕ → List ℕ → ℕ → ℕ → Verdict) → ℕ → Box → ℕ → Verdict
-judgeBox j go k x p = ifEq (kindIn k (x .code)) 0 (j .leaf k (x .code) (x .body) p (p + x .head)) (go (kindIn k (x .code)) (x .body) p (p + x .head))
+judgeBox j go k x p = ifEq (kindIn k (x .code)) 0 (j .leaf k (x .code) (x .body) p (p + head x)) (go (kindIn k (x .code)) (x .body) p (p + head x))
 
 -- a part of kind k at place home whose first byte is at p, as deep as d containers
 unfoldable pub judgeIn : Judge → ℕ → ℕ → List ℕ → ℕ → ℕ → Verdict

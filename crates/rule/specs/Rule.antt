@@ -7,8 +7,9 @@ use Rattle.wire.specs.Tests.{pick, ifEq}
 use Rattle.boxes.specs.Box.{Box}
 use Rattle.boxes.specs.Boxes.{boxes, after}
 use Rattle.boxes.specs.Containers.{kindIn}
-use Rattle.rule.specs.Verdict.{unless, isFine}
-use Rattle.rule.specs.Judge.{Judge}
+use Rattle.rule.specs.declared.Verdict.the-variants.{Fine}
+use Rattle.rule.specs.Verdict.{sooner, unless, isFine}
+use Rattle.rule.specs.Judge.{Judge, judgeList}
 
 pub record Rule : Type 0 where
   pub leaf : ℕ → ℕ → List ℕ → Bool
@@ -34,6 +35,18 @@ placed r =
       node = λ k xs home p. unless (r .node k xs) home;
       end = λ xs p. unless (r .end xs) p;
     }
+
+-- the same with a test of each box of a container of kind k: one that fails it is named by its own place too
+abbrev pub placedBy : (ℕ → Box → Bool) → Rule → Judge
+placedBy t r =
+    record {
+      leaf = placed r .leaf;
+      node = λ k xs home p. sooner (placed r .node k xs home p) (judgeList (λ x q. unless (t k x) q) (λ q. Fine) (boxes xs) p);
+      end = placed r .end;
+    }
+
+abbrev pub withEach : (ℕ → Box → Bool) → Rule → Rule
+withEach t r = record { leaf = r .leaf; node = λ k xs. pick (r .node k xs) (allList (t k) true (boxes xs)) false; end = r .end }
 
 -- a judge that asks what a rule asks, with places
 pub record Says (j : Judge) (r : Rule) : Type 0 where

@@ -12,7 +12,7 @@ use Rattle.wire.proofs.Clauses.{was-yea, was-nay}
 use Rattle.wire.proofs.Tests.{eq-yea, eq-nay}
 use Rattle.boxes.specs.declared.walk.Walk.{Walk}
 use Rattle.boxes.specs.declared.walk.BoxAt.{BoxAt}
-use Rattle.boxes.specs.Box.{Box, size, header}
+use Rattle.boxes.specs.Box.{Box, head, size, header}
 use Rattle.boxes.specs.Boxes.{HEAD, FRONT, boxes}
 use Rattle.boxes.specs.Walk.{payload, boxAt, Ran, Over}
 use Rattle.boxes.specs.Seek.{meant}
@@ -87,7 +87,7 @@ boxJudged x p = stsdsJudged (stsdsFrom 0 (x ∷ []) p)
 module _ (x : Box) (p : ℕ) where
   -- those of a track
   abbrev trackJudged : Verdict
-  trackJudged = entriesJudged (aroundOf (x .body)) (drop FRONT (follow toStsd (x .body))) (p + x .head + placeAlong toStsd (x .body) + HEAD + FRONT)
+  trackJudged = entriesJudged (aroundOf (x .body)) (drop FRONT (follow toStsd (x .body))) (p + head x + placeAlong toStsd (x .body) + HEAD + FRONT)
 
   box-hit : meant TRAK (x .code) ≡ 1 → boxJudged x p ≡ trackJudged
   unfolding stsdsFrom stsdsJudged
@@ -98,7 +98,7 @@ module _ (x : Box) (p : ℕ) where
   box-miss e = rw (stsds-miss x e [] 0 p)
 
   -- as code asks
-  pub box-track : x .code ≡ TRAK → {v : Verdict} → v ≡ entriesJudged (aroundOf (x .body)) (listIn (x .body)) (p + x .head + placeAlong toStsd (x .body) + HEAD + FRONT) → v ≡ boxJudged x p
+  pub box-track : x .code ≡ TRAK → {v : Verdict} → v ≡ entriesJudged (aroundOf (x .body)) (listIn (x .body)) (p + head x + placeAlong toStsd (x .body) + HEAD + FRONT) → v ≡ boxJudged x p
   unfolding listIn
   box-track e q = q ∙ sym (box-hit (sym (meant-yes TRAK (x .code) (λ z. omega arith) e)))
 

@@ -9,7 +9,7 @@ use Rattle.codes.specs.Codes.{TRAK}
 use Rattle.wire.proofs.Tests.{eq-yea, eq-nay, le-yea, le-nay}
 use Rattle.boxes.specs.declared.walk.Walk.{Walk}
 use Rattle.boxes.specs.declared.walk.BoxAt.{BoxAt}
-use Rattle.boxes.specs.Box.{Box, size}
+use Rattle.boxes.specs.Box.{Box, headOf, head, size}
 use Rattle.boxes.specs.Boxes.{boxes}
 use Rattle.boxes.specs.Walk.{payload, boxAt, Ran, Over}
 use Rattle.boxes.specs.Seek.{meant}
@@ -45,7 +45,7 @@ module _ (most t n : ℕ) (x : Box) (l : List Box) (p : ℕ) where
       rw (stsds-miss x e l t p, o, e, z, m))
 
   -- it passes it
-  pass-over : n ≤ most → most < n + countOf (x .code) (x .body) → passing most n (stsdsFrom t (x ∷ l) p) ≡ Bad (p + x .head + placeAlong toStsd (x .body))
+  pass-over : n ≤ most → most < n + countOf (x .code) (x .body) → passing most n (stsdsFrom t (x ∷ l) p) ≡ Bad (p + head x + placeAlong toStsd (x .body))
   unfolding passing
   pass-over k h =
       meant-or TRAK (x .code)
@@ -80,9 +80,10 @@ module _ {most : ℕ} {xs : List ℕ} {base n at : ℕ} (i : Counted most xs bas
         }
 
     pub counted-over : most < n + m → {r : Verdict} → r ≡ Bad (base + b .at + b .head + placeAlong toStsd (payload xs b)) → r ≡ passing most 0 (stsdsFrom 0 (boxes xs) base)
-    counted-over h q =
+    counted-over h {r} q =
+        let z : base + b .at + b .head + placeAlong toStsd (payload xs b) ≡ base + b .at + headOf (b .form) + placeAlong toStsd (payload xs b) = omega (arith, s .head) in
         let k : m ≡ countOf (b .code) (payload xs b) = rw g at e in
-        q ∙ sym (i .is ∙ rw (s .list, ← s .start) (pass-over most (i .t) n (boxAt xs b) (boxes (drop (w .at) xs)) (base + b .at) (i .few) (omega arith)))
+        q ∙ ap Bad z ∙ sym (i .is ∙ rw (s .list, ← s .start) (pass-over most (i .t) n (boxAt xs b) (boxes (drop (w .at) xs)) (base + b .at) (i .few) (omega arith)))
 
   pub counted-all : Over xs at → Fine ≡ passing most 0 (stsdsFrom 0 (boxes xs) base)
   unfolding stsdsFrom passing

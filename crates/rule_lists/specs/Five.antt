@@ -8,8 +8,8 @@ use Rattle.wire.specs.Tests.{ifEq, ifLe}
 use Rattle.wire.specs.Numbers.{word}
 use Rattle.wire.specs.Clauses.{isEq, isLe, every}
 use Rattle.codes.specs.Codes.{MOOV, STBL, STSD, DINF, DREF}
-use Rattle.boxes.specs.Boxes.{FRONT, boxes, after, tiles}
-use Rattle.boxes.specs.Seek.{ANY, count}
+use Rattle.boxes.specs.Boxes.{FRONT, boxes, after}
+use Rattle.boxes.specs.Seek.{ANY, count, allPlain, plainTiles}
 use Rattle.movie.specs.Movie.{storedCount}
 use Rattle.movie.specs.Stsds.{Stsd, stsdsFrom}
 use Rattle.rule.specs.declared.Verdict.{Verdict}
@@ -20,14 +20,15 @@ use Rattle.rule.specs.Rule.{Rule}
 
 -- ---- one list
 
--- "payload at least 8, version and flags 0, a count of at least 1 equal to the number of boxes that tile the rest"
+-- "payload at least 8, version and flags 0, a count of at least 1 equal to the number of boxes that tile the rest", "only the plain
+-- 8-byte header is read"
 unfoldable pub listForm : List ℕ → Bool
 listForm b =
     every
     (isLe FRONT (length b)
     ∷ isEq (word 4 b 0) 0
     ∷ isLe 1 (storedCount b)
-    ∷ tiles (drop FRONT b)
+    ∷ plainTiles (drop FRONT b)
     ∷ isEq (count ANY (boxes (drop FRONT b))) (storedCount b)
     ∷ [])
 
@@ -37,6 +38,7 @@ pub record Listed (b : List ℕ) : Type 0 where
   pub front : word 4 b 0 ≡ 0
   pub some : 1 ≤ storedCount b
   pub tiled : length (after (drop FRONT b)) ≡ 0
+  pub plain : allPlain (boxes (drop FRONT b)) ≡ true
   pub counted : count ANY (boxes (drop FRONT b)) ≡ storedCount b
 
 -- asked of an `stsd` in `stbl` and of a `dref` in `dinf` alone, of a box of code c in a container of kind k

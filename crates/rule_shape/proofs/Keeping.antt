@@ -4,17 +4,21 @@ use native.Mathlib.Omega.{arith}
 use mathlib.Core.Path.{_≡_, refl, sym, _∙_}
 use mathlib.Core.Bool.{true}
 use mathlib.Core.List.{List, [], _∷_, map}
+use mathlib.Core.Logic.{inl, inr}
+use Rattle.wire.proofs.Tests.{eq-yea, both}
 use Rattle.codes.specs.Codes.{TRAK}
 use Rattle.boxes.specs.Box.{Box}
 use Rattle.boxes.specs.Boxes.{boxes}
 use Rattle.boxes.specs.Seek.{count}
-use Rattle.boxes.specs.Kin.{Leaf, Kin}
+use Rattle.boxes.specs.Containers.{FILE}
+use Rattle.boxes.specs.Kin.{All2, Leaf, Formed, KinBox, Kin}
+use Rattle.boxes.specs.Kin.All2.{nil, cons}
 use Rattle.boxes.proofs.Kin.{kin-codes, kin-count}
-use Rattle.rule.specs.Rule.{allIn}
+use Rattle.rule.specs.Rule.{allList, allIn}
 use Rattle.rule.proofs.Keeping.{keep}
 use Rattle.rule_shape.specs.Three.{needed, exactly, first, besides, shape, threeRule}
 use Rattle.rule_shape.specs.TwentyThree.{barred, editableRule}
-use Rattle.rule_shape.specs.Two.{twoRule}
+use Rattle.rule_shape.specs.Two.{shutIn, twoRule}
 
 -- ---- lists of boxes with the same codes
 
@@ -35,11 +39,29 @@ pub same-shape : (l m : List Box) → map (λ x. x .code) l ≡ map (λ x. x .co
 unfolding shape besides
 same-shape l m e h k = rw (same-exactly l m h 1 (needed k), same-first l m e, h TRAK)
 
+-- ---- forms: none opens
+
+shut-file : (x : Box) → shutIn FILE x ≡ true
+unfolding shutIn
+shut-file x = sym (eq-yea _ _ _ _ _ refl refl)
+
+shut-kin : (k : ℕ) (x y : Box) → Formed k (x .code) (x .form) (y .form) → shutIn k x ≡ true → shutIn k y ≡ true
+unfolding shutIn
+shut-kin k x y (inl e) t = rw e at t
+shut-kin k x y (inr (z, c, o, p)) t = rw z (shut-file y)
+
+all-shut : {G : Leaf} {go : ℕ → List ℕ → List ℕ → Type 0} (k : ℕ) {l m : List Box} → All2 (KinBox G go k) l m → allList (shutIn k) true l ≡ true → allList (shutIn k) true m ≡ true
+unfolding allList
+all-shut k nil t = refl
+all-shut k (cons {x} {y} {l} {m} r a) t =
+    let b = both (shutIn k x) (allList (shutIn k) true l) t in
+    rw (shut-kin k x y (r .form) (b .0)) (all-shut k a (b .1))
+
 -- ---- what an edit keeps
 
 module _ (G : Leaf) (d k : ℕ) (xs ys : List ℕ) (a : Kin G d k xs ys) where
   pub kin-2 : allIn twoRule d k xs ≡ true → allIn twoRule d k ys ≡ true
-  kin-2 = keep twoRule twoRule G (λ k c b b′ z g t. t) (λ d k xs ys a t. t) (λ xs t. t) d k xs ys a
+  kin-2 = keep twoRule twoRule G (λ k c b b′ z g t. t) (λ d k xs ys a t. all-shut k (a .0) t) (λ xs t. t) d k xs ys a
 
   pub kin-3 : allIn threeRule d k xs ≡ true → allIn threeRule d k ys ≡ true
   kin-3 = keep threeRule threeRule G (λ k c b b′ z g t. t) (λ d k xs ys a t. sym (same-shape (boxes xs) (boxes ys) (kin-codes G d k xs ys a) (kin-count G d k xs ys a) k) ∙ t) (λ xs t. t) d k xs ys a

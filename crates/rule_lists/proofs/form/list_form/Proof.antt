@@ -17,6 +17,6 @@ list-form-spec = tie.close (tie.spec
     (λ c. nay _ (fails 2 _ (not-le _ _ (omega arith))))
     (λ c κs. search needs)
     (λ c κs. search needs)
-    (λ c. nay _ (form-nay _ (c .before .before .before .before .word32-in2 .ensures .0) (rw (c .before .before .rest .ensures) at (c .before .tally .ensures)) (c .if4 .taken)))
+    (λ c. nay _ (form-nay _ (omega arith) (omega arith) (omega arith) (c .before .before .before .before .word32-in2 .ensures .0) (rw (c .before .before .rest .ensures) at (c .before .tally .ensures)) (c .if4 .taken)))
     (λ c. yea _ (form-yea _ (omega arith) (omega arith) (omega arith) (c .before .before .before .before .word32-in2 .ensures .0) (rw (c .before .before .rest .ensures) at
     (c .before .tally .ensures)) (omega arith))))
