@@ -13,13 +13,13 @@ use Rattle.wire.proofs.Tests.{eq-yea, eq-nay}
 use Rattle.boxes.specs.declared.walk.Walk.{Walk}
 use Rattle.boxes.specs.declared.walk.BoxAt.{BoxAt}
 use Rattle.boxes.specs.Box.{Box, head, size, header}
-use Rattle.boxes.specs.Boxes.{HEAD, FRONT, boxes}
+use Rattle.boxes.specs.Boxes.{FRONT, boxes}
 use Rattle.boxes.specs.Walk.{payload, boxAt, Ran, Over}
 use Rattle.boxes.specs.Seek.{meant}
 use Rattle.boxes.proofs.Whole.{length-header}
 use Rattle.boxes.proofs.Meaning.{meant-or, meant-yes, meant-no}
 use Rattle.boxes.proofs.Seeking.{length-payload, ran-bytes}
-use Rattle.movie.specs.Ways.{toStsd, follow, placeAlong}
+use Rattle.movie.specs.Ways.{toStsd, follow, startAlong}
 use Rattle.movie.specs.Stsds.{stsdsFrom}
 use Rattle.movie.specs.Named.{listIn}
 use Rattle.movie.proofs.Boxed.{stsds-hit, stsds-miss}
@@ -44,7 +44,7 @@ meets-is a xs e = e
 pub bytes-is : {xs : List ℕ} {at : ℕ} {b : BoxAt} {w : Walk} → Bytes xs → Ran xs at b w → bytesOf xs b ≡ header (boxAt xs b) ++ payload xs b
 bytes-is {xs} {at} {b} {w} v s =
     let n : b .at + b .span - b .at ≡ b .span = omega arith in
-    let m : length (header (boxAt xs b) ++ payload xs b) ≡ b .span = rw (length-append, length-header, length-payload s) (omega (arith, s .least, s .eight)) in
+    let m : length (header (boxAt xs b) ++ payload xs b) ≡ b .span = rw (length-append, length-header, length-payload s) (omega (arith, s .least, s .head)) in
     let d : drop (b .at) xs ≡ header (boxAt xs b) ++ payload xs b ++ drop (w .at) xs = ap (λ (i : ℕ). drop i xs) (s .start) ∙ ran-bytes s v ∙ sym (append-assoc (header (boxAt xs b)) (payload xs b) (drop (w .at) xs)) in
     rw n (ap (take (b .span)) d ∙ take-at (header (boxAt xs b) ++ payload xs b) (drop (w .at) xs) (b .span) m)
 
@@ -87,7 +87,7 @@ boxJudged x p = stsdsJudged (stsdsFrom 0 (x ∷ []) p)
 module _ (x : Box) (p : ℕ) where
   -- those of a track
   abbrev trackJudged : Verdict
-  trackJudged = entriesJudged (aroundOf (x .body)) (drop FRONT (follow toStsd (x .body))) (p + head x + placeAlong toStsd (x .body) + HEAD + FRONT)
+  trackJudged = entriesJudged (aroundOf (x .body)) (drop FRONT (follow toStsd (x .body))) (p + head x + startAlong toStsd (x .body) + FRONT)
 
   box-hit : meant TRAK (x .code) ≡ 1 → boxJudged x p ≡ trackJudged
   unfolding stsdsFrom stsdsJudged
@@ -98,9 +98,10 @@ module _ (x : Box) (p : ℕ) where
   box-miss e = rw (stsds-miss x e [] 0 p)
 
   -- as code asks
-  pub box-track : x .code ≡ TRAK → {v : Verdict} → v ≡ entriesJudged (aroundOf (x .body)) (listIn (x .body)) (p + head x + placeAlong toStsd (x .body) + HEAD + FRONT) → v ≡ boxJudged x p
+  pub box-track : x .code ≡ TRAK → {h : ℕ} → h ≡ head x → {v : Verdict} → v ≡ entriesJudged (aroundOf (x .body)) (listIn (x .body)) (p + h + startAlong toStsd (x .body) + FRONT) → v ≡ boxJudged x p
   unfolding listIn
-  box-track e q = q ∙ sym (box-hit (sym (meant-yes TRAK (x .code) (λ z. omega arith) e)))
+  box-track e {h} w q =
+      q ∙ ap (λ (n : ℕ). entriesJudged (aroundOf (x .body)) (listIn (x .body)) (p + n + startAlong toStsd (x .body) + FRONT)) w ∙ sym (box-hit (sym (meant-yes TRAK (x .code) (λ z. omega arith) e)))
 
   pub box-other : (x .code ≡ TRAK → ⊥) → Fine ≡ boxJudged x p
   box-other e = sym (box-miss (sym (meant-no TRAK (x .code) (λ z. omega arith) e)))

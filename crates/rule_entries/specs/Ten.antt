@@ -7,7 +7,7 @@ use Rattle.wire.specs.Tests.{pick, ifEq}
 use Rattle.codes.specs.Codes.{MOOV}
 use Rattle.boxes.specs.declared.walk.BoxAt.{BoxAt}
 use Rattle.boxes.specs.Box.{Box, header}
-use Rattle.boxes.specs.Boxes.{HEAD, FRONT, boxes}
+use Rattle.boxes.specs.Boxes.{FRONT, boxes}
 use Rattle.movie.specs.Movie.{scale, handler, references}
 use Rattle.movie.specs.Stsds.{Stsd, stsdsFrom}
 use Rattle.entry_rules.specs.declared.entry.Around.{Around}
@@ -48,7 +48,7 @@ entriesFine a xs = allList (entryFine a) true (boxes xs)
 
 unfoldable pub stsdsJudged : List Stsd → Verdict
 stsdsJudged [] = Fine
-stsdsJudged (s ∷ l) = sooner (entriesJudged (aroundOf (s .trak)) (drop FRONT (s .body)) (s .place + HEAD + FRONT)) (stsdsJudged l)
+stsdsJudged (s ∷ l) = sooner (entriesJudged (aroundOf (s .trak)) (drop FRONT (s .body)) (s .start + FRONT)) (stsdsJudged l)
 
 unfoldable pub stsdsFine : List Stsd → Bool
 stsdsFine [] = true

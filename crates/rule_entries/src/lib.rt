@@ -11,9 +11,10 @@ ghost use Prim.Native.Nat.{_+_, _^_, _<_, _≤_};
 ghost use mathlib.Core.List.{[], _∷_};
 ghost use lib.ListN.{length};
 ghost use Rattle.wire.specs.Clauses.{oneIf};
-ghost use Rattle.boxes.specs.Boxes.{HEAD, FRONT, boxes};
+ghost use Rattle.boxes.specs.Box.{headOf};
+ghost use Rattle.boxes.specs.Boxes.{FRONT, boxes};
 ghost use Rattle.boxes.specs.Walk.{boxAt};
-ghost use Rattle.movie.specs.Ways.{toStsd, placeAlong};
+ghost use Rattle.movie.specs.Ways.{toStsd, startAlong};
 ghost use Rattle.movie.specs.Stsds.{stsdsFrom};
 ghost use Rattle.movie.specs.Named.{listIn};
 ghost use Rattle.rule_entries.specs.Ten.{aroundOf, meets, bytesOf, entriesJudged, stsdsJudged, tenAt};
@@ -66,20 +67,16 @@ pub fn entries_from(list: &[u8], base: usize, around: Around) -> Verdict
 // The entries of a track whose payload starts at base.
 fn track_entries(track: &[u8], base: usize) -> Verdict
     requires { ⌜ base + length (now track) < 2 ^ 60 ⌝ }
-    ensures { λ r. ⌜ r ≡ entriesJudged (aroundOf (now (track .entry))) (listIn (now (track .entry))) (base + placeAlong toStsd (now (track .entry)) + HEAD + FRONT) ⌝ }
+    ensures { λ r. ⌜ r ≡ entriesJudged (aroundOf (now (track .entry))) (listIn (now (track .entry))) (base + startAlong toStsd (now (track .entry)) + FRONT) ⌝ }
 {
     let around = around_of(track);
-    let place = base + movie::stsd_place(track);
-    entries_from(
-        movie::entry::list(track),
-        place + walk::HEAD + walk::FRONT,
-        around,
-    )
+    let start = base + movie::stsd_start(track);
+    entries_from(movie::entry::list(track), start + walk::FRONT, around)
 }
 
 // Those of a box of a `moov` that starts at base: none where it is no `trak`.
 fn box_entries(part: &[u8], b: BoxAt, base: usize) -> Verdict
-    requires { ⌜ (b .head ≤ b .span) × (b .at + b .span ≤ length (now part)) × (base + length (now part) < 2 ^ 60) ⌝ }
+    requires { ⌜ (b .head ≡ headOf (b .form)) × (b .head ≤ b .span) × (b .at + b .span ≤ length (now part)) × (base + length (now part) < 2 ^ 60) ⌝ }
     ensures { λ r. ⌜ r ≡ stsdsJudged (stsdsFrom 0 (boxAt (now (part .entry)) b ∷ []) (base + b .at)) ⌝ }
 {
     if b.code != codes::TRAK {

@@ -12,8 +12,6 @@ use Rattle.boxes.specs.Boxes.{boxes}
 use Rattle.boxes.specs.Seek.{find}
 use Rattle.boxes.specs.Containers.{kindIn, parent}
 use Rattle.boxes.specs.Kin.{Leaf, Kin}
-use Rattle.boxes.proofs.Whole.{Good}
-use Rattle.boxes.proofs.Reading.{All, Headed}
 use Rattle.boxes.proofs.Kin.{kin-find}
 use Rattle.mdat.specs.Payloads.{mdats}
 use Rattle.mdat.specs.Relocate.{Relocated}
@@ -32,13 +30,13 @@ unfolding eightAt eightIn
 eight-says l = record { leaf = λ k c b p q. refl; node = λ k xs home p. through isFine k STBL _ Fine ∙ rw unless-fine; end = λ xs p. refl }
 
 -- from a file with the boxes l to one with the boxes m and the same payloads, where every chunk offset is relocated
-module _ (G : Leaf) (t : Tables G) (l m : List Box) (same : mdats l ≡ mdats m) (headed : All Headed l) (good : All Good m)
+module _ (G : Leaf) (t : Tables G) (l m : List Box) (same : mdats l ≡ mdats m)
     (moved : (b b′ : List ℕ) → G STBL STCO b b′ → Relocated l m b b′) where
   holds-kept : (d : ℕ) (xs ys : List ℕ) → Kin G (suc d) STBL xs ys → eightHolds l (boxes xs) ≡ true → eightHolds m (boxes ys) ≡ true
   unfolding eightHolds kindIn parent ifEq
   holds-kept d xs ys a =
       rw (← same-table G t d xs ys a STSC (λ z. omega arith) refl (t .stsc), ← same-table G t d xs ys a STSZ (λ z. omega arith) refl (t .stsz))
-      (eight-kept l m same headed good (find STSC (boxes xs)) (find STSZ (boxes xs)) (find STCO (boxes xs)) (find STCO (boxes ys))
+      (eight-kept l m same (find STSC (boxes xs)) (find STSZ (boxes xs)) (find STCO (boxes xs)) (find STCO (boxes ys))
       (kin-find G d STBL xs ys a STCO (λ z. omega arith) (Relocated l m) (relocated-none l m) refl moved 0))
 
   in-kept : (d k : ℕ) (xs ys : List ℕ) → Kin G (suc d) k xs ys → eightIn l k xs ≡ true → eightIn m k ys ≡ true

@@ -15,5 +15,5 @@ box-entries-spec = tie.close (tie.spec
     (λ c κs. search needs)
     (λ c. search needs)
     (λ c. search needs)
-    (λ c κs. let s = c .before .before .before .before .before .before in omega (arith, payload-length (s .args .part .now) (s .args .b) (s .pre .0) (s .pre .1), ap length (c .before .before .body .ensures)))
-    (λ c. let s = c .before .before .before .before .before .before .before in box-track (boxAt (s .args .part .now) (s .args .b)) _ (omega arith) (rw (c .before .before .before .body .ensures) at (c .track-entries .ensures))))
+    (λ c κs. let s = c .before .before .before .before .before .before in omega (arith, payload-length (s .args .part .now) (s .args .b) (s .pre .1) (s .pre .2), ap length (c .before .before .body .ensures)))
+    (λ c. let s = c .before .before .before .before .before .before .before in box-track (boxAt (s .args .part .now) (s .args .b)) _ (omega arith) (s .pre .0) (rw (c .before .before .before .body .ensures) at (c .track-entries .ensures))))

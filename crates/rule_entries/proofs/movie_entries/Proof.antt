@@ -23,7 +23,7 @@ movie-entries-spec = tie.close (tie.spec Inv μ
     (λ c. stsds-none _ _)
     (λ c κs. search needs)
     (λ c. search needs)
-    (λ c κs. let s = ran _ _ _ _ _ (c .before .before .before .step .ensures) (c .before .b .given .1) in (s .least, omega arith, omega arith))
+    (λ c κs. let s = ran _ _ _ _ _ (c .before .before .before .step .ensures) (c .before .b .given .1) in (s .head, s .least, omega arith, omega arith))
     (λ c κs. search needs)
     (λ c. let s = ran _ _ _ _ _ (c .before .before .before .before .before .step .ensures) (c .before .before .before .b .given .1) in omega arith)
     (λ c. found-more boxJudged noEnd _ _ (c .before .before .before .before .before .before .loop .inv) (ran _ _ _ _ _ (c .before .before .before .before .before .step .ensures) (c .before .before .before .b .given .1)) (c .before .box-entries .ensures) (c .sooner .ensures))

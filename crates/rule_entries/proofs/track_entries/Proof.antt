@@ -1,4 +1,4 @@
--- The list past the 16 bytes of the track's `stsd`.
+-- The list past the front of the track's `stsd`.
 use borrow.Author.Needs.{needs}
 use native.Mathlib.Omega.{arith}
 use Rattle.rule_entries.proofs.track_entries.Statement.{statement}
@@ -11,6 +11,5 @@ track-entries-spec = tie.close (tie.spec
     (λ c. search needs)
     (λ c κs. search needs)
     (λ c. search needs)
-    (λ c. search needs)
     (λ c κs. search needs)
-    (λ c. rw (c .before .before .before .around-of .ensures, c .before .list .ensures .0, c .before .before .stsd-place .ensures .0) at (c .entries-from .ensures)))
+    (λ c. rw (c .before .before .before .around-of .ensures, c .before .list .ensures .0, c .before .before .stsd-start .ensures .0) at (c .entries-from .ensures)))
