@@ -5,5 +5,6 @@ pub mod Containers
 pub mod Whole
 pub mod Judging
 pub mod Answers
+pub mod Hint
 pub mod Running
 pub mod Editing

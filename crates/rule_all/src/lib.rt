@@ -81,7 +81,7 @@ fn tracks_fine(file: &[u8], m: Movie) -> usize
     let mut two = 0;
     let mut three = 0;
     while i < n {
-        let t = track::judge(file, tracks::track_slot(m, i));
+        let t = track::judge(file, tracks::track_slot(m, i), m.mdat);
         if t.fine == 0 {
             return 0;
         }

@@ -19,7 +19,7 @@ tracks-fine-spec = tie.close (tie.spec Inv μ
     (λ c κs. search needs)
     (λ c κs. let p = c .before .before .before .before .pre in
     let a = slot-at (p .0) (c .before .before .loop .i) (omega (arith, p .0 .tracks, p .1)) in
-    (rw (c .track-slot .ensures) (a .lies), p .2))
+    (rw (c .track-slot .ensures) (a .lies), p .2, p .0 .mdat))
     (λ c. run-broken _)
     (λ c κs. search needs)
     (λ c. run-broken _)

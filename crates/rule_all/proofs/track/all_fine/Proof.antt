@@ -14,7 +14,7 @@ all-fine-spec = tie.close (tie.spec
     (λ c. no-answer _ _)
     (λ c κs. search needs)
     (λ c. no-answer _ _)
-    (λ c κs. (c .before .before .before .before .before .before .before .before .before .pre .0, (was-yea _ _ (c .if4 .left) (c .before .forms-fine .ensures))))
+    (λ c κs. let p = c .before .before .before .before .before .before .before .before .before .pre in (p .0, was-yea _ _ (c .if4 .left) (c .before .forms-fine .ensures), p .2))
     (λ c. no-answer _ _)
     (λ c κs. search needs)
     (λ c. all-answer _ _ (c .before .before .before .before .before .before .before .before .before .if1 .left) (was-yea _ _
