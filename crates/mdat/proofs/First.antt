@@ -5,7 +5,7 @@ use mathlib.Core.Path.{_≡_, refl, ap}
 use mathlib.Core.List.{List, [], _∷_}
 use lib.ListN.{length, drop}
 use Rattle.codes.specs.Codes.{MDAT}
-use Rattle.boxes.specs.Box.{Box}
+use Rattle.boxes.specs.Box.{Box, head}
 use Rattle.boxes.specs.Boxes.{boxes}
 use Rattle.boxes.specs.Seek.{meant, nth, find, startIn}
 use Rattle.boxes.specs.Walk.{boxAt, stepAt, Ran, Stepped}
@@ -37,7 +37,7 @@ module _ {xs : List ℕ} {at : ℕ} {b : BoxAt} {w : Walk} (s : Start xs (at + 1
   unfolding startIn
   first-here m f =
       let n = nth-hit MDAT (boxAt xs b) l m in
-      let o = place-hit MDAT (boxAt xs b) l m (λ y. y .head) in
+      let o = place-hit MDAT (boxAt xs b) l m head in
       let k = length-payload r in
       media-as (start-media s r (meant-is MDAT (b .code) (λ z. omega arith) m)) (omega (arith, f .start, r .start))
       (omega (arith, f .start, f .end, ap length n, r .start, r .least))
@@ -46,7 +46,7 @@ module _ {xs : List ℕ} {at : ℕ} {b : BoxAt} {w : Walk} (s : Start xs (at + 1
   unfolding startIn
   first-past m f =
       let n = nth-miss MDAT (boxAt xs b) l m 0 in
-      let o = place-miss MDAT (boxAt xs b) l m (λ y. y .head) 0 in
+      let o = place-miss MDAT (boxAt xs b) l m head 0 in
       record {
         some = rw n at (f .some);
         start = omega (arith, f .start, o, r .next, ran-size r);
