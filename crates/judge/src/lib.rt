@@ -30,7 +30,7 @@ fn verdict_of(n: usize, file: &[u8]) -> Verdict
     rules::judge_in(n, file, file, 0, 0, containers::FILE, containers::DEPTH)
 }
 
-// The lowest number whose rule is broken, with the place of the first box in file order that breaks it. All rules are asked at once first.
+// The lowest number whose rule is broken, with the place of the first box in file order that breaks it. All rules are asked at once first, and only those in doubt again.
 pub fn judge(file: &[u8]) -> Judgement
     ensures { λ r. ⌜ r ≡ judged (now (file .entry)) ⌝ }
 {
@@ -40,10 +40,7 @@ pub fn judge(file: &[u8]) -> Judgement
     if containers::LONGEST < file.len() {
         return Judgement::Refused(1, 0);
     }
-    if rule_all::all_hold(file) != 0 {
-        return Judgement::Accepted;
-    }
-    let mut n = 2;
+    let mut n = rule_all::sure_before(file);
     while n < 11 {
         match verdict_of(n, file) {
             Verdict::Fine => {

@@ -138,27 +138,30 @@ fn entries_fine(file: &[u8], t: Track) -> usize
     }
 }
 
-// An answer other than 0 says that it meets all of them.
+// 2; or 10, where it meets rules 2 to 9; or 11, where it meets rule 10 too.
 fn all_fine(file: &[u8], t: Track) -> usize
     requires { ⌜ Inside (now file) t × (length (now file) ≤ LONGEST) ⌝ }
     ensures { λ r. ⌜ AllFine (now (file .entry)) t r ⌝ }
 {
     if t.shaped == 0 {
-        return 0;
+        return 2;
     }
     if heads_fine(file, t) == 0 {
-        return 0;
+        return 2;
     }
     if lists_fine(file, t) == 0 {
-        return 0;
+        return 2;
     }
     if forms_fine(file, t) == 0 {
-        return 0;
+        return 2;
     }
     if tables_fine(file, t) == 0 {
-        return 0;
+        return 2;
     }
-    entries_fine(file, t)
+    if entries_fine(file, t) == 0 {
+        return 10;
+    }
+    11
 }
 
 // The track whose payload is a slot of the file.
@@ -170,7 +173,7 @@ pub fn judge(file: &[u8], trak: Slot) -> TrackSays
     let tkhd = t.tkhd;
     let stsd = t.stsd;
     TrackSays {
-        fine: all_fine(file, t),
+        sure: all_fine(file, t),
         identity: number::word32(gather::bytes(file, tkhd), 12),
         entries: number::word32(gather::bytes(file, stsd), 4),
     }

@@ -2,8 +2,8 @@
 use borrow.Author.Needs.{needs}
 use Prim.Native.Nat.{_-_, _≤_}
 use Rattle.boxes.specs.Containers.{LONGEST}
-use Rattle.judge.proofs.Order.{Passed, passed-none, passed-more, passed-bad, passed-all, too-short, too-long}
-use Rattle.judge.proofs.AtOnce.{sure-accepted}
+use Rattle.judge.proofs.Order.{Passed, passed-more, passed-bad, passed-all, too-short, too-long}
+use Rattle.judge.proofs.AtOnce.{sure-passed}
 use lib.ListN.{length}
 use native.Mathlib.Omega.{arith}
 use Rattle.judge.proofs.judge.Statement.{statement}
@@ -20,8 +20,7 @@ judge-spec = tie.close (tie.spec Inv μ
     (λ c. too-short _ (omega arith))
     (λ c. too-long _ (omega arith))
     (λ c κs. omega arith)
-    (λ c. sure-accepted _ (omega arith) (omega arith) (c .before .all-hold .ensures) (c .if3 .taken))
-    (λ c. (passed-none _ (omega arith) (omega arith), omega arith))
+    (λ c. (sure-passed _ (omega arith) (omega arith) (c .sure-before .ensures), omega arith))
     (λ c κs. search needs)
     (λ c. search needs)
     (λ c. search needs)
