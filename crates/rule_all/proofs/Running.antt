@@ -13,9 +13,18 @@ use Rattle.boxes.specs.Boxes.{boxes}
 use Rattle.movie.specs.Movie.{movie, tracks, track}
 use Rattle.rule_headers.specs.Identities.{identity, fresh, different}
 use Rattle.rule_lists.specs.Five.{MOST}
+use Rattle.layout.specs.declared.gather.Slot.{Slot}
+use Rattle.layout.specs.declared.tracks.Movie.{Movie}
+use Rattle.layout.specs.Slots.{slotIn}
+use Rattle.layout.specs.Tracks.{trackSlot, LaidOut, Spread}
+use Rattle.layout.specs.Every.{ReadAt, TrackAt}
+use Rattle.layout.proofs.Everything.{trak-at, track-read}
+use Rattle.rule_all.specs.declared.SureTracks.{SureTracks}
 use Rattle.rule_all.specs.declared.TrackSays.{TrackSays}
+use Rattle.rule_all.specs.All.{SureBefore}
 use Rattle.rule_all.specs.Track.{Good, EntriesMeet, Judged}
-use Rattle.rule_all.specs.Tracks.{entriesOn, Again, Tracked}
+use Rattle.rule_all.specs.Tracks.{entriesOn, Again, Tracked, TracksTold}
+use Rattle.rule_all.proofs.All.{sure-before-none}
 
 -- the first i are good, their IDs differ, and the last three of those are at hand; at 11 their entries are fine too
 pub record Run (xs : List ℕ) (i total one two three sure : ℕ) : Type 0 where
@@ -107,3 +116,21 @@ run-broken xs =
       few = λ z. absurd (omega arith);
       listed = λ z. absurd (omega arith);
     }
+
+-- a track of the walk, by its slot
+pub seen : {xs : List ℕ} {m : Movie} → LaidOut xs m → Spread xs m → {i : ℕ} → i < 4 → i < tracks xs → {s : Slot} {t : TrackSays} → s ≡ trackSlot m i
+    → Judged (boxes xs) (slotIn xs s) t × ReadAt xs s (t .read) → Judged (boxes xs) (track xs i) t × TrackAt xs i (t .read)
+seen l p {i} h k q j =
+    let a = trak-at l p i h in
+    (rw (q, a .at .is) at (j .0), track-read a k (rw q at (j .1)))
+
+-- in doubt from rule 2 on
+module _ {xs : List ℕ} {r : SureTracks} (e : r .sure ≡ 2) where
+  no-tracks : TracksTold xs r
+  no-tracks = record { tracks = λ h. absurd (omega arith) }
+
+  pub untold : Tracked xs (r .sure) × TracksTold xs r
+  untold = (rw e (run-broken xs), no-tracks)
+
+  pub unsure : SureBefore xs (r .sure) × TracksTold xs r
+  unsure = (rw e (sure-before-none xs), no-tracks)

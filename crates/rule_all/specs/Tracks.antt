@@ -9,6 +9,8 @@ use Rattle.movie.specs.Ways.{toStsd, follow}
 use Rattle.movie.specs.Movie.{movie, tracks, track, storedCount}
 use Rattle.rule_headers.specs.Identities.{different}
 use Rattle.rule_lists.specs.Five.{MOST}
+use Rattle.layout.specs.Every.{TracksAt}
+use Rattle.rule_all.specs.declared.SureTracks.{SureTracks}
 use Rattle.rule_all.specs.Track.{Good, EntriesMeet}
 
 -- how many sample entries the `stsd` of track i, from 0, counts
@@ -29,3 +31,7 @@ pub record Tracked (xs : List ℕ) (r : ℕ) : Type 0 where
   pub differ : 10 ≤ r → different (movie xs) ≡ true
   pub few : 10 ≤ r → sumTo (entriesOn xs) (tracks xs) ≤ MOST
   pub listed : 11 ≤ r → (i : ℕ) → i < tracks xs → EntriesMeet (track xs i)
+
+-- an answer of 10 or 11 comes with what each track says
+pub record TracksTold (xs : List ℕ) (r : SureTracks) : Type 0 where
+  pub tracks : 10 ≤ r .sure → TracksAt xs (r .tracks)

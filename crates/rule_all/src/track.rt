@@ -2,6 +2,7 @@
 use crate::TrackSays;
 use boxes::walk;
 use entry_rules::entry::Around;
+use layout::every;
 use layout::gather;
 use layout::gather::Slot;
 use layout::track;
@@ -24,6 +25,7 @@ ghost use Rattle.wire.specs.Clauses.{oneIf};
 ghost use Rattle.boxes.specs.Boxes.{FRONT, boxes};
 ghost use Rattle.boxes.specs.Containers.{LONGEST};
 ghost use Rattle.layout.specs.Slots.{slotIn, Lies};
+ghost use Rattle.layout.specs.Every.{ReadAt};
 ghost use Rattle.rule_lists.specs.Nine.{allUrls};
 ghost use Rattle.rule_entries.specs.Ten.{entriesFine};
 ghost use Rattle.rule_all.specs.Track.{Inside, headsFine, listsFine, formsFine, tablesFine, aroundIn, AllFine, Judged};
@@ -167,7 +169,7 @@ fn all_fine(file: &[u8], t: Track) -> usize
 // The track whose payload is a slot of the file.
 pub fn judge(file: &[u8], trak: Slot) -> TrackSays
     requires { ⌜ Lies (now file) trak × (length (now file) ≤ LONGEST) ⌝ }
-    ensures { λ r. ⌜ Judged (boxes (now (file .entry))) (slotIn (now (file .entry)) trak) r ⌝ }
+    ensures { λ r. ⌜ Judged (boxes (now (file .entry))) (slotIn (now (file .entry)) trak) r × ReadAt (now (file .entry)) trak (r .read) ⌝ }
 {
     let t = track::lay(file, trak);
     let tkhd = t.tkhd;
@@ -176,5 +178,6 @@ pub fn judge(file: &[u8], trak: Slot) -> TrackSays
         sure: all_fine(file, t),
         identity: number::word32(gather::bytes(file, tkhd), 12),
         entries: number::word32(gather::bytes(file, stsd), 4),
+        read: every::told(file, t),
     }
 }
