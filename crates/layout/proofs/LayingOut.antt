@@ -1,14 +1,14 @@
 -- The movie from what was gathered of the file and of its `moov`. Assumes nothing.
 use Prim.Native.Nat.{ℕ, _+_, _-_, _<_}
 use native.Mathlib.Omega.{arith}
-use mathlib.Core.Path.{_≡_, ap, subst, _∙_}
+use mathlib.Core.Path.{_≡_, sym, ap, subst, _∙_}
 use mathlib.Core.List.{List}
 use lib.ListN.{length}
 use lib.Seq.{take-length}
 use Rattle.wire.specs.Clauses.{isEq, oneIf}
 use Rattle.wire.proofs.Tests.{lt-or}
 use Rattle.wire.proofs.Clauses.{eq-is, was-yea}
-use Rattle.codes.specs.Codes.{FTYP, MOOV, MVHD, TRAK}
+use Rattle.codes.specs.Codes.{FTYP, MOOV, MDAT, MVHD, TRAK}
 use Rattle.boxes.specs.Boxes.{boxes}
 use Rattle.boxes.specs.Containers.{FILE}
 use Rattle.boxes.specs.Seek.{count, find, nth, startIn}
@@ -17,7 +17,7 @@ use Rattle.rule_shape.specs.Three.{first}
 use Rattle.layout.specs.declared.gather.Slot.{Slot}
 use Rattle.layout.specs.declared.gather.Five.{Five}
 use Rattle.layout.specs.declared.tracks.Movie.{Movie}
-use Rattle.layout.specs.Slots.{slotIn, firstWith, Stands, Gathered, Alone, Both}
+use Rattle.layout.specs.Slots.{slotIn, firstWith, firstTwo, Stands, Gathered, Alone, Both}
 use Rattle.layout.specs.Track.{At, Has}
 use Rattle.layout.specs.Tracks.{wholeOf, wanted, trackSlot, Peopled, Framed, LaidOut, Spread}
 use Rattle.layout.proofs.Shaped.{moov-shape, file-shape, one-of, gathered-has}
@@ -30,24 +30,27 @@ whole-is xs = let z : length xs - 0 ≡ length xs = omega arith in rw z (take-le
 pub all-is : {xs : List ℕ} {s : Slot} → s ≡ wholeOf xs → slotIn xs s ≡ xs
 all-is {xs} e = ap (slotIn xs) e ∙ whole-is xs
 
-module _ {xs : List ℕ} {s : Slot} (e : s ≡ wholeOf xs) {f m : Five} (gf : Gathered xs s (firstWith FTYP) (firstWith MOOV) (firstWith MOOV) (firstWith MOOV)
-    (firstWith MOOV) f)
+module _ {xs : List ℕ} {s : Slot} (e : s ≡ wholeOf xs) {f m : Five} (gf : Gathered xs s (firstWith FTYP) (firstWith MOOV) (firstWith MDAT) (firstWith MDAT)
+    (firstWith MDAT) f)
     (gm : Gathered xs (f .b) (firstWith MVHD) (wanted 0) (wanted 1) (wanted 2) (wanted 3) m) where
   moov-at : At xs (find MOOV (boxes xs)) (f .b)
   moov-at = at-in (gf .second) (all-is e)
+
+  leading : Gathered xs s (firstWith FTYP) (firstWith MOOV) (firstWith MOOV) (firstWith MOOV) (firstWith MOOV) (firstTwo f)
+  leading = record { first = gf .first; second = gf .second; third = gf .second; fourth = gf .second; fifth = gf .second; tiled = gf .tiled }
 
   track-at : {i : ℕ} {s : Slot} → Stands xs (f .b) (wanted i) s → At xs (track xs i) s
   unfolding track
   track-at {i} k = record { lies = k .lies; is = k .is ∙ ap (λ (ys : List ℕ). nth TRAK i (boxes ys)) (moov-at .is) }
 
-  module _ {r q u v w : ℕ} (lf : r ≡ oneIf (isEq (first (boxes xs)) FTYP)) (of : Alone q f) (bu : Both r q u) (pm : Peopled v m) (bw : Both u v w) where
+  module _ {r q u v w : ℕ} (lf : r ≡ oneIf (isEq (first (boxes xs)) FTYP)) {g : Five} (two : g ≡ firstTwo f) (of : Alone q g) (bu : Both r q u) (pm : Peopled v m) (bw : Both u v w) where
     framed : (w ≡ 0 → ⊥) → Framed xs
     framed z =
         let y = bw .first z in
         let x = bw .second z in
         record {
           file = subst (Has FILE) (all-is e)
-              (gathered-has gf of (bu .second y) FILE (λ a b c d f. file-shape _ a b (rw (all-is e) (eq-is _ _ (was-yea _ _ (bu .first y) lf)))));
+              (gathered-has (subst (Gathered xs s _ _ _ _ _) (sym two) leading) of (bu .second y) FILE (λ a b c d f. file-shape _ a b (rw (all-is e) (eq-is _ _ (was-yea _ _ (bu .first y) lf)))));
           moov = subst (Has MOOV) (moov-at .is) (record {
             two = was-yea _ _ (pm .tiled x) (gm .tiled);
             three = moov-shape _ (one-of (gm .first) (pm .header x)) (rw (← gm .second .counted) (pm .some x)) (rw (← gm .second .counted) (pm .few x));
@@ -59,6 +62,7 @@ module _ {xs : List ℕ} {s : Slot} (e : s ≡ wholeOf xs) {f m : Five} (gf : Ga
       tracks = m .b .n;
       ftyp = f .a;
       moov = f .b;
+      mdat = f .c;
       mvhd = m .a;
       one = m .b;
       two = m .c;
@@ -71,6 +75,7 @@ module _ {xs : List ℕ} {s : Slot} (e : s ≡ wholeOf xs) {f m : Five} (gf : Ga
           tracks = gm .second .counted ∙ ap (λ (ys : List ℕ). count TRAK (boxes ys)) (moov-at .is);
           ftyp = at-in (gf .first) (all-is e);
           moov = moov-at;
+          mdat = subst (λ (o : Slot). Stands xs o (firstWith MDAT) (f .c)) e (gf .third);
           mvhd = at-in (gm .first) (moov-at .is);
           one = track-at (gm .second);
           two = track-at (gm .third);
@@ -102,6 +107,7 @@ module _ {xs : List ℕ} {s : Slot} (e : s ≡ wholeOf xs) {f m : Five} (gf : Ga
     tracks = m .b .n;
     ftyp = f .a;
     moov = f .b;
+    mdat = f .c;
     mvhd = m .a;
     one = m .b;
     two = m .c;

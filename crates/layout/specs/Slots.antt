@@ -51,6 +51,10 @@ pub record Gathered (xs : List ℕ) (o : Slot) (a b c d e : Want) (g : Five) : T
   pub fifth : Stands xs o e (g .e)
   pub tiled : g .tiled ≡ oneIf (tiles (slotIn xs o))
 
+-- the first two of five, the second again in place of the others
+abbrev pub firstTwo : Five → Five
+firstTwo g = record { a = g .a; b = g .b; c = g .b; d = g .b; e = g .b; tiled = g .tiled }
+
 -- an answer other than 0 says that boxes tile the container, and that each of five codes has one box
 pub record Alone (r : ℕ) (g : Five) : Type 0 where
   pub tiled : (r ≡ 0 → ⊥) → g .tiled ≡ 0 → ⊥

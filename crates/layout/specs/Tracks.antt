@@ -4,7 +4,7 @@ use mathlib.Core.Path.{_≡_}
 use mathlib.Core.List.{List}
 use lib.ListN.{length}
 use Rattle.wire.specs.Tests.{ifEq}
-use Rattle.codes.specs.Codes.{FTYP, MOOV, MVHD, TRAK}
+use Rattle.codes.specs.Codes.{FTYP, MOOV, MDAT, MVHD, TRAK}
 use Rattle.boxes.specs.declared.walk.BoxAt.{BoxAt}
 use Rattle.boxes.specs.Boxes.{boxes}
 use Rattle.boxes.specs.Containers.{FILE}
@@ -16,7 +16,7 @@ use Rattle.layout.specs.declared.gather.Five.{Five}
 use Rattle.layout.specs.declared.moov.Ends.{Ends}
 use Rattle.layout.specs.declared.moov.Four.{Four}
 use Rattle.layout.specs.declared.tracks.Movie.{Movie}
-use Rattle.layout.specs.Slots.{noteOf}
+use Rattle.layout.specs.Slots.{firstWith, noteOf, Stands}
 use Rattle.layout.specs.Track.{At, Has}
 
 -- the file as a slot
@@ -53,6 +53,10 @@ pub record Peopled (r : ℕ) (g : Five) : Type 0 where
   pub some : (r ≡ 0 → ⊥) → 1 ≤ g .b .n
   pub few : (r ≡ 0 → ⊥) → g .b .n ≤ 4
 
+-- the first `mdat` of the file
+abbrev pub FirstMdat : List ℕ → Slot → Type 0
+FirstMdat xs s = Stands xs (wholeOf xs) (firstWith MDAT) s
+
 -- rules 2 and 3 of the file and of its `moov`, of these two alone
 pub record Framed (xs : List ℕ) : Type 0 where
   pub file : Has FILE xs
@@ -63,6 +67,7 @@ pub record LaidOut (xs : List ℕ) (m : Movie) : Type 0 where
   pub tracks : m .tracks ≡ tracksOf xs
   pub ftyp : At xs (find FTYP (boxes xs)) (m .ftyp)
   pub moov : At xs (find MOOV (boxes xs)) (m .moov)
+  pub mdat : FirstMdat xs (m .mdat)
   pub mvhd : At xs (find MVHD (movie xs)) (m .mvhd)
   pub one : At xs (track xs 0) (m .one)
   pub two : At xs (track xs 1) (m .two)

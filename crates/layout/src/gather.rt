@@ -5,7 +5,7 @@ use boxes::walk::Walk;
 ghost use mathlib.Core.Path.{_≡_};
 ghost use Prim.Native.Nat.{_+_, _^_, _≤_, _<_};
 ghost use lib.ListN.{length};
-ghost use Rattle.layout.specs.Slots.{slotIn, nowhere, firstWith, noteOf, Lies, Gathered, Alone, Both};
+ghost use Rattle.layout.specs.Slots.{slotIn, nowhere, firstWith, noteOf, firstTwo, Lies, Gathered, Alone, Both};
 
 // How many boxes have a code, and where in the file the payload of one of them stands.
 pub struct Slot {
@@ -117,6 +117,22 @@ pub fn firsts(file: &[u8], whole: Slot, a: usize, b: usize, c: usize, d: usize, 
                 };
             }
         }
+    }
+}
+
+// The first two of five, the second again in place of the others.
+pub fn first_two(g: Five) -> Five
+    ensures { λ r. ⌜ r ≡ firstTwo g ⌝ }
+{
+    let a = g.a;
+    let b = g.b;
+    Five {
+        a,
+        b,
+        c: b,
+        d: b,
+        e: b,
+        tiled: g.tiled,
     }
 }
 

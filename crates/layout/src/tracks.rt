@@ -12,12 +12,13 @@ ghost use Rattle.rule_shape.specs.Three.{first};
 ghost use Rattle.layout.specs.Slots.{Lies};
 ghost use Rattle.layout.specs.Tracks.{wholeOf, trackSlot, Peopled, LaidOut, Spread};
 
-// The boxes that rule 3 names, the first four tracks, how many there are, and whether all is as rules 2 and 3 want it: 1 or 0.
+// The boxes that rule 3 names, the first `mdat`, the first four tracks, how many there are, and whether all is as rules 2 and 3 want it: 1 or 0.
 pub struct Movie {
     pub shaped: usize,
     pub tracks: usize,
     pub ftyp: Slot,
     pub moov: Slot,
+    pub mdat: Slot,
     pub mvhd: Slot,
     pub one: Slot,
     pub two: Slot,
@@ -69,21 +70,23 @@ fn led(file: &[u8]) -> usize
 pub fn lay(file: &[u8]) -> Movie
     ensures { λ r. ⌜ LaidOut (now (file .entry)) r × Spread (now (file .entry)) r ⌝ }
 {
-    let f = fewer::two(file, whole(file), codes::FTYP, codes::MOOV);
+    let f = fewer::three(file, whole(file), codes::FTYP, codes::MOOV, codes::MDAT);
     let moov = f.b;
     let m = moov::with_tracks(file, moov, codes::MVHD);
     let ftyp = f.a;
+    let mdat = f.c;
     let mvhd = m.a;
     let one = m.b;
     let two = m.c;
     let three = m.d;
     let four = m.e;
-    let upper = gather::both(led(file), gather::alone(f));
+    let upper = gather::both(led(file), gather::alone(gather::first_two(f)));
     Movie {
         shaped: gather::both(upper, peopled(m)),
         tracks: m.b.n,
         ftyp,
         moov,
+        mdat,
         mvhd,
         one,
         two,

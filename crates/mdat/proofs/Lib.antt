@@ -3,6 +3,7 @@ pub mod Behind
 pub mod Inside
 pub mod Starts
 pub mod Searching
+pub mod First
 pub mod Indexing
 pub mod Places
 pub mod Resolving

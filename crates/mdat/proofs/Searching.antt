@@ -33,7 +33,7 @@ module _ {xs : List ℕ} {o at : ℕ} {b : BoxAt} {w : Walk} (s : Start xs o at)
       ∙ rw (ran-size r, ← r .start))
 
   -- the payload of an `mdat`
-  start-media : b .code ≡ MDAT → Media xs (record { start = b .at + b .head; end = b .at + b .span })
+  pub start-media : b .code ≡ MDAT → Media xs (record { start = b .at + b .head; end = b .at + b .span })
   start-media c =
       record {
         inside = λ q n h k. start-here q n (omega (arith, r .start, r .eight)) (omega arith)

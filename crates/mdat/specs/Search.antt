@@ -10,6 +10,7 @@ use Rattle.codes.specs.Codes.{MDAT}
 use Rattle.boxes.specs.declared.walk.BoxAt.{BoxAt}
 use Rattle.boxes.specs.Box.{Box}
 use Rattle.boxes.specs.Boxes.{boxes, total}
+use Rattle.boxes.specs.Seek.{find, startIn}
 use Rattle.mdat.specs.declared.payload.Payload.{Payload}
 use Rattle.mdat.specs.declared.payload.Looked.{Looked}
 use Rattle.mdat.specs.declared.payload.Looked.the-variants.{In, Out, Far}
@@ -26,6 +27,11 @@ pub record Start (xs : List ℕ) (o p : ℕ) : Type 0 where
 pub record Media (xs : List ℕ) (p : Payload) : Type 0 where
   pub inside : (o n : ℕ) → p .start ≤ o → o + n ≤ p .end → lies (boxes xs) 0 o n ≡ true
   pub next : Start xs (p .end + 1) (p .end)
+
+-- of any file whose first `mdat` has the payload from `start` to `end`: r is one of its payloads
+pub record FirstMedia (start end : ℕ) (r : Payload) : Type 0 where
+  pub media : (xs : List ℕ) → end - start ≡ length (find MDAT (boxes xs))
+      → (0 < length (find MDAT (boxes xs)) → start ≡ startIn MDAT 0 (boxes xs)) → Media xs r
 
 -- how many bytes of the file have one number of the index
 abbrev pub STRIDE : ℕ

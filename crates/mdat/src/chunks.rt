@@ -57,13 +57,20 @@ fn run_lies(
 }
 
 // The same of all chunks of a track, run by run.
-fn all_lie(file: &[u8], index: &[u32], stsc: &[u8], stsz: &[u8], stco: &[u8]) -> Looked
-    requires { ⌜ Ready (now stsc) (now stsz) (now stco) × Index (now file) (now index) ⌝ }
+fn all_lie(
+    file: &[u8],
+    index: &[u32],
+    stsc: &[u8],
+    stsz: &[u8],
+    stco: &[u8],
+    hint: Payload,
+) -> Looked
+    requires { ⌜ Ready (now stsc) (now stsz) (now stco) × Index (now file) (now index) × Media (now file) hint ⌝ }
     ensures { λ r. ⌜ TestedAs (now (file .entry)) (chunksLie (boxes (now (file .entry))) (now (stsc .entry)) (now (stsz .entry)) (now (stco .entry))) (length (now (index .entry)) ≡ 0) r ⌝ }
 {
     let n = table::items(stsc);
     let chunks = table::items(stco);
-    let mut last = payload::none();
+    let mut last = hint;
     let mut i = 0;
     let mut k = 0;
     let mut first = 0;
@@ -88,28 +95,28 @@ fn all_lie(file: &[u8], index: &[u32], stsc: &[u8], stsz: &[u8], stco: &[u8]) ->
 }
 
 // By an index of the file: 1 or 0.
-fn by_index(file: &[u8], stsc: &[u8], stsz: &[u8], stco: &[u8]) -> usize
-    requires { ⌜ Ready (now stsc) (now stsz) (now stco) ⌝ }
+fn by_index(file: &[u8], stsc: &[u8], stsz: &[u8], stco: &[u8], hint: Payload) -> usize
+    requires { ⌜ Ready (now stsc) (now stsz) (now stco) × Media (now file) hint ⌝ }
     ensures { λ r. ⌜ r ≡ oneIf (chunksLie (boxes (now (file .entry))) (now (stsc .entry)) (now (stsz .entry)) (now (stco .entry))) ⌝ }
 {
     let mut index = [0u32; index::PLACES];
     index::fill(&mut index, file);
-    match all_lie(file, &index, stsc, stsz, stco) {
+    match all_lie(file, &index, stsc, stsz, stco, hint) {
         Looked::In(_) => 1,
         Looked::Out => 0,
         Looked::Far => 0,
     }
 }
 
-// Whether each chunk of a track lies inside the payload of one `mdat` of the file: 1 or 0. An index is made where one is too far off.
-pub fn eight(file: &[u8], stsc: &[u8], stsz: &[u8], stco: &[u8]) -> usize
-    requires { ⌜ Ready (now stsc) (now stsz) (now stco) ⌝ }
+// Whether each chunk of a track lies inside the payload of one `mdat` of the file: 1 or 0. The hint is tried first, and an index made where one is too far off.
+pub fn eight(file: &[u8], stsc: &[u8], stsz: &[u8], stco: &[u8], hint: Payload) -> usize
+    requires { ⌜ Ready (now stsc) (now stsz) (now stco) × Media (now file) hint ⌝ }
     ensures { λ r. ⌜ r ≡ oneIf (chunksLie (boxes (now (file .entry))) (now (stsc .entry)) (now (stsz .entry)) (now (stco .entry))) ⌝ }
 {
     let none = [0u32; 1];
-    match all_lie(file, &none[0..0], stsc, stsz, stco) {
+    match all_lie(file, &none[0..0], stsc, stsz, stco, hint) {
         Looked::In(_) => 1,
         Looked::Out => 0,
-        Looked::Far => by_index(file, stsc, stsz, stco),
+        Looked::Far => by_index(file, stsc, stsz, stco, hint),
     }
 }

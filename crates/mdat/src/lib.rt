@@ -1,4 +1,4 @@
 // Where the bytes of samples stand: rule 8.
 pub mod chunks;
 mod index;
-mod payload;
+pub mod payload;

@@ -10,7 +10,7 @@ ghost use lib.ListN.{length};
 ghost use Rattle.wire.specs.Clauses.{isLe, every, oneIf};
 ghost use Rattle.boxes.specs.Boxes.{boxes};
 ghost use Rattle.mdat.specs.Rules.{lies};
-ghost use Rattle.mdat.specs.Search.{Start, Media, Index, heldBy, TestedAs};
+ghost use Rattle.mdat.specs.Search.{Start, Media, FirstMedia, Index, heldBy, TestedAs};
 
 // The bytes from a place to another; none where it ends before it starts.
 pub struct Payload {
@@ -30,6 +30,16 @@ pub fn none() -> Payload
     ensures { λ r. ⌜ (r .start ≡ 1) × (r .end ≡ 0) ⌝ }
 {
     Payload { start: 1, end: 0 }
+}
+
+// The payload of the first `mdat` of a file, from where it starts to where it ends; none where there is none, or it is empty.
+pub fn first(start: usize, end: usize) -> Payload
+    ensures { λ r. ⌜ FirstMedia start end r ⌝ }
+{
+    if end <= start {
+        return none();
+    }
+    Payload { start, end }
 }
 
 // How many boxes are looked at without an index.

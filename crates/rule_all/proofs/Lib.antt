@@ -6,5 +6,6 @@ pub mod Whole
 pub mod Entries
 pub mod Judging
 pub mod Answers
+pub mod Hint
 pub mod Running
 pub mod Editing

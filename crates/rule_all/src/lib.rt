@@ -102,7 +102,7 @@ fn tracks_fine(file: &[u8], m: Movie) -> SureTracks
     let mut sure = 11;
     let mut found = every::blanks(n);
     while i < n {
-        let t = track::judge(file, tracks::track_slot(m, i));
+        let t = track::judge(file, tracks::track_slot(m, i), m.mdat);
         if t.sure < 10 {
             return doubted();
         }

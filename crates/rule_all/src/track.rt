@@ -8,6 +8,7 @@ use layout::gather::Slot;
 use layout::track;
 use layout::track::Track;
 use mdat::chunks;
+use mdat::payload;
 use rule::Verdict;
 use rule_headers::forms;
 use rule_lists::form;
@@ -26,6 +27,7 @@ ghost use Rattle.boxes.specs.Boxes.{FRONT, boxes};
 ghost use Rattle.boxes.specs.Containers.{LONGEST};
 ghost use Rattle.layout.specs.Slots.{slotIn, Lies};
 ghost use Rattle.layout.specs.Every.{ReadAt};
+ghost use Rattle.layout.specs.Tracks.{FirstMdat};
 ghost use Rattle.rule_lists.specs.Nine.{allUrls};
 ghost use Rattle.rule_entries.specs.Ten.{entriesFine};
 ghost use Rattle.rule_all.specs.Track.{Inside, headsFine, listsFine, formsFine, tablesFine, aroundIn, AllFine, Judged};
@@ -97,8 +99,8 @@ fn forms_fine(file: &[u8], t: Track) -> usize
 }
 
 // Rules 7 and 8 where rule 6 holds: 1 or 0.
-fn tables_fine(file: &[u8], t: Track) -> usize
-    requires { ⌜ Inside (now file) t × (formsFine (now file) t ≡ true) ⌝ }
+fn tables_fine(file: &[u8], t: Track, mdat: Slot) -> usize
+    requires { ⌜ Inside (now file) t × (formsFine (now file) t ≡ true) × FirstMdat (now file) mdat ⌝ }
     ensures { λ r. ⌜ r ≡ oneIf (tablesFine (boxes (now (file .entry))) (now (file .entry)) t) ⌝ }
 {
     let stts = t.stts;
@@ -113,7 +115,13 @@ fn tables_fine(file: &[u8], t: Track) -> usize
     if agree::seven(gather::bytes(file, stts), runs, sizes, offsets, entries) == 0 {
         return 0;
     }
-    chunks::eight(file, runs, sizes, offsets)
+    chunks::eight(
+        file,
+        runs,
+        sizes,
+        offsets,
+        payload::first(mdat.from, mdat.to),
+    )
 }
 
 // Rule 10: 1 or 0.
@@ -141,8 +149,8 @@ fn entries_fine(file: &[u8], t: Track) -> usize
 }
 
 // 2; or 10, where it meets rules 2 to 9; or 11, where it meets rule 10 too.
-fn all_fine(file: &[u8], t: Track) -> usize
-    requires { ⌜ Inside (now file) t × (length (now file) ≤ LONGEST) ⌝ }
+fn all_fine(file: &[u8], t: Track, mdat: Slot) -> usize
+    requires { ⌜ Inside (now file) t × (length (now file) ≤ LONGEST) × FirstMdat (now file) mdat ⌝ }
     ensures { λ r. ⌜ AllFine (now (file .entry)) t r ⌝ }
 {
     if t.shaped == 0 {
@@ -157,7 +165,7 @@ fn all_fine(file: &[u8], t: Track) -> usize
     if forms_fine(file, t) == 0 {
         return 2;
     }
-    if tables_fine(file, t) == 0 {
+    if tables_fine(file, t, mdat) == 0 {
         return 2;
     }
     if entries_fine(file, t) == 0 {
@@ -166,16 +174,16 @@ fn all_fine(file: &[u8], t: Track) -> usize
     11
 }
 
-// The track whose payload is a slot of the file.
-pub fn judge(file: &[u8], trak: Slot) -> TrackSays
-    requires { ⌜ Lies (now file) trak × (length (now file) ≤ LONGEST) ⌝ }
+// The track whose payload is a slot of the file, in a file with that first `mdat`.
+pub fn judge(file: &[u8], trak: Slot, mdat: Slot) -> TrackSays
+    requires { ⌜ Lies (now file) trak × (length (now file) ≤ LONGEST) × FirstMdat (now file) mdat ⌝ }
     ensures { λ r. ⌜ Judged (boxes (now (file .entry))) (slotIn (now (file .entry)) trak) r × ReadAt (now (file .entry)) trak (r .read) ⌝ }
 {
     let t = track::lay(file, trak);
     let tkhd = t.tkhd;
     let stsd = t.stsd;
     TrackSays {
-        sure: all_fine(file, t),
+        sure: all_fine(file, t, mdat),
         identity: number::word32(gather::bytes(file, tkhd), 12),
         entries: number::word32(gather::bytes(file, stsd), 4),
         read: every::told(file, t),

@@ -1,6 +1,7 @@
 // Rules 6 to 8: the sample tables of a track. Each answer is 1 or 0.
 use boxes::seek;
 use mdat::chunks;
+use mdat::payload;
 use rule::Verdict;
 use sample_tables::agree;
 use sample_tables::size;
@@ -103,6 +104,7 @@ fn eight_holds(file: &[u8], stbl: &[u8]) -> usize
         seek::payload(stbl, codes::STSC, 0),
         seek::payload(stbl, codes::STSZ, 0),
         seek::payload(stbl, codes::STCO, 0),
+        payload::none(),
     )
 }
 

@@ -21,7 +21,7 @@ tracks-fine-spec = tie.close (tie.spec Inv μ
     (λ c κs. search needs)
     (λ c κs. let p = c .before .before .before .before .before .pre in
     let a = slot-at (p .0) (c .before .before .loop .i) (omega (arith, p .0 .tracks, p .2)) in
-    (rw (c .track-slot .ensures) (a .lies), p .3))
+    (rw (c .track-slot .ensures) (a .lies), p .3, p .0 .mdat))
     (λ c κs. search needs)
     (λ c. untold (c .doubted .ensures))
     (λ c κs. search needs)

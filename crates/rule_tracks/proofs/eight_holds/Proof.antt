@@ -1,5 +1,6 @@
 use borrow.Author.Needs.{needs}
 use Rattle.rule_tracks.proofs.Chunks.{ready, eight-open, eight-six, eight-seven}
+use Rattle.mdat.proofs.Searching.{media-none}
 use Rattle.wire.proofs.Clauses.{was-yea, was-nay}
 use Rattle.rule_tracks.proofs.eight_holds.Statement.{statement}
 use Rattle.rule_tracks.proofs.eight_holds.Tie as tie
@@ -13,8 +14,12 @@ eight-holds-spec = tie.close (tie.spec
     (λ c κs. search needs)
     (λ c κs. search needs)
     (λ c κs. search needs)
-    (λ c κs. rw (c .before .before .payload .ensures, c .before .payload2 .ensures, c .payload3 .ensures)
-    (ready _ (was-yea _ _ (c .before .before .before .before .before .if1 .left)
-    (c .before .before .before .before .before .before .six-holds .ensures)) (was-yea _ _ (c .before .before .before .if2 .left)
-    (c .before .before .before .before .seven-holds .ensures))))
-    (λ c. eight-open _ _ (was-yea _ _ (c .before .before .before .before .before .before .if1 .left) (c .before .before .before .before .before .before .before .six-holds .ensures)) (was-yea _ _ (c .before .before .before .before .if2 .left) (c .before .before .before .before .before .seven-holds .ensures)) (rw (c .before .before .before .payload .ensures, c .before .before .payload2 .ensures, c .before .payload3 .ensures) at (c .eight .ensures))))
+    (λ c κs. search needs)
+    (λ c κs. (
+      rw (c .before .before .before .payload .ensures, c .before .before .payload2 .ensures, c .before .payload3 .ensures)
+          (ready _ (was-yea _ _ (c .before .before .before .before .before .before .if1 .left)
+          (c .before .before .before .before .before .before .before .six-holds .ensures)) (was-yea _ _ (c .before .before .before .before .if2 .left)
+          (c .before .before .before .before .before .seven-holds .ensures))),
+      media-none _ _ (c .none .ensures .0) (c .none .ensures .1),
+    ))
+    (λ c. eight-open _ _ (was-yea _ _ (c .before .before .before .before .before .before .before .if1 .left) (c .before .before .before .before .before .before .before .before .six-holds .ensures)) (was-yea _ _ (c .before .before .before .before .before .if2 .left) (c .before .before .before .before .before .before .seven-holds .ensures)) (rw (c .before .before .before .before .payload .ensures, c .before .before .before .payload2 .ensures, c .before .before .payload3 .ensures) at (c .eight .ensures))))

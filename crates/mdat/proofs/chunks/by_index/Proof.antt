@@ -14,7 +14,7 @@ by-index-spec = tie.close (tie.spec
     (λ c. search needs)
     (λ c κs. (omega arith, index-none _ 4097))
     (λ c. search needs)
-    (λ c κs. (c .before .before .before .before .before .before .before .before .pre, c .before .before .fill .ensures .1))
+    (λ c κs. let p = c .before .before .before .before .before .before .before .before .pre in (p .0, c .before .before .fill .ensures .1, p .1))
     (λ c. search needs)
     (λ c. search needs)
     (λ c. search needs)

@@ -13,7 +13,7 @@ eight-spec = tie.close (tie.spec
     (λ c. search needs)
     (λ c. search needs)
     (λ c. search needs)
-    (λ c κs. (c .before .before .before .before .before .before .pre, index-none _ 0))
+    (λ c κs. let p = c .before .before .before .before .before .before .pre in (p .0, index-none _ 0, p .1))
     (λ c. search needs)
     (λ c. search needs)
     (λ c. search needs)

@@ -9,7 +9,7 @@ use Rattle.rule_all.proofs.track.judge.Tie as tie
 pub judge-spec : {M : Type 1} → statement M
 judge-spec = tie.close (tie.spec
     (λ c κs. search needs)
-    (λ c κs. (inside (c .before .before .lay .ensures .0), c .before .before .before .before .pre .1))
+    (λ c κs. let p = c .before .before .before .before .pre in (inside (c .before .before .lay .ensures .0), p .1, p .2))
     (λ c κs. search needs)
     (λ c κs. search needs)
     (λ c κs. search needs)
