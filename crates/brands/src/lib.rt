@@ -5,10 +5,11 @@ pub mod conditions;
 use conditions::Own;
 use judge::Judgement;
 use layout::entries;
-use layout::every;
+use layout::every::Tracks;
 use rule::Answer;
 ghost use mathlib.Core.Path.{_≡_};
 ghost use Rattle.wire.specs.Clauses.{oneIf};
+ghost use Rattle.layout.specs.Every.{TracksAt};
 ghost use Rattle.judge.specs.Acceptance.{Meets};
 ghost use Rattle.brands.specs.Brands.{ownConditions, brandHolds};
 ghost use Rattle.brands.specs.Own.{OwnAt};
@@ -50,11 +51,10 @@ pub fn brand_holds(file: &[u8], o: Own, code: usize) -> usize
 }
 
 // The same of an accepted file, looked at for this alone.
-fn brand_of(file: &[u8], code: usize) -> usize
-    requires { ⌜ Meets (now file) ⌝ }
+fn brand_of(file: &[u8], e: Tracks, code: usize) -> usize
+    requires { ⌜ Meets (now file) × TracksAt (now file) e ⌝ }
     ensures { λ r. ⌜ r ≡ oneIf (brandHolds code (now (file .entry))) ⌝ }
 {
-    let e = every::lay(file);
     let l = entries::lay(file, e);
     brand_holds(file, conditions::asked(file, e, l), code)
 }
@@ -63,8 +63,10 @@ fn brand_of(file: &[u8], code: usize) -> usize
 pub fn brand(file: &[u8], code: usize) -> Answer
     ensures { λ r. ⌜ r ≡ brandAnswer (now (file .entry)) code ⌝ }
 {
-    match judge::judge(file) {
-        Judgement::Accepted => Answer::Done(brand_of(file, code)),
+    let j = judge::judge_tracks(file);
+    let answer = j.answer;
+    match answer {
+        Judgement::Accepted => Answer::Done(brand_of(file, j.tracks, code)),
         Judgement::Refused(n, p) => Answer::Refused(n, p),
     }
 }

@@ -1,5 +1,6 @@
 -- What a call on a file comes to, once it knows the judgement; and what is known of one that is done. Assumes nothing.
 use Prim.Native.Nat.{ℕ}
+use native.Mathlib.Omega.{arith}
 use mathlib.Core.Path.{_≡_, refl, sym, _∙_}
 use mathlib.Core.Bool.{Bool, true}
 use mathlib.Core.List.{List, map}
@@ -9,9 +10,11 @@ use Rattle.rule.specs.declared.Answer.the-variants as answer
 use Rattle.rule.specs.Results.{Result, asked, answerIn, Exact}
 use Rattle.rule.specs.Results.Result.{gives, refuses}
 use Rattle.rule.proofs.Results.{Gave, exact-refuses, refused-not, gives-done, asked-done}
+use Rattle.layout.specs.declared.every.Tracks.{Tracks}
 use Rattle.judge.specs.declared.Judgement.{Judgement}
 use Rattle.judge.specs.declared.Judgement.the-variants.{Accepted, Refused}
 use Rattle.judge.specs.Judgement.{judged}
+use Rattle.judge.specs.Tracks.{WithTracks}
 use Rattle.judge.specs.Calls.{whenAccepted, answerOn, resultOn}
 use Rattle.judge.specs.Acceptance.{Meets}
 use Rattle.judge.proofs.Exact.{accepted-meets}
@@ -20,6 +23,10 @@ module _ (xs : List ℕ) {j : Judgement} (e : j ≡ judged xs) where
   -- what a call may go by
   pub met : j ≡ Accepted → Meets xs
   met f = accepted-meets xs (sym e ∙ f)
+
+  -- a refused file needs no tracks
+  pub refused-with : (t : Tracks) {n p : ℕ} → j ≡ Refused n p → WithTracks xs (record { answer = Refused n p; tracks = t })
+  refused-with t {n} {p} f = record { answer = sym f ∙ e; tracks = λ (q : Refused n p ≡ Accepted). let z : _≡_ {A = ℕ} 0 1 = cc in absurd (omega arith) }
 
   -- ---- any answer
 

@@ -1,7 +1,7 @@
 -- A file is accepted exactly when it meets the rules. Assumes nothing.
 use Prim.Native.Nat.{ℕ, _+_}
 use native.Mathlib.Omega.{arith}
-use mathlib.Core.Path.{_≡_, refl}
+use mathlib.Core.Path.{_≡_, refl, _∙_}
 use mathlib.Core.List.{List, [], _∷_}
 use Rattle.boxes.specs.Box.{Box}
 use Rattle.boxes.specs.Boxes.{boxes}
@@ -53,10 +53,15 @@ all-hold (more {j} {r} {js} s t) n xs e =
     let a = next-fine n (verdictBy j xs) (judgedFrom (n + 1) js xs) e in
     cons (fine-all j r s DEPTH FILE xs 0 0 (a .0)) (all-hold t (n + 1) xs (a .1))
 
-hold-all : {js : List Judge} {rs : List Rule} → Say js rs → (n : ℕ) (xs : List ℕ) → Hold xs rs → judgedFrom n js xs ≡ Accepted
+-- a rule that holds is passed
+pub skip : {j : Judge} {r : Rule} → Says j r → (n : ℕ) (js : List Judge) (xs : List ℕ) → Holds r xs → judgedFrom n (j ∷ js) xs ≡ judgedFrom (n + 1) js xs
 unfolding judgedFrom unlessBroken
+skip {j} {r} s n js xs h = rw (all-fine j r s DEPTH FILE xs 0 0 h)
+
+hold-all : {js : List Judge} {rs : List Rule} → Say js rs → (n : ℕ) (xs : List ℕ) → Hold xs rs → judgedFrom n js xs ≡ Accepted
+unfolding judgedFrom
 hold-all none n xs nil = refl
-hold-all (more {j} {r} s t) n xs (cons h g) = rw (all-fine j r s DEPTH FILE xs 0 0 h, hold-all t (n + 1) xs g)
+hold-all (more {j} {r} {js} s t) n xs (cons h g) = skip s n js xs h ∙ hold-all t (n + 1) xs g
 
 -- ---- rules 1 to 10
 

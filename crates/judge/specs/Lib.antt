@@ -1,5 +1,6 @@
 pub mod One
 pub mod Judgement
+pub mod Tracks
 pub mod Calls
 pub mod Acceptance
 pub mod Asked

@@ -4,8 +4,8 @@ pub mod Shaped
 pub mod Laying
 pub mod Few
 pub mod LayingOut
-pub mod FirstBoxes
 pub mod Everything
+pub mod Filling
 pub mod Listing
 pub mod Numbering
 pub mod Entering

@@ -4,31 +4,39 @@ use mathlib.Core.Path.{_≡_}
 use mathlib.Core.List.{List}
 use lib.ListN.{length}
 use Rattle.wire.specs.Tests.{ifEq}
+use Rattle.wire.specs.Numbers.{word}
 use Rattle.codes.specs.Codes.{MOOV, TRAK, STTS}
 use Rattle.boxes.specs.Boxes.{HEAD, boxes}
-use Rattle.boxes.specs.Seek.{find, startIn}
+use Rattle.boxes.specs.Seek.{startIn}
 use Rattle.movie.specs.Ways.{toStsd, toTable, follow, placeAlong}
-use Rattle.movie.specs.Movie.{movie, tracks, track, handler as handlerOf, scale as scaleOf}
+use Rattle.movie.specs.Movie.{movie, tracks, track, handler as handlerOf, scale as scaleOf, movieTicks}
 use Rattle.layout.specs.declared.gather.Slot.{Slot}
+use Rattle.layout.specs.declared.track.Track.{Track}
 use Rattle.layout.specs.declared.every.ReadTrack.{ReadTrack}
 use Rattle.layout.specs.declared.every.Tracks.{Tracks}
 use Rattle.layout.specs.Slots.{slotIn, nowhere, Lies}
 use Rattle.layout.specs.Track.{At}
 
--- of the container o, which is a slot: the payload of its first box of code c, and its place
-pub record FirstAt (xs : List ℕ) (o : Slot) (c : ℕ) (s : Slot) : Type 0 where
-  pub lies : Lies xs s
-  pub is : slotIn xs s ≡ find c (boxes (slotIn xs o))
-  pub place : 0 < length (find c (boxes (slotIn xs o))) → s .from ≡ o .from + startIn c 0 (boxes (slotIn xs o))
-
 -- a track without boxes
 abbrev pub blankOf : ReadTrack
-blankOf = record { handler = 0; scale = 0; stsd = nowhere; stts = nowhere }
+blankOf = record { handler = 0; scale = 0; ticks = 0; stsd = nowhere; stts = nowhere }
+
+-- from where its boxes stand
+abbrev pub toldIn : List ℕ → Track → ReadTrack
+toldIn xs t =
+    record {
+      handler = word 4 (slotIn xs (t .hdlr)) 8;
+      scale = word 4 (slotIn xs (t .mdhd)) 12;
+      ticks = word 4 (slotIn xs (t .tkhd)) 20;
+      stsd = t .stsd;
+      stts = t .stts;
+    }
 
 -- the track whose payload b starts at place p of the file
 pub record ToldAt (xs b : List ℕ) (p : ℕ) (k : ReadTrack) : Type 0 where
   pub handler : k .handler ≡ handlerOf b
   pub scale : k .scale ≡ scaleOf b
+  pub ticks : k .ticks ≡ movieTicks b
   pub stsd : At xs (follow toStsd b) (k .stsd)
   pub stts : At xs (follow (toTable STTS) b) (k .stts)
   pub place : 0 < length (follow toStsd b) → k .stsd .from ≡ p + placeAlong toStsd b + HEAD
@@ -53,6 +61,15 @@ TrackAt xs t k = ToldAt xs (track xs t) (startOf xs t) k
 -- the one of a number, of four
 unfoldable pub trackOf : Tracks → ℕ → ReadTrack
 trackOf e t = ifEq t 0 (e .one) (ifEq t 1 (e .two) (ifEq t 2 (e .three) (e .four)))
+
+-- so many without boxes
+abbrev pub blanksOf : ℕ → Tracks
+blanksOf n = record { count = n; one = blankOf; two = blankOf; three = blankOf; four = blankOf }
+
+-- with the track k in place of the one of number t
+unfoldable pub withTrack : Tracks → ℕ → ReadTrack → Tracks
+withTrack e t k =
+    record { count = e .count; one = ifEq t 0 k (e .one); two = ifEq t 1 k (e .two); three = ifEq t 2 k (e .three); four = ifEq t 3 k (e .four) }
 
 pub record TracksAt (xs : List ℕ) (e : Tracks) : Type 0 where
   pub count : e .count ≡ tracks xs

@@ -1,21 +1,21 @@
-// What every track of a file says, and where its lists stand: all that the reads ask for. Of a code the first box is looked for, and no other.
-use crate::fewer;
+// What every track of a file says, and where its lists stand: all that the reads ask for.
 use crate::gather;
 use crate::gather::Slot;
-use crate::moov;
+use crate::track;
+use crate::track::Track;
 use crate::tracks;
-use boxes::seek;
-use boxes::seek::Seen;
 use wire::number;
 ghost use mathlib.Core.Path.{_≡_};
+ghost use Rattle.wire.specs.Tests.{ifEq};
 ghost use Rattle.movie.specs.Movie.{tracks as tracksOf};
 ghost use Rattle.layout.specs.Slots.{Lies};
-ghost use Rattle.layout.specs.Every.{blankOf, trackOf, FirstAt, TrakAt, ReadAt, TrackAt, TracksAt};
+ghost use Rattle.layout.specs.Every.{blankOf, blanksOf, toldIn, trackOf, withTrack, TrakAt, TrackAt, TracksAt};
 
-// A track's handler and time scale, and the payloads of its `stsd` and `stts`.
+// A track's handler, time scale and length in movie ticks, and the payloads of its `stsd` and `stts`.
 pub struct ReadTrack {
     pub handler: usize,
     pub scale: usize,
+    pub ticks: usize,
     pub stsd: Slot,
     pub stts: Slot,
 }
@@ -29,21 +29,6 @@ pub struct Tracks {
     pub four: ReadTrack,
 }
 
-// The payload of the first box of a code in a container, which is a slot of the file.
-fn first(file: &[u8], whole: Slot, code: usize) -> Slot
-    requires { ⌜ Lies (now file) whole ⌝ }
-    ensures { λ r. ⌜ FirstAt (now (file .entry)) whole code r ⌝ }
-{
-    match seek::nth(gather::bytes(file, whole), code, 0) {
-        Seen::At(b) => Slot {
-            n: 1,
-            from: whole.from + (b.at + b.head),
-            to: whole.from + (b.at + b.span),
-        },
-        Seen::Missing => gather::none(),
-    }
-}
-
 // A track without boxes.
 fn blank() -> ReadTrack
     ensures { λ r. ⌜ r ≡ blankOf ⌝ }
@@ -52,27 +37,26 @@ fn blank() -> ReadTrack
     ReadTrack {
         handler: 0,
         scale: 0,
+        ticks: 0,
         stsd: none,
         stts: none,
     }
 }
 
-// The one whose payload is a slot of the file.
-fn read(file: &[u8], trak: Slot) -> ReadTrack
-    requires { ⌜ Lies (now file) trak ⌝ }
-    ensures { λ r. ⌜ ReadAt (now (file .entry)) trak r ⌝ }
+// From where its boxes stand.
+pub fn told(file: &[u8], t: Track) -> ReadTrack
+    requires { ⌜ Lies (now file) (t .hdlr) × Lies (now file) (t .mdhd) × Lies (now file) (t .tkhd) ⌝ }
+    ensures { λ r. ⌜ r ≡ toldIn (now (file .entry)) t ⌝ }
 {
-    let mdia = first(file, trak, codes::MDIA);
-    let m = fewer::three(file, mdia, codes::MDHD, codes::HDLR, codes::MINF);
-    let stbl = first(file, m.c, codes::STBL);
-    let s = fewer::two(file, stbl, codes::STSD, codes::STTS);
-    let mdhd = m.a;
-    let hdlr = m.b;
-    let stsd = s.a;
-    let stts = s.b;
+    let hdlr = t.hdlr;
+    let mdhd = t.mdhd;
+    let tkhd = t.tkhd;
+    let stsd = t.stsd;
+    let stts = t.stts;
     ReadTrack {
         handler: number::word32(gather::bytes(file, hdlr), 8),
         scale: number::word32(gather::bytes(file, mdhd), 12),
+        ticks: number::word32(gather::bytes(file, tkhd), 20),
         stsd,
         stts,
     }
@@ -86,20 +70,19 @@ fn track_at(file: &[u8], n: usize, trak: Slot, t: usize) -> ReadTrack
     if n <= t {
         return blank();
     }
-    read(file, trak)
+    told(file, track::lay(file, trak))
 }
 
 // Those of a file.
 pub fn lay(file: &[u8]) -> Tracks
     ensures { λ r. ⌜ TracksAt (now (file .entry)) r ⌝ }
 {
-    let moov = first(file, tracks::whole(file), codes::MOOV);
-    let m = moov::with_tracks(file, moov, codes::MVHD);
-    let n = m.b.n;
-    let one = m.b;
-    let two = m.c;
-    let three = m.d;
-    let four = m.e;
+    let m = tracks::lay(file);
+    let n = m.tracks;
+    let one = m.one;
+    let two = m.two;
+    let three = m.three;
+    let four = m.four;
     Tracks {
         count: n,
         one: track_at(file, n, one, 0),
@@ -123,4 +106,41 @@ pub fn track(e: Tracks, t: usize) -> ReadTrack
         return e.three;
     }
     e.four
+}
+
+// So many, without boxes.
+pub fn blanks(count: usize) -> Tracks
+    ensures { λ r. ⌜ r ≡ blanksOf count ⌝ }
+{
+    let none = blank();
+    Tracks {
+        count,
+        one: none,
+        two: none,
+        three: none,
+        four: none,
+    }
+}
+
+// The first of two where two numbers are the same, else the second.
+fn chosen(m: usize, n: usize, a: ReadTrack, b: ReadTrack) -> ReadTrack
+    ensures { λ r. ⌜ r ≡ ifEq m n a b ⌝ }
+{
+    if m == n {
+        return a;
+    }
+    b
+}
+
+// With a track in place of the one of a number, of four.
+pub fn with_track(e: Tracks, t: usize, k: ReadTrack) -> Tracks
+    ensures { λ r. ⌜ r ≡ withTrack e t k ⌝ }
+{
+    Tracks {
+        count: e.count,
+        one: chosen(t, 0, k, e.one),
+        two: chosen(t, 1, k, e.two),
+        three: chosen(t, 2, k, e.three),
+        four: chosen(t, 3, k, e.four),
+    }
 }

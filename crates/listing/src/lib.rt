@@ -5,10 +5,11 @@ mod lines;
 use brands::conditions;
 use judge::Judgement;
 use layout::entries;
-use layout::every;
+use layout::every::Tracks;
 use rule::Answer;
 ghost use Rattle.rule.specs.Results.{Exact};
 ghost use Rattle.rule.specs.Results.Result.{gives};
+ghost use Rattle.layout.specs.Every.{TracksAt};
 ghost use Rattle.judge.specs.Acceptance.{Meets};
 ghost use Rattle.listing.specs.Lines.{refusedLine};
 ghost use Rattle.listing.specs.Listing.{acceptedLines, listingResult};
@@ -25,11 +26,10 @@ fn list_refused(n: usize, p: usize, out: &mut [u8]) -> Answer
 }
 
 // An accepted file's lines, in the same way unless there is room for the most that they can take.
-fn list_accepted(file: &[u8], out: &mut [u8]) -> Answer
-    requires { ⌜ Meets (now file) ⌝ }
+fn list_accepted(file: &[u8], e: Tracks, out: &mut [u8]) -> Answer
+    requires { ⌜ Meets (now file) × TracksAt (now file) e ⌝ }
     ensures { λ r. ⌜ Exact (gives (acceptedLines (now (file .entry)))) (now (out .entry)) r (now (out .exit)) ⌝ }
 {
-    let e = every::lay(file);
     let l = entries::lay(file, e);
     let o = conditions::asked(file, e, l);
     if lines::OTHERS + lines::ENTRY * entries::count(file, l) <= out.len() {
@@ -46,8 +46,10 @@ fn list_accepted(file: &[u8], out: &mut [u8]) -> Answer
 pub fn listing(file: &[u8], out: &mut [u8]) -> Answer
     ensures { λ r. ⌜ Exact (listingResult (now (file .entry))) (now (out .entry)) r (now (out .exit)) ⌝ }
 {
-    match judge::judge(file) {
-        Judgement::Accepted => list_accepted(file, out),
+    let j = judge::judge_tracks(file);
+    let answer = j.answer;
+    match answer {
+        Judgement::Accepted => list_accepted(file, j.tracks, out),
         Judgement::Refused(n, p) => list_refused(n, p, out),
     }
 }

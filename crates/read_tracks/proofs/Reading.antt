@@ -11,7 +11,6 @@ use Rattle.wire.specs.Writing.{Wrote}
 use Rattle.wire.specs.Tests.{pick}
 use Rattle.wire.specs.Clauses.{oneIf}
 use Rattle.wire.proofs.Clauses.{not-le, is-le, le-is, fails, holds, done, clause, yea, nay, was-yea, was-nay}
-use Rattle.wire.specs.Numbers.{word}
 use Rattle.codes.specs.Codes.{STTS, STCO}
 use Rattle.sample_tables.specs.declared.time.MediaTicks.{MediaTicks}
 use Rattle.sample_tables.specs.Tables.{Table, items, field}
@@ -20,9 +19,11 @@ use Rattle.rule_shape.proofs.Descent.{tracks-few}
 use Rattle.layout.specs.declared.gather.Slot.{Slot}
 use Rattle.layout.specs.declared.track.Track.{Track}
 use Rattle.layout.specs.declared.tracks.Movie.{Movie}
+use Rattle.layout.specs.declared.every.ReadTrack.{ReadTrack}
 use Rattle.layout.specs.Slots.{slotIn}
 use Rattle.layout.specs.Track.{At, Laid}
 use Rattle.layout.specs.Tracks.{trackSlot, LaidOut}
+use Rattle.layout.specs.Every.{ToldAt}
 use Rattle.layout.proofs.LayingOut.{slot-at}
 use Rattle.judge.specs.Acceptance.{Meets}
 use Rattle.movie.specs.declared.MovieTicks.{MovieTicks}
@@ -56,9 +57,12 @@ module _ (xs : List ℕ) (t : ℕ) where
     unfolding isTrack
     track-last = le-is _ _ (clause 1 _ (was-yea _ _ z e))
 
+    pub track-four : Meets xs → t - 1 < 4
+    track-four m = omega (arith, track-first, track-last, tracks-few xs (m .three) .1)
+
     -- its slot
     pub track-slot : Meets xs → {m : Movie} → LaidOut xs m → {s : Slot} → s ≡ trackSlot m (t - 1) → At xs (track xs (t - 1)) s
-    track-slot m l e = rw e (slot-at l (t - 1) (omega (arith, track-first, track-last, tracks-few xs (m .three) .1)))
+    track-slot m l e = rw e (slot-at l (t - 1) (track-four m))
 
     -- it can be read
     pub track-readable : Meets xs → {b : List ℕ} → b ≡ track xs (t - 1) → Readable b
@@ -75,27 +79,13 @@ module _ {A : Type 0} (t : Bool) (a b : A) {i : ℕ} (e : i ≡ oneIf t) where
 
 -- ---- what it says
 
--- from where its boxes stand
-module _ {xs b : List ℕ} {k : Track} (l : Laid xs b k) where
-  pub laid-handler : {ys : List ℕ} {r : ℕ} → ys ≡ slotIn xs (k .hdlr) → r ≡ word 4 ys 8 → r ≡ handler b
-  unfolding handler
-  laid-handler f e = e ∙ rw (f, l .hdlr .is)
+pub told-times : {xs b : List ℕ} {p : ℕ} {k : ReadTrack} → ToldAt xs b p k → {ys : List ℕ} → ys ≡ slotIn xs (k .stts) → ys ≡ sampleTable STTS b
+unfolding sampleTable
+told-times a f = f ∙ a .stts .is
 
-  pub laid-scale : {ys : List ℕ} {r : ℕ} → ys ≡ slotIn xs (k .mdhd) → r ≡ word 4 ys 12 → r ≡ scale b
-  unfolding scale
-  laid-scale f e = e ∙ rw (f, l .mdhd .is)
-
-  pub laid-movie : {ys : List ℕ} {r : ℕ} → ys ≡ slotIn xs (k .tkhd) → r ≡ word 4 ys 20 → r ≡ movieTicks b
-  unfolding movieTicks
-  laid-movie f e = e ∙ rw (f, l .tkhd .is)
-
-  pub laid-times : {ys : List ℕ} → ys ≡ slotIn xs (k .stts) → ys ≡ sampleTable STTS b
-  unfolding sampleTable
-  laid-times f = f ∙ l .stts .is
-
-  pub laid-offsets : {ys : List ℕ} → ys ≡ slotIn xs (k .stco) → ys ≡ sampleTable STCO b
-  unfolding sampleTable
-  laid-offsets f = f ∙ l .stco .is
+pub laid-offsets : {xs b : List ℕ} {k : Track} → Laid xs b k → {ys : List ℕ} → ys ≡ slotIn xs (k .stco) → ys ≡ sampleTable STCO b
+unfolding sampleTable
+laid-offsets l f = f ∙ l .stco .is
 
 module _ (b : List ℕ) where
   -- its `stts` is found as the rules say

@@ -3,10 +3,10 @@ mod offset;
 mod said;
 
 use judge::Judgement;
+use layout::every::Tracks;
 use layout::gather;
 use layout::track;
 use layout::tracks;
-use layout::tracks::Movie;
 use movie::MovieTicks;
 use rule::Answer;
 use sample_tables::time::MediaTicks;
@@ -16,7 +16,8 @@ ghost use Rattle.wire.specs.Clauses.{oneIf};
 ghost use Rattle.wire.specs.Tests.{pick};
 ghost use Rattle.rule.specs.Results.{asked, Exact};
 ghost use Rattle.rule.specs.Results.Result.{gives};
-ghost use Rattle.layout.specs.Tracks.{LaidOut};
+ghost use Rattle.movie.specs.Movie.{tracks as tracksOf};
+ghost use Rattle.layout.specs.Every.{TracksAt};
 ghost use Rattle.judge.specs.Acceptance.{Meets};
 ghost use Rattle.read_tracks.specs.declared.MediaLength.the-variants as media;
 ghost use Rattle.read_tracks.specs.declared.MovieLength.the-variants as movie;
@@ -33,14 +34,14 @@ pub fn tracks(file: &[u8]) -> Answer
 }
 
 // Whether a file has a track of a number, from 1: 1 or 0.
-fn is_track(file: &[u8], m: Movie, track: usize) -> usize
-    requires { ⌜ LaidOut (now file) m ⌝ }
+fn is_track(file: &[u8], count: usize, track: usize) -> usize
+    requires { ⌜ count ≡ tracksOf (now file) ⌝ }
     ensures { λ r. ⌜ r ≡ oneIf (isTrack (now (file .entry)) track) ⌝ }
 {
     if track < 1 {
         return 0;
     }
-    if m.tracks < track {
+    if count < track {
         return 0;
     }
     1
@@ -52,15 +53,14 @@ pub enum MediaLength {
     Refused(usize, usize),
 }
 
-fn media_in(file: &[u8], track: usize) -> MediaLength
-    requires { ⌜ Meets (now file) ⌝ }
+fn media_in(file: &[u8], e: Tracks, track: usize) -> MediaLength
+    requires { ⌜ Meets (now file) × TracksAt (now file) e ⌝ }
     ensures { λ r. ⌜ r ≡ pick (isTrack (now (file .entry)) track) (media.Ticks (mediaOf (trackBody (now (file .entry)) track))) (media.Refused 20 0) ⌝ }
 {
-    let m = tracks::lay(file);
-    if is_track(file, m, track) == 0 {
+    if is_track(file, e.count, track) == 0 {
         return MediaLength::Refused(20, 0);
     }
-    let said = said::read(file, tracks::track_slot(m, track - 1));
+    let said = said::read(file, e, track - 1);
     let media = said.media;
     MediaLength::Ticks(media)
 }
@@ -68,8 +68,10 @@ fn media_in(file: &[u8], track: usize) -> MediaLength
 pub fn media_ticks(file: &[u8], track: usize) -> MediaLength
     ensures { λ r. ⌜ r ≡ mediaLength (now (file .entry)) track ⌝ }
 {
-    match judge::judge(file) {
-        Judgement::Accepted => media_in(file, track),
+    let j = judge::judge_tracks(file);
+    let answer = j.answer;
+    match answer {
+        Judgement::Accepted => media_in(file, j.tracks, track),
         Judgement::Refused(n, p) => MediaLength::Refused(n, p),
     }
 }
@@ -80,15 +82,14 @@ pub enum MovieLength {
     Refused(usize, usize),
 }
 
-fn movie_in(file: &[u8], track: usize) -> MovieLength
-    requires { ⌜ Meets (now file) ⌝ }
+fn movie_in(file: &[u8], e: Tracks, track: usize) -> MovieLength
+    requires { ⌜ Meets (now file) × TracksAt (now file) e ⌝ }
     ensures { λ r. ⌜ r ≡ pick (isTrack (now (file .entry)) track) (movie.Ticks (movieOf (trackBody (now (file .entry)) track))) (movie.Refused 20 0) ⌝ }
 {
-    let m = tracks::lay(file);
-    if is_track(file, m, track) == 0 {
+    if is_track(file, e.count, track) == 0 {
         return MovieLength::Refused(20, 0);
     }
-    let said = said::read(file, tracks::track_slot(m, track - 1));
+    let said = said::read(file, e, track - 1);
     let movie = said.movie;
     MovieLength::Ticks(movie)
 }
@@ -96,33 +97,36 @@ fn movie_in(file: &[u8], track: usize) -> MovieLength
 pub fn movie_ticks(file: &[u8], track: usize) -> MovieLength
     ensures { λ r. ⌜ r ≡ movieLength (now (file .entry)) track ⌝ }
 {
-    match judge::judge(file) {
-        Judgement::Accepted => movie_in(file, track),
+    let j = judge::judge_tracks(file);
+    let answer = j.answer;
+    match answer {
+        Judgement::Accepted => movie_in(file, j.tracks, track),
         Judgement::Refused(n, p) => MovieLength::Refused(n, p),
     }
 }
 
 // Of a file that is accepted.
-fn track_in(file: &[u8], track: usize, out: &mut [u64]) -> Answer
-    requires { ⌜ Meets (now file) ⌝ }
+fn track_in(file: &[u8], e: Tracks, track: usize, out: &mut [u64]) -> Answer
+    requires { ⌜ Meets (now file) × TracksAt (now file) e ⌝ }
     ensures { λ r. ⌜ Exact (asked ((20, isTrack (now (file .entry)) track) ∷ []) (gives (numbersOf (saidBy (trackBody (now (file .entry)) track))))) (now (out .entry)) r (now (out .exit)) ⌝ }
 {
-    let m = tracks::lay(file);
-    if is_track(file, m, track) == 0 {
+    if is_track(file, e.count, track) == 0 {
         return Answer::Refused(20, 0);
     }
     if out.len() < 4 {
         return Answer::Refused(25, 0);
     }
-    Answer::Done(said::put(said::read(file, tracks::track_slot(m, track - 1)), out))
+    Answer::Done(said::put(said::read(file, e, track - 1), out))
 }
 
 // What a track says: its handler, media ticks, time scale and movie ticks.
 pub fn track(file: &[u8], track: usize, out: &mut [u64]) -> Answer
     ensures { λ r. ⌜ Exact (trackResult (now (file .entry)) track) (now (out .entry)) r (now (out .exit)) ⌝ }
 {
-    match judge::judge(file) {
-        Judgement::Accepted => track_in(file, track, out),
+    let j = judge::judge_tracks(file);
+    let answer = j.answer;
+    match answer {
+        Judgement::Accepted => track_in(file, j.tracks, track, out),
         Judgement::Refused(n, p) => Answer::Refused(n, p),
     }
 }
@@ -133,7 +137,7 @@ fn offsets_in(file: &[u8], track: usize, list: &mut [u32]) -> Answer
     ensures { λ r. ⌜ Exact (asked ((20, isTrack (now (file .entry)) track) ∷ []) (gives (offsetsOf (trackBody (now (file .entry)) track)))) (now (list .entry)) r (now (list .exit)) ⌝ }
 {
     let m = tracks::lay(file);
-    if is_track(file, m, track) == 0 {
+    if is_track(file, m.tracks, track) == 0 {
         return Answer::Refused(20, 0);
     }
     let k = track::lay(file, tracks::track_slot(m, track - 1));

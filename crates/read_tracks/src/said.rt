@@ -1,15 +1,15 @@
 // What a track says, each number in its unit.
+use layout::every;
+use layout::every::Tracks;
 use layout::gather;
-use layout::gather::Slot;
-use layout::track;
 use movie::MovieTicks;
 use sample_tables::time::MediaTicks;
-use wire::number;
 ghost use mathlib.Core.Path.{_≡_};
-ghost use Prim.Native.Nat.{_≤_};
+ghost use Prim.Native.Nat.{_≤_, _<_};
 ghost use lib.ListN.{length};
 ghost use Rattle.wire.specs.Writing.{Wrote};
-ghost use Rattle.layout.specs.Slots.{slotIn, Lies};
+ghost use Rattle.movie.specs.Movie.{track};
+ghost use Rattle.layout.specs.Every.{TracksAt};
 ghost use Rattle.read_tracks.specs.Reads.{saidBy, numbersOf};
 ghost use Rattle.read_tracks.specs.Tracks.{Readable};
 
@@ -21,21 +21,18 @@ pub struct Said {
     pub movie: MovieTicks,
 }
 
-// What the track says whose payload is a slot of the file.
-pub fn read(file: &[u8], trak: Slot) -> Said
-    requires { ⌜ Lies (now file) trak × Readable (slotIn (now file) trak) ⌝ }
-    ensures { λ r. ⌜ r ≡ saidBy (slotIn (now (file .entry)) trak) ⌝ }
+// What track t, from 0, of a file says.
+pub fn read(file: &[u8], e: Tracks, t: usize) -> Said
+    requires { ⌜ TracksAt (now file) e × (t < 4) × Readable (track (now file) t) ⌝ }
+    ensures { λ r. ⌜ r ≡ saidBy (track (now (file .entry)) t) ⌝ }
 {
-    let k = track::lay(file, trak);
-    let hdlr = k.hdlr;
+    let k = every::track(e, t);
     let stts = k.stts;
-    let mdhd = k.mdhd;
-    let tkhd = k.tkhd;
     Said {
-        handler: number::word32(gather::bytes(file, hdlr), 8),
+        handler: k.handler,
         media: sample_tables::time::media_ticks(gather::bytes(file, stts)),
-        scale: number::word32(gather::bytes(file, mdhd), 12),
-        movie: MovieTicks(number::word32(gather::bytes(file, tkhd), 20) as u64),
+        scale: k.scale,
+        movie: MovieTicks(k.ticks as u64),
     }
 }
 

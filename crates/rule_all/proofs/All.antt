@@ -1,5 +1,6 @@
 -- Two rules as one hold exactly where both do. Assumes nothing.
 use Prim.Native.Nat.{ℕ, zero, suc}
+use native.Mathlib.Omega.{arith}
 use mathlib.Core.Path.{_≡_, refl}
 use mathlib.Core.Bool.{Bool, true, false}
 use mathlib.Core.List.{List}
@@ -10,7 +11,7 @@ use Rattle.boxes.specs.Containers.{kindIn}
 use Rattle.boxes.proofs.Every.{all-map, all-with}
 use Rattle.rule.specs.Rule.{Rule, allIn}
 use Rattle.rule.proofs.Opened.{opened, closed}
-use Rattle.rule_all.specs.All.{also, Sure}
+use Rattle.rule_all.specs.All.{also, Sure, SureBefore}
 
 module _ (r s : Rule) where
   pub also-first : (d k : ℕ) (xs : List ℕ) → allIn (also r s) d k xs ≡ true → allIn r d k xs ≡ true
@@ -53,3 +54,7 @@ module _ (r s : Rule) where
 -- an answer of 0 says nothing
 pub sure-none : (t : Bool) → Sure 0 t
 sure-none t = record { holds = λ n. absurd (n refl) }
+
+-- and one of 2 neither
+pub sure-before-none : (xs : List ℕ) → SureBefore xs 2
+sure-before-none xs = record { low = λ h. refl; most = omega arith; nine = λ h. absurd (omega arith); ten = λ h. absurd (omega arith) }

@@ -15,7 +15,7 @@ use Rattle.rule_lists.specs.Nine.{allUrls, allUrlsIn}
 use Rattle.rule_tracks.specs.Six.{tableFine, tableIn}
 use Rattle.sample_tables.specs.Tables.{tableForm}
 use Rattle.sample_tables.specs.Sizes.{sizesForm}
-use Rattle.rule_all.specs.All.{allRules}
+use Rattle.rule_all.specs.All.{rulesToNine, allRules}
 
 -- ---- containers in a container
 
@@ -77,11 +77,11 @@ inside-dinf c = parent-any (λ c p. ifEq p DINF c 0 ≡ 0) refl refl refl refl r
 -- ---- opaque boxes
 
 module _ (l : List Box) (c : ℕ) (b : List ℕ) where
-  pub leaf-file : (c ≡ FTYP → form FILE FTYP b ≡ true) → allRules l .leaf FILE c b ≡ true
+  pub leaf-file : (c ≡ FTYP → form FILE FTYP b ≡ true) → rulesToNine l .leaf FILE c b ≡ true
   unfolding form ifBox formIn tableIn allUrlsIn ifEq
   leaf-file f = eq-or c FTYP (λ e. rw (e, f e)) (λ n. rw (ne-eqb c FTYP n))
 
-  pub leaf-moov : (c ≡ MVHD → form MOOV MVHD b ≡ true) → allRules l .leaf MOOV c b ≡ true
+  pub leaf-moov : (c ≡ MVHD → form MOOV MVHD b ≡ true) → rulesToNine l .leaf MOOV c b ≡ true
   unfolding form ifBox formIn tableIn allUrlsIn ifEq
   leaf-moov f = eq-or c MVHD (λ e. rw (e, f e)) (λ n. rw (ne-eqb c MVHD n))
 

@@ -1,20 +1,14 @@
 -- A track meets all rules where the tests of its boxes, by where they stand, all hold. Assumes nothing.
-use Prim.Native.Nat.{ℕ}
-use mathlib.Core.Path.{_≡_}
-use mathlib.Core.Bool.{true}
+use Prim.Native.Nat.{ℕ, _≤_}
 use mathlib.Core.List.{List}
-use lib.ListN.{drop}
 use Rattle.wire.proofs.Clauses.{clause}
-use Rattle.codes.specs.Codes.{TRAK}
-use Rattle.boxes.specs.Boxes.{FRONT, boxes}
-use Rattle.movie.specs.Ways.{toStsd, follow}
+use Rattle.boxes.specs.Boxes.{boxes}
+use Rattle.movie.specs.Ways.{follow}
 use Rattle.movie.specs.Movie.{scale, handler, references}
 use Rattle.layout.specs.declared.track.Track.{Track}
 use Rattle.layout.specs.Track.{Laid}
-use Rattle.rule.specs.Rule.{allIn}
-use Rattle.rule_entries.specs.Ten.{aroundOf, entriesFine}
-use Rattle.rule_all.specs.All.{allRules}
-use Rattle.rule_all.specs.Track.{Inside, headsFine, listsFine, formsFine, tablesFine, AllFine, Good}
+use Rattle.rule_entries.specs.Ten.{aroundOf}
+use Rattle.rule_all.specs.Track.{Inside, headsFine, listsFine, formsFine, tablesFine, AllFine, Good, EntriesMeet}
 use Rattle.rule_all.proofs.Containers.{dinf-all, stbl-all, minf-all, mdia-all, trak-all}
 
 module _ {xs b : List ℕ} {t : Track} (h : Laid xs b t) where
@@ -32,10 +26,10 @@ module _ {xs b : List ℕ} {t : Track} (h : Laid xs b t) where
         stco = h .stco .lies;
       }
 
-  module _ {r : ℕ} (f : AllFine xs t r) (z : r ≡ 0 → ⊥) where
-    all-rules : allIn (allRules (boxes xs)) 4 TRAK b ≡ true
+  module _ {r : ℕ} (f : AllFine xs t r) where
+    pub good : 10 ≤ r → Good (boxes xs) b
     unfolding headsFine listsFine formsFine tablesFine follow
-    all-rules =
+    good z =
         let s = h .shaped (f .shaped z) in
         let head = f .heads z in
         let list = f .lists z in
@@ -51,9 +45,6 @@ module _ {xs b : List ℕ} {t : Track} (h : Laid xs b t) where
         (rw (h .stts .is, h .stsc .is, h .stsz .is, h .stco .is, h .stsd .is) at (clause 0 _ both)) (rw (h .stsc .is, h .stsz .is, h .stco .is) at
         (clause 1 _ both)))))
 
-    all-entries : entriesFine (aroundOf b) (drop FRONT (follow toStsd b)) ≡ true
+    pub listed : 11 ≤ r → EntriesMeet b
     unfolding aroundOf scale handler references
-    all-entries = rw (h .mdhd .is, h .hdlr .is, h .dref .is, h .stsd .is) at (f .entries z)
-
-    pub good : Good (boxes xs) b
-    good = record { rules = all-rules; entries = all-entries }
+    listed z = rw (h .mdhd .is, h .hdlr .is, h .dref .is, h .stsd .is) at (f .entries z)

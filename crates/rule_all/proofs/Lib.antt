@@ -3,6 +3,7 @@ pub mod Held
 pub mod Within
 pub mod Containers
 pub mod Whole
+pub mod Entries
 pub mod Judging
 pub mod Answers
 pub mod Hint

@@ -1,10 +1,9 @@
--- A file meets all rules where its headers do, and each of its tracks. Assumes nothing.
+-- A file meets rules 2 to 9 where its headers do, and each of its tracks. Assumes nothing.
 use Prim.Native.Nat.{ℕ, zero, suc, _+_, _≤_, _<_}
 use native.Mathlib.Omega.{arith}
 use mathlib.Core.Path.{_≡_, refl, ap}
 use mathlib.Core.Bool.{true}
 use mathlib.Core.List.{List, [], _∷_}
-use lib.ListN.{drop}
 use Rattle.wire.specs.Tests.{ifEq}
 use Rattle.wire.specs.Sums.{sumTo}
 use Rattle.wire.specs.Clauses.{isLe}
@@ -12,17 +11,15 @@ use Rattle.wire.proofs.Clauses.{is-le}
 use Rattle.wire.proofs.Sums.{sum-same}
 use Rattle.codes.specs.Codes.{FTYP, MOOV, MVHD, TRAK}
 use Rattle.boxes.specs.Box.{Box, size}
-use Rattle.boxes.specs.Boxes.{FRONT, boxes}
+use Rattle.boxes.specs.Boxes.{boxes}
 use Rattle.boxes.specs.Containers.{FILE, DEPTH}
 use Rattle.boxes.specs.Seek.{count, find, nth}
 use Rattle.boxes.proofs.Every.{all-map}
 use Rattle.boxes.proofs.Meaning.{meant-or, count-hit, count-miss, nth-hit, nth-next, nth-miss}
 use Rattle.movie.specs.Ways.{toStsd, follow}
 use Rattle.movie.specs.Movie.{movie, tracks, track, storedCount}
-use Rattle.movie.specs.Stsds.{Stsd, stsdsFrom}
+use Rattle.movie.specs.Stsds.{stsdsFrom}
 use Rattle.movie.proofs.Boxed.{stsds-hit, stsds-miss}
-use Rattle.movie.proofs.Stsds.{Each, each-from}
-use Rattle.movie.proofs.Stsds.Each.{none as no-more, more}
 use Rattle.layout.specs.Track.{Has}
 use Rattle.layout.specs.Tracks.{Framed}
 use Rattle.rule.specs.Rule.{allIn}
@@ -34,10 +31,11 @@ use Rattle.rule_headers.specs.Four.{tracksFine}
 use Rattle.rule_lists.specs.Five.{MOST, countedIn}
 use Rattle.rule_tracks.specs.Seven.{sevenIn}
 use Rattle.rule_tracks.specs.Eight.{eightIn}
-use Rattle.rule_entries.specs.Ten.{aroundOf, entriesFine, stsdsFine, tenIn}
-use Rattle.rule_all.specs.All.{allRules}
+use Rattle.rule_entries.specs.Ten.{tenRule}
+use Rattle.rule_all.specs.All.{rulesToNine}
 use Rattle.rule_all.specs.Track.{Good}
 use Rattle.rule_all.specs.Tracks.{entriesOn}
+use Rattle.rule_all.proofs.All.{also-first}
 use Rattle.rule_all.proofs.Held.{leaf-file, leaf-moov}
 use Rattle.rule_all.proofs.Within.{sole-each, once, numbered, in-moov, in-file}
 
@@ -71,12 +69,6 @@ total-is (x ∷ l) t p =
     let same = sum-same (counts (x ∷ l)) (counts l) (count TRAK l) (λ i k. ap (λ (b : List ℕ). storedCount (follow toStsd b)) (nth-miss TRAK x l e i)) in
     rw (stsds-miss x e l t p, count-miss TRAK x l e, same) (total-is l t (p + size x)))
 
--- the entries of each `stsd` are fine
-stsds-good : {t : ℕ} {l : List Stsd} → Each (λ s. entriesFine (aroundOf (s .trak)) (drop FRONT (s .body)) ≡ true) t l → stsdsFine l ≡ true
-unfolding stsdsFine
-stsds-good no-more = refl
-stsds-good (more e h a) = rw h (stsds-good a)
-
 -- ---- the `moov` and the file
 
 module _ (l : List Box) {xs : List ℕ} (h : Has MOOV xs) (head : form MOOV MVHD (find MVHD (boxes xs)) ≡ true)
@@ -85,27 +77,24 @@ module _ (l : List Box) {xs : List ℕ} (h : Has MOOV xs) (head : form MOOV MVHD
   total-few : isLe (countedIn (stsdsFrom 0 (boxes xs) 0)) MOST ≡ true
   total-few = is-le _ _ (rw (total-is (boxes xs) 0 0) few)
 
-  all-entries : stsdsFine (stsdsFrom 0 (boxes xs) 0) ≡ true
-  all-entries = stsds-good (each-from (λ s. entriesFine (aroundOf (s .trak)) (drop FRONT (s .body)) ≡ true) (boxes xs) 0 0 (λ i k. each i k .entries))
-
-  moov-all : allIn (allRules l) 5 MOOV xs ≡ true
-  unfolding needed tracksFine sevenIn eightIn tenIn ifEq
-  moov-all =
-      closed (allRules l) 4 MOOV xs (record {
-        node = rw (h .three, differ, total-few, all-entries);
+  moov-nine : allIn (rulesToNine l) 5 MOOV xs ≡ true
+  unfolding needed tracksFine sevenIn eightIn ifEq
+  moov-nine =
+      closed (rulesToNine l) 4 MOOV xs (record {
+        node = rw (h .three, differ, total-few);
         leaves = all-map (λ x p z. leaf-moov l (x .code) (x .body) p) (sole-each h MVHD refl (λ b. form MOOV MVHD b ≡ true) head);
-        inside = in-moov (allRules l) 4 xs (numbered (allRules l) 4 xs (λ i k. each i k .rules));
+        inside = in-moov (rulesToNine l) 4 xs (numbered (rulesToNine l) 4 xs (λ i k. also-first (rulesToNine l) tenRule 4 TRAK _ (each i k)));
         end = rw (h .two);
       })
 
-pub file-all : (l : List Box) (xs : List ℕ) → Framed xs → form FILE FTYP (find FTYP (boxes xs)) ≡ true → form MOOV MVHD (find MVHD (movie xs)) ≡ true
+pub file-nine : (l : List Box) (xs : List ℕ) → Framed xs → form FILE FTYP (find FTYP (boxes xs)) ≡ true → form MOOV MVHD (find MVHD (movie xs)) ≡ true
     → ((i : ℕ) → i < tracks xs → Good l (track xs i)) → different (movie xs) ≡ true → sumTo (entriesOn xs) (tracks xs) ≤ MOST
-    → allIn (allRules l) DEPTH FILE xs ≡ true
-unfolding needed tracksFine sevenIn eightIn tenIn track ifEq
-file-all l xs h front head each differ few =
-    closed (allRules l) 5 FILE xs (record {
+    → allIn (rulesToNine l) DEPTH FILE xs ≡ true
+unfolding needed tracksFine sevenIn eightIn track ifEq
+file-nine l xs h front head each differ few =
+    closed (rulesToNine l) 5 FILE xs (record {
       node = rw (h .file .three);
       leaves = all-map (λ x p z. leaf-file l (x .code) (x .body) p) (sole-each (h .file) FTYP refl (λ b. form FILE FTYP b ≡ true) front);
-      inside = in-file (allRules l) 5 xs (once (allRules l) 5 xs (h .file) MOOV refl (moov-all l (h .moov) head each differ few));
+      inside = in-file (rulesToNine l) 5 xs (once (rulesToNine l) 5 xs (h .file) MOOV refl (moov-nine l (h .moov) head each differ few));
       end = rw (h .file .two);
     })

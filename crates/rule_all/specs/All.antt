@@ -1,11 +1,13 @@
 -- Rules 2 to 10 at once.
-use Prim.Native.Nat.{ℕ}
+use Prim.Native.Nat.{ℕ, _≤_, _<_}
 use mathlib.Core.Path.{_≡_}
 use mathlib.Core.Bool.{Bool, true, false}
 use mathlib.Core.List.{List}
 use Rattle.wire.specs.Tests.{pick}
 use Rattle.boxes.specs.Box.{Box}
-use Rattle.rule.specs.Rule.{Rule}
+use Rattle.boxes.specs.Boxes.{boxes}
+use Rattle.boxes.specs.Containers.{FILE, DEPTH}
+use Rattle.rule.specs.Rule.{Rule, allIn}
 use Rattle.rule_shape.specs.Two.{twoRule}
 use Rattle.rule_shape.specs.Three.{threeRule}
 use Rattle.rule_lists.specs.Five.{fiveRule}
@@ -25,10 +27,21 @@ also r s =
       end = λ xs. pick (r .end xs) (s .end xs) false;
     }
 
--- rules 2 to 10 as one, rule 8 in a file with the boxes l
+-- rules 2 to 9 as one, rule 8 in a file with the boxes l
+abbrev pub rulesToNine : List Box → Rule
+rulesToNine l = also twoRule (also threeRule (also fourRule (also fiveRule (also sixRule (also sevenRule (also (eightRule l) nineRule))))))
+
+-- and with rule 10
 abbrev pub allRules : List Box → Rule
-allRules l = also twoRule (also threeRule (also fourRule (also fiveRule (also sixRule (also sevenRule (also (eightRule l) (also nineRule tenRule)))))))
+allRules l = also (rulesToNine l) tenRule
 
 -- an answer other than 0 says that a test holds
 pub record Sure (r : ℕ) (t : Bool) : Type 0 where
   pub holds : (r ≡ 0 → ⊥) → t ≡ true
+
+-- an answer of 2, 10 or 11 says that the rules from 2 on and before it hold of a file
+pub record SureBefore (xs : List ℕ) (r : ℕ) : Type 0 where
+  pub low : r < 10 → r ≡ 2
+  pub most : r ≤ 11
+  pub nine : 10 ≤ r → allIn (rulesToNine (boxes xs)) DEPTH FILE xs ≡ true
+  pub ten : 11 ≤ r → allIn tenRule DEPTH FILE xs ≡ true

@@ -1,5 +1,5 @@
 -- What is asked of a track, by where its boxes stand.
-use Prim.Native.Nat.{ℕ, _^_, _<_}
+use Prim.Native.Nat.{ℕ, _^_, _≤_, _<_}
 use mathlib.Core.Path.{_≡_}
 use mathlib.Core.Bool.{Bool, true}
 use mathlib.Core.List.{List, [], _∷_}
@@ -65,23 +65,29 @@ tablesFine l xs t =
 abbrev pub aroundIn : List ℕ → Track → Around
 aroundIn xs t = around.Track (word 4 (slotIn xs (t .mdhd)) 12) (word 4 (slotIn xs (t .hdlr)) 8) (word 4 (slotIn xs (t .dref)) 4)
 
--- an answer other than 0 says that it meets all of them
+-- an answer of 10 or more says that it meets rules 2 to 9, one of 11 rule 10 too
 pub record AllFine (xs : List ℕ) (t : Track) (r : ℕ) : Type 0 where
-  pub shaped : (r ≡ 0 → ⊥) → t .shaped ≡ 0 → ⊥
-  pub heads : (r ≡ 0 → ⊥) → headsFine xs t ≡ true
-  pub lists : (r ≡ 0 → ⊥) → listsFine xs t ≡ true
-  pub forms : (r ≡ 0 → ⊥) → formsFine xs t ≡ true
-  pub tables : (r ≡ 0 → ⊥) → tablesFine (boxes xs) xs t ≡ true
-  pub entries : (r ≡ 0 → ⊥) → entriesFine (aroundIn xs t) (drop FRONT (slotIn xs (t .stsd))) ≡ true
+  pub most : r ≤ 11
+  pub shaped : 10 ≤ r → t .shaped ≡ 0 → ⊥
+  pub heads : 10 ≤ r → headsFine xs t ≡ true
+  pub lists : 10 ≤ r → listsFine xs t ≡ true
+  pub forms : 10 ≤ r → formsFine xs t ≡ true
+  pub tables : 10 ≤ r → tablesFine (boxes xs) xs t ≡ true
+  pub entries : 11 ≤ r → entriesFine (aroundIn xs t) (drop FRONT (slotIn xs (t .stsd))) ≡ true
 
--- a track of payload b, in a file with the boxes l: all that its containers and boxes are asked, and its entries
-pub record Good (l : List Box) (b : List ℕ) : Type 0 where
-  pub rules : allIn (allRules l) 4 TRAK b ≡ true
-  pub entries : entriesFine (aroundOf b) (drop FRONT (follow toStsd b)) ≡ true
+-- a track of payload b, in a file with the boxes l: all that its containers and boxes are asked
+abbrev pub Good : List Box → List ℕ → Type 0
+Good l b = allIn (allRules l) 4 TRAK b ≡ true
+
+-- its entries meet rule 10
+abbrev pub EntriesMeet : List ℕ → Type 0
+EntriesMeet b = entriesFine (aroundOf b) (drop FRONT (follow toStsd b)) ≡ true
 
 -- what an answer says of it
 pub record Judged (l : List Box) (b : List ℕ) (t : TrackSays) : Type 0 where
-  pub good : (t .fine ≡ 0 → ⊥) → Good l b
-  pub identity : (t .fine ≡ 0 → ⊥) → t .identity ≡ word 4 (find TKHD (boxes b)) 12
-  pub entries : (t .fine ≡ 0 → ⊥) → t .entries ≡ storedCount (follow toStsd b)
+  pub most : t .sure ≤ 11
+  pub good : 10 ≤ t .sure → Good l b
+  pub listed : 11 ≤ t .sure → EntriesMeet b
+  pub identity : t .identity ≡ word 4 (find TKHD (boxes b)) 12
+  pub entries : t .entries ≡ storedCount (follow toStsd b)
   pub small : t .entries < 2 ^ 32

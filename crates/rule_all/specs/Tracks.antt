@@ -9,7 +9,9 @@ use Rattle.movie.specs.Ways.{toStsd, follow}
 use Rattle.movie.specs.Movie.{movie, tracks, track, storedCount}
 use Rattle.rule_headers.specs.Identities.{different}
 use Rattle.rule_lists.specs.Five.{MOST}
-use Rattle.rule_all.specs.Track.{Good}
+use Rattle.layout.specs.Every.{TracksAt}
+use Rattle.rule_all.specs.declared.SureTracks.{SureTracks}
+use Rattle.rule_all.specs.Track.{Good, EntriesMeet}
 
 -- how many sample entries the `stsd` of track i, from 0, counts
 abbrev pub entriesOn : List ℕ → ℕ → ℕ
@@ -21,8 +23,15 @@ pub record Again (r identity i one two three : ℕ) : Type 0 where
   pub second : r ≡ 0 → 2 ≤ i → identity ≡ two → ⊥
   pub third : r ≡ 0 → 3 ≤ i → identity ≡ three → ⊥
 
--- an answer other than 0 says that each track is good, that their IDs differ, and that they have at most 8 sample entries
+-- an answer of 10 or 11 says that each track is good, that their IDs differ, and that they have at most 8 sample entries, one of 11 that these are fine
 pub record Tracked (xs : List ℕ) (r : ℕ) : Type 0 where
-  pub each : (r ≡ 0 → ⊥) → (i : ℕ) → i < tracks xs → Good (boxes xs) (track xs i)
-  pub differ : (r ≡ 0 → ⊥) → different (movie xs) ≡ true
-  pub few : (r ≡ 0 → ⊥) → sumTo (entriesOn xs) (tracks xs) ≤ MOST
+  pub low : r < 10 → r ≡ 2
+  pub most : r ≤ 11
+  pub each : 10 ≤ r → (i : ℕ) → i < tracks xs → Good (boxes xs) (track xs i)
+  pub differ : 10 ≤ r → different (movie xs) ≡ true
+  pub few : 10 ≤ r → sumTo (entriesOn xs) (tracks xs) ≤ MOST
+  pub listed : 11 ≤ r → (i : ℕ) → i < tracks xs → EntriesMeet (track xs i)
+
+-- an answer of 10 or 11 comes with what each track says
+pub record TracksTold (xs : List ℕ) (r : SureTracks) : Type 0 where
+  pub tracks : 10 ≤ r .sure → TracksAt xs (r .tracks)

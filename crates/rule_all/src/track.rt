@@ -2,6 +2,7 @@
 use crate::TrackSays;
 use boxes::walk;
 use entry_rules::entry::Around;
+use layout::every;
 use layout::gather;
 use layout::gather::Slot;
 use layout::track;
@@ -25,6 +26,7 @@ ghost use Rattle.wire.specs.Clauses.{oneIf};
 ghost use Rattle.boxes.specs.Boxes.{FRONT, boxes};
 ghost use Rattle.boxes.specs.Containers.{LONGEST};
 ghost use Rattle.layout.specs.Slots.{slotIn, Lies};
+ghost use Rattle.layout.specs.Every.{ReadAt};
 ghost use Rattle.layout.specs.Tracks.{FirstMdat};
 ghost use Rattle.rule_lists.specs.Nine.{allUrls};
 ghost use Rattle.rule_entries.specs.Ten.{entriesFine};
@@ -146,40 +148,44 @@ fn entries_fine(file: &[u8], t: Track) -> usize
     }
 }
 
-// An answer other than 0 says that it meets all of them.
+// 2; or 10, where it meets rules 2 to 9; or 11, where it meets rule 10 too.
 fn all_fine(file: &[u8], t: Track, mdat: Slot) -> usize
     requires { ⌜ Inside (now file) t × (length (now file) ≤ LONGEST) × FirstMdat (now file) mdat ⌝ }
     ensures { λ r. ⌜ AllFine (now (file .entry)) t r ⌝ }
 {
     if t.shaped == 0 {
-        return 0;
+        return 2;
     }
     if heads_fine(file, t) == 0 {
-        return 0;
+        return 2;
     }
     if lists_fine(file, t) == 0 {
-        return 0;
+        return 2;
     }
     if forms_fine(file, t) == 0 {
-        return 0;
+        return 2;
     }
     if tables_fine(file, t, mdat) == 0 {
-        return 0;
+        return 2;
     }
-    entries_fine(file, t)
+    if entries_fine(file, t) == 0 {
+        return 10;
+    }
+    11
 }
 
 // The track whose payload is a slot of the file, in a file with that first `mdat`.
 pub fn judge(file: &[u8], trak: Slot, mdat: Slot) -> TrackSays
     requires { ⌜ Lies (now file) trak × (length (now file) ≤ LONGEST) × FirstMdat (now file) mdat ⌝ }
-    ensures { λ r. ⌜ Judged (boxes (now (file .entry))) (slotIn (now (file .entry)) trak) r ⌝ }
+    ensures { λ r. ⌜ Judged (boxes (now (file .entry))) (slotIn (now (file .entry)) trak) r × ReadAt (now (file .entry)) trak (r .read) ⌝ }
 {
     let t = track::lay(file, trak);
     let tkhd = t.tkhd;
     let stsd = t.stsd;
     TrackSays {
-        fine: all_fine(file, t, mdat),
+        sure: all_fine(file, t, mdat),
         identity: number::word32(gather::bytes(file, tkhd), 12),
         entries: number::word32(gather::bytes(file, stsd), 4),
+        read: every::told(file, t),
     }
 }

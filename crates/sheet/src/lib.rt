@@ -3,7 +3,7 @@ use entry_heads::kind;
 use judge::Judgement;
 use layout::entries;
 use layout::entries::Lists;
-use layout::every;
+use layout::every::Tracks;
 use layout::gather;
 use movie::entry::EntryAt;
 use movie::entry::Named;
@@ -19,6 +19,7 @@ ghost use Rattle.wire.specs.Writing.{Put};
 ghost use Rattle.rule.specs.Results.{Exact};
 ghost use Rattle.rule.specs.Results.Result.{gives};
 ghost use Rattle.movie.specs.Entries.{entries};
+ghost use Rattle.layout.specs.Every.{TracksAt};
 ghost use Rattle.layout.specs.Entries.{ListsAt};
 ghost use Rattle.movie.specs.Named.{entryAs};
 ghost use Rattle.sheet.specs.Sheet.{SLOTS, SLOT, slot as slotText, slotOf, slots as slotsText, bodies as bodiesText};
@@ -147,11 +148,11 @@ fn put_sheet(out: &mut [u8], file: &[u8], l: Lists) -> usize
 }
 
 // The same of an accepted file, where there is room for it: the bodies, written into no room, tell how long it is.
-fn sheet_of(file: &[u8], out: &mut [u8]) -> Answer
-    requires { ⌜ SheetFits (now file) ⌝ }
+fn sheet_of(file: &[u8], e: Tracks, out: &mut [u8]) -> Answer
+    requires { ⌜ SheetFits (now file) × TracksAt (now file) e ⌝ }
     ensures { λ r. ⌜ Exact (gives (sheetOf (now (file .entry)))) (now (out .entry)) r (now (out .exit)) ⌝ }
 {
-    let l = entries::lay(file, every::lay(file));
+    let l = entries::lay(file, e);
     let mut none = [0u8; 1];
     let span = put_bodies(&mut none, BODIES, file, l);
     if out.len() < span {
@@ -164,8 +165,10 @@ fn sheet_of(file: &[u8], out: &mut [u8]) -> Answer
 pub fn sheet(file: &[u8], out: &mut [u8]) -> Answer
     ensures { λ r. ⌜ Exact (sheetResult (now (file .entry))) (now (out .entry)) r (now (out .exit)) ⌝ }
 {
-    match judge::judge(file) {
-        Judgement::Accepted => sheet_of(file, out),
+    let j = judge::judge_tracks(file);
+    let answer = j.answer;
+    match answer {
+        Judgement::Accepted => sheet_of(file, j.tracks, out),
         Judgement::Refused(n, p) => Answer::Refused(n, p),
     }
 }

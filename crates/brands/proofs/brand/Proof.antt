@@ -12,7 +12,8 @@ unfolding brandAnswer
 brand-spec = tie.close (tie.spec
     (λ c κs. search needs)
     (λ c. search needs)
-    (λ c κs. met _ (c .before .before .judge .ensures) (c .enum-told .given .1))
+    (λ c κs. let j = c .before .before .judge-tracks .ensures in
+    (met _ (j .answer) (c .enum-told .given .1), j .tracks (c .enum-told .given .1)))
     (λ c. search needs)
-    (λ c. answer-accepted _ (c .before .before .before .judge .ensures) _ (c .before .enum-told .given .1) (ap Done (c .brand-of .ensures)))
-    (λ c. answer-refused _ (c .before .before .before .judge .ensures) _ (c .before .n .given .1)))
+    (λ c. answer-accepted _ (c .before .before .before .judge-tracks .ensures .answer) _ (c .before .enum-told .given .1) (ap Done (c .brand-of .ensures)))
+    (λ c. answer-refused _ (c .before .before .before .judge-tracks .ensures .answer) _ (c .before .answer .given .1)))

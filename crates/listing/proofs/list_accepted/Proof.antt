@@ -9,9 +9,8 @@ use Rattle.listing.proofs.list_accepted.Tie as tie
 pub list-accepted-spec : {M : Type 1} → statement M
 list-accepted-spec = tie.close (tie.spec
     (λ c κs. search needs)
-    (λ c κs. search needs)
-    (λ c κs. (c .before .lay .ensures, c .lay2 .ensures, few-tracks (c .before .before .before .before .pre)))
-    (λ c κs. (c .before .lay2 .ensures, few-tracks (c .before .before .before .before .before .pre), c .before .before .before .before .before .pre .most))
+    (λ c κs. let p = c .before .before .before .pre in (p .1, c .lay .ensures, few-tracks (p .0)))
+    (λ c κs. let p = c .before .before .before .before .pre in (c .before .lay .ensures, few-tracks (p .0), p .0 .most))
     (λ c. search needs)
     (λ c. search needs)
     (λ c κs. search needs)
@@ -22,7 +21,7 @@ list-accepted-spec = tie.close (tie.spec
     (λ c. search needs)
     (λ c κs. search needs)
     (λ c. search needs)
-    (λ c. too-short _ (c .before .before .before .before .before .before .before .before .before .before .before .before .args .out .now) (c .before .before .before .put-accepted2 .ensures .0) (omega arith))
+    (λ c. too-short _ (c .before .before .before .before .before .before .before .before .before .before .before .args .out .now) (c .before .before .before .put-accepted2 .ensures .0) (omega arith))
     (λ c κs. search needs)
     (λ c. search needs)
-    (λ c. all-written _ (c .before .before .before .before .before .before .before .before .before .before .before .before .before .before .before .before .args .out .now) (c .before .before .before .before .before .before .before .put-accepted2 .ensures .0) (c .before .before .put-accepted3 .ensures .0) (omega arith)))
+    (λ c. all-written _ (c .before .before .before .before .before .before .before .before .before .before .before .before .before .before .before .args .out .now) (c .before .before .before .before .before .before .before .put-accepted2 .ensures .0) (c .before .before .put-accepted3 .ensures .0) (omega arith)))

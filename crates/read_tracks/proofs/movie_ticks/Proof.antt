@@ -10,7 +10,8 @@ unfolding movieLength
 movie-ticks-spec = tie.close (tie.spec
     (λ c κs. search needs)
     (λ c. search needs)
-    (λ c κs. met _ (c .before .before .judge .ensures) (c .enum-told .given .1))
+    (λ c κs. let j = c .before .before .judge-tracks .ensures in
+    (met _ (j .answer) (c .enum-told .given .1), j .tracks (c .enum-told .given .1)))
     (λ c. search needs)
-    (λ c. when-accepted _ (c .before .before .before .judge .ensures) _ _ (c .before .enum-told .given .1) (c .movie-in .ensures))
-    (λ c. when-refused _ (c .before .before .before .judge .ensures) _ _ (c .before .n .given .1)))
+    (λ c. when-accepted _ (c .before .before .before .judge-tracks .ensures .answer) _ _ (c .before .enum-told .given .1) (c .movie-in .ensures))
+    (λ c. when-refused _ (c .before .before .before .judge-tracks .ensures .answer) _ _ (c .before .answer .given .1)))

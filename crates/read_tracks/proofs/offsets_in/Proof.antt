@@ -9,7 +9,7 @@ use Rattle.read_tracks.proofs.offsets_in.Tie as tie
 pub offsets-in-spec : {M : Type 1} → statement M
 offsets-in-spec = tie.close (tie.spec
     (λ c κs. search needs)
-    (λ c κs. c .lay .ensures .0)
+    (λ c κs. c .lay .ensures .0 .tracks)
     (λ c. test-nay _ _ _ _ _ (c .before .is-track .ensures) (c .if1 .taken))
     (λ c. track-first _ _ (c .before .is-track .ensures) (c .if1 .left))
     (λ c κs. search needs)

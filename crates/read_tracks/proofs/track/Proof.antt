@@ -10,8 +10,10 @@ unfolding trackResult
 track-spec = tie.close (tie.spec
     (λ c κs. search needs)
     (λ c. search needs)
-    (λ c κs. met _ (c .before .before .before .judge .ensures) (c .before .enum-told .given .1))
+    (λ c κs. let j = c .before .before .before .judge-tracks .ensures in
+    let a = c .before .enum-told .given .1 in
+    (met _ (j .answer) a, j .tracks a))
     (λ c. search needs)
     (λ c. search needs)
-    (λ c. result-accepted _ (c .before .before .before .before .before .before .judge .ensures) _ _ _ (c .before .before .before .before .enum-told .given .1) (c .before .before .track-in .ensures))
-    (λ c. result-refused _ (c .before .before .before .judge .ensures) _ _ _ (c .before .n .given .1)))
+    (λ c. result-accepted _ (c .before .before .before .before .before .before .judge-tracks .ensures .answer) _ _ _ (c .before .before .before .before .enum-told .given .1) (c .before .before .track-in .ensures))
+    (λ c. result-refused _ (c .before .before .before .judge-tracks .ensures .answer) _ _ _ (c .before .answer .given .1)))

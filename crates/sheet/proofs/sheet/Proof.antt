@@ -12,8 +12,10 @@ unfolding sheetResult
 sheet-spec = tie.close (tie.spec
     (λ c κs. search needs)
     (λ c. search needs)
-    (λ c κs. accepted-fits _ (met _ (c .before .before .before .judge .ensures) (c .before .enum-told .given .1)))
+    (λ c κs. let j = c .before .before .before .judge-tracks .ensures in
+    let a = c .before .enum-told .given .1 in
+    (accepted-fits _ (met _ (j .answer) a), j .tracks a))
     (λ c. search needs)
     (λ c. search needs)
-    (λ c. result-accepted _ (c .before .before .before .before .before .before .judge .ensures) _ _ _ (c .before .before .before .before .enum-told .given .1) (test-all _ _ (c .before .before .sheet-of .ensures)))
-    (λ c. result-refused _ (c .before .before .before .judge .ensures) _ _ _ (c .before .n .given .1)))
+    (λ c. result-accepted _ (c .before .before .before .before .before .before .judge-tracks .ensures .answer) _ _ _ (c .before .before .before .before .enum-told .given .1) (test-all _ _ (c .before .before .sheet-of .ensures)))
+    (λ c. result-refused _ (c .before .before .before .judge-tracks .ensures .answer) _ _ _ (c .before .answer .given .1)))

@@ -1,28 +1,22 @@
--- The `moov`, its tracks, and each of them.
+-- The tracks where they stand, and each of them.
 use borrow.Author.Needs.{needs}
-use Rattle.layout.proofs.FirstBoxes.{counted, trak-at}
+use native.Mathlib.Omega.{arith}
+use Rattle.layout.specs.Tracks.{trackSlot}
+use Rattle.wire.specs.Tests.{ifEq}
+use Rattle.layout.proofs.Everything.{trak-at}
 use Rattle.layout.proofs.every.lay.Statement.{statement}
 use Rattle.layout.proofs.every.lay.Tie as tie
 
 pub lay-spec : {M : Type 1} → statement M
+unfolding trackSlot ifEq
 lay-spec = tie.close (tie.spec
     (λ c κs. search needs)
-    (λ c κs. search needs)
-    (λ c κs. search needs)
-    (λ c κs. let g = c .before .before .before .before .with-tracks .ensures in
-    let e = c .before .before .before .before .before .before .whole .ensures .0 in
-    (counted e (c .before .before .before .before .before .first .ensures) (g .second), trak-at e (c .before .before .before .before .before .first .ensures) 0 (g .second)))
-    (λ c κs. let g = c .before .before .before .before .before .with-tracks .ensures in
-    let e = c .before .before .before .before .before .before .before .whole .ensures .0 in
-    (counted e (c .before .before .before .before .before .before .first .ensures) (g .second), trak-at e (c .before .before .before .before .before .before .first .ensures) 1 (g .third)))
-    (λ c κs. let g = c .before .before .before .before .before .before .with-tracks .ensures in
-    let e = c .before .before .before .before .before .before .before .before .whole .ensures .0 in
-    (counted e (c .before .before .before .before .before .before .before .first .ensures) (g .second), trak-at e (c .before .before .before .before .before .before .before .first .ensures) 2 (g .fourth)))
-    (λ c κs. let g = c .before .before .before .before .before .before .before .with-tracks .ensures in
-    let e = c .before .before .before .before .before .before .before .before .before .whole .ensures .0 in
-    (counted e (c .before .before .before .before .before .before .before .before .first .ensures) (g .second), trak-at e (c .before .before .before .before .before .before .before .before .first .ensures) 3 (g .fifth)))
+    (λ c κs. let l = c .before .before .before .before .lay .ensures in (l .0 .tracks, trak-at (l .0) (l .1) 0 (omega arith)))
+    (λ c κs. let l = c .before .before .before .before .before .lay .ensures in (l .0 .tracks, trak-at (l .0) (l .1) 1 (omega arith)))
+    (λ c κs. let l = c .before .before .before .before .before .before .lay .ensures in (l .0 .tracks, trak-at (l .0) (l .1) 2 (omega arith)))
+    (λ c κs. let l = c .before .before .before .before .before .before .before .lay .ensures in (l .0 .tracks, trak-at (l .0) (l .1) 3 (omega arith)))
     (λ c. record {
-      count = counted (c .before .before .before .before .before .before .before .before .before .before .whole .ensures .0) (c .before .before .before .before .before .before .before .before .before .first .ensures) (c .before .before .before .before .before .before .before .before .with-tracks .ensures .second);
+      count = c .before .before .before .before .before .before .before .before .lay .ensures .0 .tracks;
       one = c .before .before .before .track-at .ensures;
       two = c .before .before .track-at2 .ensures;
       three = c .before .track-at3 .ensures;

@@ -1,7 +1,7 @@
 -- A track that isn't there, and one that is.
 use borrow.Author.Needs.{needs}
 use native.Mathlib.Omega.{arith}
-use Rattle.layout.proofs.Everything.{blank-at, track-read}
+use Rattle.layout.proofs.Everything.{blank-at, told-at, track-read}
 use Rattle.layout.proofs.every.track_at.Statement.{statement}
 use Rattle.layout.proofs.every.track_at.Tie as tie
 
@@ -10,4 +10,6 @@ track-at-spec = tie.close (tie.spec
     (λ c κs. search needs)
     (λ c. blank-at _ _ (c .blank .ensures) (omega arith))
     (λ c κs. c .before .before .pre .1 .at .lies)
-    (λ c. track-read (c .before .before .before .pre .1) (omega arith) (c .read .ensures)))
+    (λ c κs. let l = c .lay .ensures .0 in (l .hdlr .lies, l .mdhd .lies, l .tkhd .lies))
+    (λ c. rw (c .told .ensures) (track-read (c .before .before .before .before .pre .1) (omega arith)
+    (told-at (c .before .lay .ensures .0) (c .before .lay .ensures .1)))))

@@ -1,20 +1,16 @@
 -- Each field is what the track says.
 use borrow.Author.Needs.{needs}
-use Rattle.read_tracks.proofs.Reading.{laid-handler, laid-scale, laid-movie, laid-times, times-table, media-is, said-is}
+use Rattle.layout.proofs.Everything.{track-of}
+use Rattle.read_tracks.proofs.Reading.{told-times, times-table, media-is, said-is}
 use Rattle.read_tracks.proofs.said.read.Statement.{statement}
 use Rattle.read_tracks.proofs.said.read.Tie as tie
 
 pub read-spec : {M : Type 1} → statement M
 read-spec = tie.close (tie.spec
     (λ c κs. search needs)
-    (λ c κs. search needs)
-    (λ c κs. search needs)
-    (λ c κs. search needs)
-    (λ c κs. times-table _ (laid-times (c .before .before .before .before .before .before .before .lay .ensures .0) (c .bytes2 .ensures)) (c .before .before .before .before .before .before .before .before .before .pre .1))
-    (λ c κs. search needs)
-    (λ c κs. search needs)
-    (λ c κs. search needs)
-    (λ c κs. search needs)
-    (λ c. let l = c .before .before .before .before .before .before .before .before .before .before .before .before .lay .ensures .0 in
-    said-is _ (laid-handler l (c .before .before .before .before .before .before .before .bytes .ensures) (c .before .before .before .before .before .before .word32 .ensures .0)) (media-is _ (laid-times l (c .before .before .before .before .before .bytes2 .ensures)) (c .before .before .before .before .media-ticks .ensures))
-    (laid-scale l (c .before .before .before .bytes3 .ensures) (c .before .before .word322 .ensures .0)) (laid-movie l (c .before .bytes4 .ensures) (c .word323 .ensures .0))))
+    (λ c κs. let p = c .before .before .before .pre in track-of (p .0) _ (p .1) (c .before .track .ensures) .stts .lies)
+    (λ c κs. let p = c .before .before .before .before .pre in
+    times-table _ (told-times (track-of (p .0) _ (p .1) (c .before .before .track .ensures)) (c .bytes .ensures)) (p .2))
+    (λ c. let p = c .before .before .before .before .before .pre in
+    let k = track-of (p .0) _ (p .1) (c .before .before .before .track .ensures) in
+    said-is _ (k .handler) (media-is _ (told-times k (c .before .bytes .ensures)) (c .media-ticks .ensures)) (k .scale) (k .ticks)))
