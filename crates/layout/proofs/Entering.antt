@@ -9,7 +9,6 @@ use Rattle.codes.specs.Codes.{MOOV, TRAK}
 use Rattle.boxes.specs.Boxes.{boxes}
 use Rattle.boxes.specs.Seek.{ANY, count, find, startIn}
 use Rattle.boxes.proofs.Placing.{total-is}
-use Rattle.boxes.proofs.Reading.{heads}
 use Rattle.boxes.proofs.Reading.All.{some}
 use Rattle.movie.specs.Movie.{movie, tracks, track}
 use Rattle.movie.specs.Stsds.{Stsd, stsdsFrom, stsds}
@@ -47,7 +46,7 @@ module _ {xs : List ℕ} {i t left : ℕ} (k : Left xs i t left) where
     left-in l =
         record {
           some = h;
-          small = omega (arith, count-total TRAK (heads (find MOOV (boxes xs))), total-is (find MOOV (boxes xs)));
+          small = omega (arith, count-total TRAK (boxes (find MOOV (boxes xs))), total-is (find MOOV (boxes xs)));
           few = omega (arith, c);
           rest = λ p. entriesIn (drop (t + 1) (stsdsFrom 0 (movie xs) p));
           is = λ p. k .is p ∙ ap (drop left) (from-here xs h p) ∙ drop-append-le left _ _ (omega (arith, long xs h p));

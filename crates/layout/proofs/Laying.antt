@@ -5,14 +5,10 @@ use mathlib.Core.Path.{_≡_, refl, ap, subst, _∙_}
 use mathlib.Core.List.{List}
 use lib.ListN.{length}
 use Rattle.codes.specs.Codes.{TRAK, TKHD, MDIA, MDHD, HDLR, MINF, DINF, DREF, STBL, STSD, STTS, STSC, STSZ, STCO}
-use Rattle.boxes.specs.Box.{Box, head}
-use Rattle.boxes.specs.Boxes.{HEAD, boxes}
-use Rattle.boxes.specs.Seek.{count, find, startIn, placeIn}
-use Rattle.boxes.proofs.Reading.{All, Headed, heads}
-use Rattle.boxes.proofs.Reading.All.{none, some}
-use Rattle.boxes.proofs.Meaning.{meant-or, place-hit, place-miss}
+use Rattle.boxes.specs.Boxes.{boxes}
+use Rattle.boxes.specs.Seek.{count, find, startIn}
 use Rattle.boxes.proofs.Numbered.{nth-there, found-short}
-use Rattle.movie.specs.Ways.{follow, placeAlong}
+use Rattle.movie.specs.Ways.{follow, startAlong}
 use Rattle.movie.specs.Movie.{mdia, minf}
 use Rattle.layout.specs.declared.gather.Slot.{Slot}
 use Rattle.layout.specs.declared.gather.Five.{Five}
@@ -30,15 +26,6 @@ pub place-in : {xs zs : List ℕ} {o : Slot} (c : ℕ) {s : Slot} → Stands xs 
 place-in {zs = zs} {o} c k e h =
     let n = nth-there c 0 (boxes zs) (λ q. let l = ap length q in omega arith) in
     k .place (omega (arith, k .counted, ap (λ (l : List ℕ). count c (boxes l)) e)) ∙ ap (λ (l : List ℕ). o .from + startIn c 0 (boxes l)) e
-
--- a payload starts past the header
-pub start-eight : (c : ℕ) {l : List Box} → All Headed l → 0 < count c l → startIn c 0 l ≡ placeIn c 0 l + HEAD
-unfolding count startIn placeIn
-start-eight c none h = absurd (omega arith)
-start-eight c (some {x} {l} e a) h =
-    meant-or c (x .code)
-    (λ m. rw (place-hit c x l m head, place-hit c x l m (λ y. 0)) (omega arith))
-    (λ m. rw (place-miss c x l m head 0, place-miss c x l m (λ y. 0) 0) (omega (arith, start-eight c a (omega arith))))
 
 module _ {xs : List ℕ} {trak : Slot} {t m i d s : Five}
     (gt : Gathered xs trak (firstWith TKHD) (firstWith MDIA) (firstWith MDIA) (firstWith MDIA) (firstWith MDIA) t)
@@ -114,14 +101,13 @@ module _ {xs : List ℕ} {trak : Slot} {t m i d s : Five}
     stsz = s .d;
     stco = s .e;
   })
-  unfolding follow placeAlong
+  unfolding follow startAlong
   listed q =
       record {
         place = λ h.
             let stbl = found-short STSD 0 (find STBL (minf b)) refl in
             let in-minf = found-short STBL 0 (find MINF (mdia b)) refl in
             let in-mdia = found-short MINF 0 (find MDIA (boxes b)) refl in
-            let n = nth-there STSD 0 (boxes (find STBL (minf b))) (λ q. let l = ap length q in omega arith) in
             omega (
               arith,
               place-in MDIA (gt .second) refl (omega arith),
@@ -129,6 +115,5 @@ module _ {xs : List ℕ} {trak : Slot} {t m i d s : Five}
               place-in STBL
                   (gi .second) minf-is (omega arith),
               place-in STSD (gs .first) stbl-is h,
-              start-eight STSD (heads (find STBL (minf b))) n,
             );
       }

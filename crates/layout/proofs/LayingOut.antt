@@ -17,10 +17,10 @@ use Rattle.rule_shape.specs.Three.{first}
 use Rattle.layout.specs.declared.gather.Slot.{Slot}
 use Rattle.layout.specs.declared.gather.Five.{Five}
 use Rattle.layout.specs.declared.tracks.Movie.{Movie}
-use Rattle.layout.specs.Slots.{slotIn, firstWith, firstTwo, Stands, Gathered, Alone, Both}
+use Rattle.layout.specs.Slots.{slotIn, firstWith, Stands, Gathered, Both}
 use Rattle.layout.specs.Track.{At, Has}
-use Rattle.layout.specs.Tracks.{wholeOf, wanted, trackSlot, Peopled, Framed, LaidOut, Spread}
-use Rattle.layout.proofs.Shaped.{moov-shape, file-shape, one-of, gathered-has}
+use Rattle.layout.specs.Tracks.{wholeOf, wanted, trackSlot, Paired, Peopled, Framed, LaidOut, Spread}
+use Rattle.layout.proofs.Shaped.{none-open, file-shut, moov-shape, file-shape, one-of}
 use Rattle.layout.proofs.Laying.{at-in, place-in}
 use Rattle.layout.proofs.Few.{by-four, no-boxes, none-counted}
 
@@ -36,23 +36,24 @@ module _ {xs : List ℕ} {s : Slot} (e : s ≡ wholeOf xs) {f m : Five} (gf : Ga
   moov-at : At xs (find MOOV (boxes xs)) (f .b)
   moov-at = at-in (gf .second) (all-is e)
 
-  leading : Gathered xs s (firstWith FTYP) (firstWith MOOV) (firstWith MOOV) (firstWith MOOV) (firstWith MOOV) (firstTwo f)
-  leading = record { first = gf .first; second = gf .second; third = gf .second; fourth = gf .second; fifth = gf .second; tiled = gf .tiled }
-
   track-at : {i : ℕ} {s : Slot} → Stands xs (f .b) (wanted i) s → At xs (track xs i) s
   unfolding track
   track-at {i} k = record { lies = k .lies; is = k .is ∙ ap (λ (ys : List ℕ). nth TRAK i (boxes ys)) (moov-at .is) }
 
-  module _ {r q u v w : ℕ} (lf : r ≡ oneIf (isEq (first (boxes xs)) FTYP)) {g : Five} (two : g ≡ firstTwo f) (of : Alone q g) (bu : Both r q u) (pm : Peopled v m) (bw : Both u v w) where
+  module _ {r q u v w : ℕ} (lf : r ≡ oneIf (isEq (first (boxes xs)) FTYP)) (of : Paired q f) (bu : Both r q u) (pm : Peopled v m) (bw : Both u v w) where
     framed : (w ≡ 0 → ⊥) → Framed xs
     framed z =
         let y = bw .first z in
         let x = bw .second z in
         record {
-          file = subst (Has FILE) (all-is e)
-              (gathered-has (subst (Gathered xs s _ _ _ _ _) (sym two) leading) of (bu .second y) FILE (λ a b c d f. file-shape _ a b (rw (all-is e) (eq-is _ _ (was-yea _ _ (bu .first y) lf)))));
+          file = subst (Has FILE) (all-is e) (record {
+            two = gf .tiled (of .tiled (bu .second y));
+            shut = file-shut _;
+            three = file-shape _ (one-of (gf .first) (of .first (bu .second y))) (one-of (gf .second) (of .second (bu .second y))) (rw (all-is e) (eq-is _ _ (was-yea _ _ (bu .first y) lf)));
+          });
           moov = subst (Has MOOV) (moov-at .is) (record {
-            two = was-yea _ _ (pm .tiled x) (gm .tiled);
+            two = gm .tiled (λ q. omega (arith, pm .tiled x));
+            shut = none-open MOOV _ (gm .shut (pm .tiled x));
             three = moov-shape _ (one-of (gm .first) (pm .header x)) (rw (← gm .second .counted) (pm .some x)) (rw (← gm .second .counted) (pm .few x));
           });
         }

@@ -6,10 +6,10 @@ use mathlib.Core.List.{List, []}
 use lib.ListN.{length, take, drop, length-drop, drop-of-length-le}
 use lib.Seq.{take-all}
 use Rattle.codes.specs.Codes.{MOOV, TRAK, MDIA, MINF, STBL, STSD}
-use Rattle.boxes.specs.Boxes.{HEAD, FRONT, boxes}
+use Rattle.boxes.specs.Boxes.{FRONT, boxes}
 use Rattle.boxes.specs.Seek.{ANY, count, find, startIn}
 use Rattle.boxes.proofs.Numbered.{nth-none, found-short}
-use Rattle.movie.specs.Ways.{toStsd, follow, placeAlong}
+use Rattle.movie.specs.Ways.{toStsd, follow, startAlong}
 use Rattle.movie.specs.Movie.{movie, tracks, track, mdia, minf}
 use Rattle.movie.specs.Named.{listIn, listStart}
 use Rattle.layout.specs.declared.gather.Slot.{Slot}
@@ -63,7 +63,7 @@ module _ (xs : List ℕ) (t : ℕ) {o : Slot} (a : At xs (follow toStsd (track x
         )))
 
     pub list-at : s .n ≡ count ANY (boxes (slotIn xs s)) → (0 < length (follow toStsd (track xs t)) → o .from ≡ startIn MOOV 0 (boxes xs) + startIn TRAK t
-        (movie xs) + placeAlong toStsd (track xs t) + HEAD) → ListAt xs t s
+        (movie xs) + startAlong toStsd (track xs t)) → ListAt xs t s
     unfolding listStart
     list-at c e =
         record {

@@ -2,14 +2,15 @@
 use Prim.Native.Nat.{ℕ, suc, _+_, _-_, _^_, _≤_, _<_}
 use native.Mathlib.Omega.{arith}
 use mathlib.Core.Path.{_≡_, refl, sym, ap, subst, _∙_}
+use mathlib.Core.Bool.{Bool, true, false}
 use mathlib.Core.List.{List, [], _∷_}
 use lib.ListN.{length, drop, length-take, length-drop, drop-of-length-le}
 use Rattle.wire.specs.Clauses.{oneIf}
 use Rattle.wire.proofs.Tests.{eq-yea, eq-nay, eq-or, lt-or}
-use Rattle.wire.proofs.Clauses.{is-eq, not-eq}
+use Rattle.wire.proofs.Clauses.{is-eq}
 use Rattle.boxes.specs.declared.walk.Walk.{Walk}
 use Rattle.boxes.specs.declared.walk.BoxAt.{BoxAt}
-use Rattle.boxes.specs.Box.{Box, head, size}
+use Rattle.boxes.specs.Box.{Box, isOpen, head, size}
 use Rattle.boxes.specs.Boxes.{boxes, after, tiles}
 use Rattle.boxes.specs.Seek.{count, nth, startIn, meant}
 use Rattle.boxes.specs.Walk.{boxAt, Ran, Over}
@@ -17,7 +18,7 @@ use Rattle.boxes.proofs.Meaning.{meant-yes, meant-no, count-hit, count-miss, nt
 use Rattle.boxes.proofs.Seeking.{ran-next}
 use Rattle.layout.specs.declared.gather.Slot.{Slot}
 use Rattle.layout.specs.declared.gather.Want.{Want}
-use Rattle.layout.specs.Slots.{slotIn, Lies, nowhere, Stands, noteOf}
+use Rattle.layout.specs.Slots.{slotIn, Lies, nowhere, Stands, noteOf, opens, endingOf}
 use Rattle.layout.proofs.Slots.{slot-part}
 
 module _ (c : ℕ) (x : Box) (l : List Box) where
@@ -89,7 +90,7 @@ module _ {xs ys : List ℕ} {o : Slot} (y : ys ≡ slotIn xs o) (w : Lies xs o) 
                 a .1 ∙ ap (λ (m : ℕ). nth (u .code) m (boxes (drop at ys))) z ∙ ap (nth (u .code) 0) (r .list) ∙ nth-hit (u .code) (boxAt ys b) (boxes rest) hit
                     ∙ rw y (sym (slot-part xs o (b .at + b .head) (b .at + b .span) w (omega (arith, r .least)) within)),
                 let f : startIn (u .code) (u .nth - s .n) (boxes (drop at ys)) ≡ b .head = rw (z, r .list) (start-hit (u .code) (boxAt ys b)
-                    (boxes rest) hit) in
+                    (boxes rest) hit ∙ sym (r .head)) in
                     omega (arith, a .2, f, r .start),
               );
         }
@@ -152,12 +153,40 @@ stands {xs} {ys} {w} y {u} {at} {s} k o =
       place = λ h. rw (← y) (k .met h .1);
     }
 
--- boxes tile the part, or they don't
-module _ {ys : List ℕ} {at : ℕ} (r : after ys ≡ after (drop at ys)) (o : Over ys at) where
-  pub tiled-yea : length ys ≤ at → 1 ≡ oneIf (tiles ys)
-  unfolding oneIf
-  tiled-yea h = rw (is-eq (length (after ys)) 0 (ap length (r ∙ o .rest ∙ drop-of-length-le ys {i = at} h)))
+-- ---- what every such walk has of the boxes before a place: what stands past the last, and how many are open
 
-  pub tiled-nay : at < length ys → 0 ≡ oneIf (tiles ys)
-  unfolding oneIf
-  tiled-nay h = rw (not-eq (length (after ys)) 0 (λ z. omega (arith, ap length (r ∙ o .rest), length-drop at ys)))
+pub record Going (ys : List ℕ) (at endless : ℕ) : Type 0 where
+  pub rest : after ys ≡ after (drop at ys)
+  pub inside : at ≤ length ys
+  pub opened : opens (boxes ys) ≡ endless + opens (boxes (drop at ys))
+  pub few : endless ≤ at
+
+pub going-none : (ys : List ℕ) → Going ys 0 0
+going-none ys = record { rest = refl; inside = omega arith; opened = omega arith; few = omega arith }
+
+pub one-most : (t : Bool) → oneIf t ≤ 1
+unfolding oneIf
+one-most true = omega arith
+one-most false = omega arith
+
+module _ {ys : List ℕ} {at endless : ℕ} (g : Going ys at endless) where
+  pub going-more : {b : BoxAt} {v : Walk} → Ran ys at b v → {m : ℕ} → m ≡ endless + oneIf (isOpen (b .form)) → Going ys (v .at) m
+  unfolding opens
+  going-more {b} {v} r e =
+      record {
+        rest = g .rest ∙ r .rest;
+        inside = omega (arith, r .next, r .inside);
+        opened = omega (arith, g .opened, ap opens (r .list));
+        few = omega (arith, g .few, one-most (isOpen (b .form)), r .next, r .eight, r .least);
+      }
+
+  pub going-fits : {xs : List ℕ} {o : Slot} → Lies xs o → ys ≡ slotIn xs o → length xs < 2 ^ 63 → endless < 2 ^ 63
+  going-fits {xs} {o} w y h = omega (arith, g .few, g .inside, ap length y ∙ length-take (o .to - o .from) (drop (o .from) xs), length-drop (o .from) xs)
+
+  module _ (o : Over ys at) where
+    pub going-tiled : length ys ≤ at → tiles ys ≡ true
+    going-tiled h = is-eq (length (after ys)) 0 (ap length (g .rest ∙ o .rest ∙ drop-of-length-le ys {i = at} h))
+
+    pub going-shut : {n : ℕ} → n ≡ endingOf endless → n ≡ 1 → opens (boxes ys) ≡ 0
+    unfolding opens endingOf
+    going-shut e q = eq-or endless 0 (λ z. omega (arith, g .opened, ap opens (o .list))) (λ z. let w : 2 ≡ endingOf endless = eq-nay _ _ _ _ _ z refl in absurd (omega arith))

@@ -9,8 +9,7 @@ use Rattle.boxes.specs.Box.{Box, size}
 use Rattle.boxes.specs.Boxes.{boxes, total}
 use Rattle.boxes.specs.Seek.{ANY, count, nth, startIn}
 use Rattle.boxes.proofs.Meaning.{meant-most, meant-or}
-use Rattle.boxes.proofs.Reading.{All, Headed}
-use Rattle.boxes.proofs.Reading.All.{none, some}
+use Rattle.boxes.proofs.Whole.{head-least}
 use Rattle.movie.specs.Movie.{movie, tracks, track}
 use Rattle.movie.specs.Stsds.{Stsd, stsdOf, stsdsFrom}
 use Rattle.movie.specs.Entries.{Entry, entriesOf, entriesIn}
@@ -56,10 +55,10 @@ module _ (l : List Box) (p : ℕ) where
       r .list ∙ ap (λ (a : Stsd). a ∷ drop (n + 1) (stsdsFrom 0 l p)) s
 
 -- each box takes a byte at least
-pub count-total : (c : ℕ) {l : List Box} → All Headed l → count c l ≤ total l
+pub count-total : (c : ℕ) (l : List Box) → count c l ≤ total l
 unfolding count total
-count-total c none = omega arith
-count-total c (some {x} h a) = omega (arith, count-total c a, meant-most c (x .code))
+count-total c [] = omega arith
+count-total c (x ∷ l) = omega (arith, count-total c l, meant-most c (x .code), head-least (x .form))
 
 -- ---- those of track t, and those after them
 

@@ -8,7 +8,6 @@ use Rattle.boxes.specs.Boxes.{boxes}
 use Rattle.boxes.specs.Containers.{LONGEST}
 use Rattle.boxes.specs.Seek.{ANY, startIn}
 use Rattle.boxes.proofs.Placing.{total-is}
-use Rattle.boxes.proofs.Reading.{heads}
 use Rattle.codes.specs.Codes.{MOOV}
 use Rattle.movie.specs.Movie.{movie, tracks, track}
 use Rattle.movie.specs.Stsds.{Stsd, stsdsFrom, stsds}
@@ -35,7 +34,7 @@ module _ {xs : List ℕ} {t sum : ℕ} (k : Tally xs t sum) where
         omega (
           arith,
           a .counted,
-          count-total ANY (heads (listIn (track xs t))),
+          count-total ANY (boxes (listIn (track xs t))),
           total-is (listIn (track xs t)),
           ap length (a .is),
           slot-length

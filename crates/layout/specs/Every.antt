@@ -6,9 +6,9 @@ use lib.ListN.{length}
 use Rattle.wire.specs.Tests.{ifEq}
 use Rattle.wire.specs.Numbers.{word}
 use Rattle.codes.specs.Codes.{MOOV, TRAK, STTS}
-use Rattle.boxes.specs.Boxes.{HEAD, boxes}
+use Rattle.boxes.specs.Boxes.{boxes}
 use Rattle.boxes.specs.Seek.{startIn}
-use Rattle.movie.specs.Ways.{toStsd, toTable, follow, placeAlong}
+use Rattle.movie.specs.Ways.{toStsd, toTable, follow, startAlong}
 use Rattle.movie.specs.Movie.{movie, tracks, track, handler as handlerOf, scale as scaleOf, movieTicks}
 use Rattle.layout.specs.declared.gather.Slot.{Slot}
 use Rattle.layout.specs.declared.track.Track.{Track}
@@ -39,7 +39,7 @@ pub record ToldAt (xs b : List ℕ) (p : ℕ) (k : ReadTrack) : Type 0 where
   pub ticks : k .ticks ≡ movieTicks b
   pub stsd : At xs (follow toStsd b) (k .stsd)
   pub stts : At xs (follow (toTable STTS) b) (k .stts)
-  pub place : 0 < length (follow toStsd b) → k .stsd .from ≡ p + placeAlong toStsd b + HEAD
+  pub place : 0 < length (follow toStsd b) → k .stsd .from ≡ p + startAlong toStsd b
 
 -- the one whose payload is a slot
 abbrev pub ReadAt : List ℕ → Slot → ReadTrack → Type 0

@@ -1,11 +1,13 @@
 -- What one walk over the boxes of a container finds: of each code how many boxes it has, and where in the file the payload of one of them stands.
 use Prim.Native.Nat.{ℕ, _+_, _-_, _≤_, _<_}
 use mathlib.Core.Path.{_≡_}
-use mathlib.Core.List.{List}
+use mathlib.Core.Bool.{true}
+use mathlib.Core.List.{List, [], _∷_}
 use lib.ListN.{length, take, drop}
 use Rattle.wire.specs.Tests.{ifEq}
 use Rattle.wire.specs.Clauses.{oneIf}
 use Rattle.boxes.specs.declared.walk.BoxAt.{BoxAt}
+use Rattle.boxes.specs.Box.{Box, isOpen}
 use Rattle.boxes.specs.Boxes.{boxes, tiles}
 use Rattle.boxes.specs.Seek.{count, nth, startIn}
 use Rattle.layout.specs.declared.gather.Slot.{Slot}
@@ -42,22 +44,28 @@ noteOf s w b p =
     (record { n = s .n + 1; from = p + (b .at + b .head); to = p + (b .at + b .span) })
     (record { n = s .n + 1; from = s .from; to = s .to })) s
 
--- of five wanted boxes
+-- how many boxes are open
+unfoldable pub opens : List Box → ℕ
+opens [] = 0
+opens (x ∷ l) = oneIf (isOpen (x .form)) + opens l
+
+-- how a container ends that boxes tile, n of them open
+unfoldable pub endingOf : ℕ → ℕ
+endingOf n = ifEq n 0 1 2
+
+-- of five wanted boxes; the container ends as 1 only where none is open
 pub record Gathered (xs : List ℕ) (o : Slot) (a b c d e : Want) (g : Five) : Type 0 where
   pub first : Stands xs o a (g .a)
   pub second : Stands xs o b (g .b)
   pub third : Stands xs o c (g .c)
   pub fourth : Stands xs o d (g .d)
   pub fifth : Stands xs o e (g .e)
-  pub tiled : g .tiled ≡ oneIf (tiles (slotIn xs o))
+  pub tiled : (g .tiled ≡ 0 → ⊥) → tiles (slotIn xs o) ≡ true
+  pub shut : g .tiled ≡ 1 → opens (boxes (slotIn xs o)) ≡ 0
 
--- the first two of five, the second again in place of the others
-abbrev pub firstTwo : Five → Five
-firstTwo g = record { a = g .a; b = g .b; c = g .b; d = g .b; e = g .b; tiled = g .tiled }
-
--- an answer other than 0 says that boxes tile the container, and that each of five codes has one box
+-- an answer other than 0 says that boxes tile the container and none is open, and that each of five codes has one box
 pub record Alone (r : ℕ) (g : Five) : Type 0 where
-  pub tiled : (r ≡ 0 → ⊥) → g .tiled ≡ 0 → ⊥
+  pub tiled : (r ≡ 0 → ⊥) → g .tiled ≡ 1
   pub first : (r ≡ 0 → ⊥) → g .a .n ≡ 1
   pub second : (r ≡ 0 → ⊥) → g .b .n ≡ 1
   pub third : (r ≡ 0 → ⊥) → g .c .n ≡ 1

@@ -5,10 +5,12 @@ use mathlib.Core.Bool.{true}
 use mathlib.Core.List.{List}
 use lib.ListN.{length}
 use Rattle.codes.specs.Codes.{TRAK, TKHD, MDIA, MDHD, HDLR, MINF, DINF, STBL, STSD, STTS, STSC, STSZ, STCO}
-use Rattle.boxes.specs.Boxes.{HEAD, boxes, tiles}
+use Rattle.boxes.specs.Boxes.{boxes, tiles}
 use Rattle.boxes.specs.Seek.{find}
-use Rattle.movie.specs.Ways.{toTable, toStsd, toDref, follow, placeAlong}
+use Rattle.movie.specs.Ways.{toTable, toStsd, toDref, follow, startAlong}
 use Rattle.movie.specs.Movie.{mdia as mdiaOf, minf as minfOf}
+use Rattle.rule.specs.Rule.{allList}
+use Rattle.rule_shape.specs.Two.{shutIn}
 use Rattle.rule_shape.specs.Three.{shape}
 use Rattle.layout.specs.declared.gather.Slot.{Slot}
 use Rattle.layout.specs.declared.track.Track.{Track}
@@ -22,6 +24,7 @@ pub record At (xs ys : List ℕ) (s : Slot) : Type 0 where
 -- rules 2 and 3 of a container of kind k alone
 pub record Has (k : ℕ) (ys : List ℕ) : Type 0 where
   pub two : tiles ys ≡ true
+  pub shut : allList (shutIn k) true (boxes ys) ≡ true
   pub three : shape k (boxes ys) ≡ true
 
 -- of each container in a track of payload b, and of itself
@@ -46,4 +49,4 @@ pub record Laid (xs b : List ℕ) (t : Track) : Type 0 where
 
 -- and where its `stsd` starts in the file, of the track that is the slot o
 pub record StsdPlaced (xs : List ℕ) (o : Slot) (t : Track) : Type 0 where
-  pub place : 0 < length (follow toStsd (slotIn xs o)) → t .stsd .from ≡ o .from + placeAlong toStsd (slotIn xs o) + HEAD
+  pub place : 0 < length (follow toStsd (slotIn xs o)) → t .stsd .from ≡ o .from + startAlong toStsd (slotIn xs o)

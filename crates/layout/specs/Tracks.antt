@@ -46,9 +46,15 @@ pub record Further (f : Four) (b : BoxAt) (p : ℕ) (r : Four) : Type 0 where
 unfoldable pub trackSlot : Movie → ℕ → Slot
 trackSlot m i = ifEq i 0 (m .one) (ifEq i 1 (m .two) (ifEq i 2 (m .three) (m .four)))
 
--- an answer other than 0 says that boxes tile a `moov`, and that it has one `mvhd` and 1 to 4 tracks
-pub record Peopled (r : ℕ) (g : Five) : Type 0 where
+-- an answer other than 0 says that boxes tile a file, and that it has one `ftyp` and one `moov`
+pub record Paired (r : ℕ) (g : Five) : Type 0 where
   pub tiled : (r ≡ 0 → ⊥) → g .tiled ≡ 0 → ⊥
+  pub first : (r ≡ 0 → ⊥) → g .a .n ≡ 1
+  pub second : (r ≡ 0 → ⊥) → g .b .n ≡ 1
+
+-- an answer other than 0 says that boxes tile a `moov` and none is open, and that it has one `mvhd` and 1 to 4 tracks
+pub record Peopled (r : ℕ) (g : Five) : Type 0 where
+  pub tiled : (r ≡ 0 → ⊥) → g .tiled ≡ 1
   pub header : (r ≡ 0 → ⊥) → g .a .n ≡ 1
   pub some : (r ≡ 0 → ⊥) → 1 ≤ g .b .n
   pub few : (r ≡ 0 → ⊥) → g .b .n ≤ 4

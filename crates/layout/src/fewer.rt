@@ -16,11 +16,13 @@ pub fn one(file: &[u8], whole: Slot, a: usize) -> Five
     let part = gather::bytes(file, whole);
     let none = gather::none();
     let mut i = none;
+    let mut endless = 0;
     let mut w = Walk { at: 0 };
     loop {
         match w.step(part) {
             Step::Found(x, next) => {
                 i = gather::note(i, Want { code: a, nth: 0 }, x, whole.from);
+                endless = gather::opened(endless, x);
                 w = next;
             }
             Step::End => {
@@ -30,7 +32,7 @@ pub fn one(file: &[u8], whole: Slot, a: usize) -> Five
                     c: i,
                     d: i,
                     e: i,
-                    tiled: 1,
+                    tiled: gather::ending(endless),
                 };
             }
             Step::Broken(_) => {
@@ -55,12 +57,14 @@ pub fn two(file: &[u8], whole: Slot, a: usize, b: usize) -> Five
     let none = gather::none();
     let mut i = none;
     let mut j = none;
+    let mut endless = 0;
     let mut w = Walk { at: 0 };
     loop {
         match w.step(part) {
             Step::Found(x, next) => {
                 i = gather::note(i, Want { code: a, nth: 0 }, x, whole.from);
                 j = gather::note(j, Want { code: b, nth: 0 }, x, whole.from);
+                endless = gather::opened(endless, x);
                 w = next;
             }
             Step::End => {
@@ -70,7 +74,7 @@ pub fn two(file: &[u8], whole: Slot, a: usize, b: usize) -> Five
                     c: j,
                     d: j,
                     e: j,
-                    tiled: 1,
+                    tiled: gather::ending(endless),
                 };
             }
             Step::Broken(_) => {
@@ -96,6 +100,7 @@ pub fn three(file: &[u8], whole: Slot, a: usize, b: usize, c: usize) -> Five
     let mut i = none;
     let mut j = none;
     let mut k = none;
+    let mut endless = 0;
     let mut w = Walk { at: 0 };
     loop {
         match w.step(part) {
@@ -103,6 +108,7 @@ pub fn three(file: &[u8], whole: Slot, a: usize, b: usize, c: usize) -> Five
                 i = gather::note(i, Want { code: a, nth: 0 }, x, whole.from);
                 j = gather::note(j, Want { code: b, nth: 0 }, x, whole.from);
                 k = gather::note(k, Want { code: c, nth: 0 }, x, whole.from);
+                endless = gather::opened(endless, x);
                 w = next;
             }
             Step::End => {
@@ -112,7 +118,7 @@ pub fn three(file: &[u8], whole: Slot, a: usize, b: usize, c: usize) -> Five
                     c: k,
                     d: k,
                     e: k,
-                    tiled: 1,
+                    tiled: gather::ending(endless),
                 };
             }
             Step::Broken(_) => {

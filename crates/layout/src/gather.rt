@@ -1,11 +1,14 @@
 // What a walk over the boxes of a container fills, and one for five codes.
+use boxes::walk;
 use boxes::walk::BoxAt;
 use boxes::walk::Step;
 use boxes::walk::Walk;
 ghost use mathlib.Core.Path.{_≡_};
 ghost use Prim.Native.Nat.{_+_, _^_, _≤_, _<_};
 ghost use lib.ListN.{length};
-ghost use Rattle.layout.specs.Slots.{slotIn, nowhere, firstWith, noteOf, firstTwo, Lies, Gathered, Alone, Both};
+ghost use Rattle.wire.specs.Clauses.{oneIf};
+ghost use Rattle.boxes.specs.Box.{isOpen};
+ghost use Rattle.layout.specs.Slots.{endingOf, slotIn, nowhere, firstWith, noteOf, Lies, Gathered, Alone, Both};
 
 // How many boxes have a code, and where in the file the payload of one of them stands.
 pub struct Slot {
@@ -20,7 +23,7 @@ pub struct Want {
     pub nth: usize,
 }
 
-// What there is of five, and whether boxes tile the container: 1 or 0.
+// What there is of five, and how the container ends: boxes don't tile it, 0; they do, 1; and one of them is open, 2.
 pub struct Five {
     pub a: Slot,
     pub b: Slot,
@@ -73,6 +76,25 @@ pub fn note(s: Slot, want: Want, b: BoxAt, base: usize) -> Slot
     }
 }
 
+// How many boxes are open, with one box more.
+pub fn opened(endless: usize, b: BoxAt) -> usize
+    requires { ⌜ endless < 2 ^ 63 ⌝ }
+    ensures { λ r. ⌜ r ≡ endless + oneIf (isOpen (b .form)) ⌝ }
+{
+    let form = b.form;
+    endless + walk::is_open(form)
+}
+
+// How a container ends that boxes tile, of which so many are open.
+pub fn ending(endless: usize) -> usize
+    ensures { λ r. ⌜ r ≡ endingOf endless ⌝ }
+{
+    if endless == 0 {
+        return 1;
+    }
+    2
+}
+
 // What a container, which is a slot of the file, has of five codes, and the first box of each.
 pub fn firsts(file: &[u8], whole: Slot, a: usize, b: usize, c: usize, d: usize, e: usize) -> Five
     requires { ⌜ Lies (now file) whole × (0 < a) × (0 < b) × (0 < c) × (0 < d) × (0 < e) ⌝ }
@@ -85,6 +107,7 @@ pub fn firsts(file: &[u8], whole: Slot, a: usize, b: usize, c: usize, d: usize, 
     let mut k = none;
     let mut l = none;
     let mut m = none;
+    let mut endless = 0;
     let mut w = Walk { at: 0 };
     loop {
         match w.step(part) {
@@ -94,6 +117,7 @@ pub fn firsts(file: &[u8], whole: Slot, a: usize, b: usize, c: usize, d: usize, 
                 k = note(k, Want { code: c, nth: 0 }, x, whole.from);
                 l = note(l, Want { code: d, nth: 0 }, x, whole.from);
                 m = note(m, Want { code: e, nth: 0 }, x, whole.from);
+                endless = opened(endless, x);
                 w = next;
             }
             Step::End => {
@@ -103,7 +127,7 @@ pub fn firsts(file: &[u8], whole: Slot, a: usize, b: usize, c: usize, d: usize, 
                     c: k,
                     d: l,
                     e: m,
-                    tiled: 1,
+                    tiled: ending(endless),
                 };
             }
             Step::Broken(_) => {
@@ -120,27 +144,11 @@ pub fn firsts(file: &[u8], whole: Slot, a: usize, b: usize, c: usize, d: usize, 
     }
 }
 
-// The first two of five, the second again in place of the others.
-pub fn first_two(g: Five) -> Five
-    ensures { λ r. ⌜ r ≡ firstTwo g ⌝ }
-{
-    let a = g.a;
-    let b = g.b;
-    Five {
-        a,
-        b,
-        c: b,
-        d: b,
-        e: b,
-        tiled: g.tiled,
-    }
-}
-
-// Whether boxes tile the container, and each of five codes has one box: 1 or 0.
+// Whether boxes tile the container and none is open, and each of five codes has one box: 1 or 0.
 pub fn alone(g: Five) -> usize
     ensures { λ r. ⌜ Alone r g ⌝ }
 {
-    if g.tiled == 0 {
+    if g.tiled != 1 {
         return 0;
     }
     if g.a.n != 1 {

@@ -118,16 +118,18 @@ pub fn with_tracks(file: &[u8], moov: Slot, code: usize) -> Five
         three: nowhere,
         four: nowhere,
     };
+    let mut endless = 0;
     let mut w = Walk { at: 0 };
     loop {
         match w.step(part) {
             Step::Found(x, next) => {
                 i = gather::note(i, Want { code, nth: 0 }, x, moov.from);
                 f = more(f, x, moov.from);
+                endless = gather::opened(endless, x);
                 w = next;
             }
             Step::End => {
-                return found(i, f, 1);
+                return found(i, f, gather::ending(endless));
             }
             Step::Broken(_) => {
                 return found(i, f, 0);

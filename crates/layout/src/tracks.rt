@@ -10,7 +10,7 @@ ghost use Rattle.codes.specs.Codes.{FTYP};
 ghost use Rattle.boxes.specs.Boxes.{boxes};
 ghost use Rattle.rule_shape.specs.Three.{first};
 ghost use Rattle.layout.specs.Slots.{Lies};
-ghost use Rattle.layout.specs.Tracks.{wholeOf, trackSlot, Peopled, LaidOut, Spread};
+ghost use Rattle.layout.specs.Tracks.{wholeOf, trackSlot, Paired, Peopled, LaidOut, Spread};
 
 // The boxes that rule 3 names, the first `mdat`, the first four tracks, how many there are, and whether all is as rules 2 and 3 want it: 1 or 0.
 pub struct Movie {
@@ -37,11 +37,11 @@ pub fn whole(file: &[u8]) -> Slot
     }
 }
 
-// Whether boxes tile a `moov`, and it has one `mvhd` and 1 to 4 tracks: 1 or 0.
+// Whether boxes tile a `moov` and none is open, and it has one `mvhd` and 1 to 4 tracks: 1 or 0.
 fn peopled(m: Five) -> usize
     ensures { λ r. ⌜ Peopled r m ⌝ }
 {
-    if m.tiled == 0 {
+    if m.tiled != 1 {
         return 0;
     }
     if m.a.n != 1 {
@@ -51,6 +51,22 @@ fn peopled(m: Five) -> usize
         return 0;
     }
     if 4 < m.b.n {
+        return 0;
+    }
+    1
+}
+
+// Whether boxes tile a file, and it has one `ftyp` and one `moov`: 1 or 0.
+fn paired(f: Five) -> usize
+    ensures { λ r. ⌜ Paired r f ⌝ }
+{
+    if f.tiled == 0 {
+        return 0;
+    }
+    if f.a.n != 1 {
+        return 0;
+    }
+    if f.b.n != 1 {
         return 0;
     }
     1
@@ -80,7 +96,7 @@ pub fn lay(file: &[u8]) -> Movie
     let two = m.c;
     let three = m.d;
     let four = m.e;
-    let upper = gather::both(led(file), gather::alone(gather::first_two(f)));
+    let upper = gather::both(led(file), paired(f));
     Movie {
         shaped: gather::both(upper, peopled(m)),
         tracks: m.b.n,

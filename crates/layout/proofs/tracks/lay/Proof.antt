@@ -14,10 +14,8 @@ lay-spec = tie.close (tie.spec
     (λ c κs. search needs)
     (λ c κs. search needs)
     (λ c κs. search needs)
-    (λ c κs. search needs)
-    (λ c. let f = c .before .before .before .before .before .before .before .before .before .before .before .before .before in (
+    (λ c. let f = c .before .before .before .before .before .before .before .before .before .before .before .before in (
       laid-out (f .before .before .before .whole .ensures .0) (f .before .before .three .ensures) (f .with-tracks .ensures)
-          (c .before .before .before .before .before .led .ensures) (c .before .before .before .before .first-two .ensures)
-          (c .before .before .before .alone .ensures) (c .before .before .both .ensures) (c .before .peopled .ensures) (c .both2 .ensures),
+          (c .before .before .before .before .led .ensures) (c .before .before .before .paired .ensures) (c .before .before .both .ensures) (c .before .peopled .ensures) (c .both2 .ensures),
       spread (f .before .before .before .whole .ensures .0) (f .before .before .three .ensures) (f .with-tracks .ensures) _,
     )))
