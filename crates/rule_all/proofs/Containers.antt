@@ -43,7 +43,7 @@ module _ (l : List Box) (d : ℕ) {xs : List ℕ} where
   unfolding needed tracksFine sevenIn eightIn tenIn ifEq
   dinf-all h f g =
       closed (allRules l) d DINF xs (record {
-        node = rw (h .three);
+        node = rw (h .shut, h .three);
         leaves = all-map (λ x p z. leaf-dinf l (x .code) (x .body) p) (sole-each h DREF refl (λ b. (listForm b ≡ true) × (allUrls b ≡ true)) (f, g));
         inside = in-dinf (allRules l) d xs;
         end = rw (h .two);
@@ -59,7 +59,7 @@ module _ (l : List Box) (d : ℕ) {xs : List ℕ} where
     unfolding needed tracksFine sevenIn sevenHolds eightIn eightHolds tenIn ifEq
     stbl-all =
         closed (allRules l) d STBL xs (record {
-          node = rw (h .three, agree, lie);
+          node = rw (h .shut, h .three, agree, lie);
           leaves = all-five (λ x p q r s t z. leaf-stbl l (x .code) (x .body) p q r s t)
               (sole-each h STSD refl (λ b. listForm b ≡ true) list) (sole-each h STTS refl (λ b. tableForm 8 b ≡ true) times)
               (sole-each h STSC refl (λ b. tableForm 12 b ≡ true) runs)
@@ -73,7 +73,7 @@ module _ (l : List Box) (d : ℕ) {xs : List ℕ} where
   unfolding needed tracksFine sevenIn eightIn tenIn ifEq
   minf-all h f g =
       closed (allRules l) d MINF xs (record {
-        node = rw (h .three);
+        node = rw (h .shut, h .three);
         leaves = all-any (λ x z. leaf-minf l (x .code) (x .body)) (boxes xs);
         inside = in-minf (allRules l) d xs (once (allRules l) d xs h DINF refl f) (once (allRules l) d xs h STBL refl g);
         end = rw (h .two);
@@ -84,7 +84,7 @@ module _ (l : List Box) (d : ℕ) {xs : List ℕ} where
   unfolding needed tracksFine sevenIn eightIn tenIn ifEq
   mdia-all h e f g =
       closed (allRules l) d MDIA xs (record {
-        node = rw (h .three);
+        node = rw (h .shut, h .three);
         leaves = all-with (λ x p q z. leaf-mdia l (x .code) (x .body) p q)
             (sole-each h MDHD refl (λ b. form MDIA MDHD b ≡ true) e) (sole-each h HDLR refl (λ b. form MDIA HDLR b ≡ true) f);
         inside = in-mdia (allRules l) d xs (once (allRules l) d xs h MINF refl g);
@@ -96,7 +96,7 @@ module _ (l : List Box) (d : ℕ) {xs : List ℕ} where
   unfolding needed tracksFine sevenIn eightIn tenIn ifEq
   trak-all h e f =
       closed (allRules l) d TRAK xs (record {
-        node = rw (h .three);
+        node = rw (h .shut, h .three);
         leaves = all-map (λ x p z. leaf-trak l (x .code) (x .body) p) (sole-each h TKHD refl (λ b. form TRAK TKHD b ≡ true) e);
         inside = in-trak (allRules l) d xs (once (allRules l) d xs h MDIA refl f);
         end = rw (h .two);

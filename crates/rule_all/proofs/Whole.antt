@@ -81,7 +81,7 @@ module _ (l : List Box) {xs : List ℕ} (h : Has MOOV xs) (head : form MOOV MVHD
   unfolding needed tracksFine sevenIn eightIn ifEq
   moov-nine =
       closed (rulesToNine l) 4 MOOV xs (record {
-        node = rw (h .three, differ, total-few);
+        node = rw (h .shut, h .three, differ, total-few);
         leaves = all-map (λ x p z. leaf-moov l (x .code) (x .body) p) (sole-each h MVHD refl (λ b. form MOOV MVHD b ≡ true) head);
         inside = in-moov (rulesToNine l) 4 xs (numbered (rulesToNine l) 4 xs (λ i k. also-first (rulesToNine l) tenRule 4 TRAK _ (each i k)));
         end = rw (h .two);
@@ -93,7 +93,7 @@ pub file-nine : (l : List Box) (xs : List ℕ) → Framed xs → form FILE FTYP 
 unfolding needed tracksFine sevenIn eightIn track ifEq
 file-nine l xs h front head each differ few =
     closed (rulesToNine l) 5 FILE xs (record {
-      node = rw (h .file .three);
+      node = rw (h .file .shut, h .file .three);
       leaves = all-map (λ x p z. leaf-file l (x .code) (x .body) p) (sole-each (h .file) FTYP refl (λ b. form FILE FTYP b ≡ true) front);
       inside = in-file (rulesToNine l) 5 xs (once (rulesToNine l) 5 xs (h .file) MOOV refl (moov-nine l (h .moov) head each differ few));
       end = rw (h .file .two);
