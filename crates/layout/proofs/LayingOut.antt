@@ -36,6 +36,7 @@ module _ {xs : List ℕ} {s : Slot} (e : s ≡ wholeOf xs) {f m : Five} (gf : Ga
   moov-at : At xs (find MOOV (boxes xs)) (f .b)
   moov-at = at-in (gf .second) (all-is e)
 
+  -- of rule 3 only `ftyp` and `moov`
   leading : Gathered xs s (firstWith FTYP) (firstWith MOOV) (firstWith MOOV) (firstWith MOOV) (firstWith MOOV) (firstTwo f)
   leading = record { first = gf .first; second = gf .second; third = gf .second; fourth = gf .second; fifth = gf .second; tiled = gf .tiled }
 
@@ -43,14 +44,16 @@ module _ {xs : List ℕ} {s : Slot} (e : s ≡ wholeOf xs) {f m : Five} (gf : Ga
   unfolding track
   track-at {i} k = record { lies = k .lies; is = k .is ∙ ap (λ (ys : List ℕ). nth TRAK i (boxes ys)) (moov-at .is) }
 
-  module _ {r q u v w : ℕ} (lf : r ≡ oneIf (isEq (first (boxes xs)) FTYP)) {g : Five} (two : g ≡ firstTwo f) (of : Alone q g) (bu : Both r q u) (pm : Peopled v m) (bw : Both u v w) where
+  module _ {r q u v w : ℕ} (lf : r ≡ oneIf (isEq (first (boxes xs)) FTYP)) {g : Five} (two : g ≡ firstTwo f) (of : Alone q g) (bu : Both r q u)
+      (pm : Peopled v m) (bw : Both u v w) where
     framed : (w ≡ 0 → ⊥) → Framed xs
     framed z =
         let y = bw .first z in
         let x = bw .second z in
         record {
           file = subst (Has FILE) (all-is e)
-              (gathered-has (subst (Gathered xs s _ _ _ _ _) (sym two) leading) of (bu .second y) FILE (λ a b c d f. file-shape _ a b (rw (all-is e) (eq-is _ _ (was-yea _ _ (bu .first y) lf)))));
+              (gathered-has (subst (Gathered xs s _ _ _ _ _) (sym two) leading) of (bu .second y) FILE
+              (λ a b c d f. file-shape _ a b (rw (all-is e) (eq-is _ _ (was-yea _ _ (bu .first y) lf)))));
           moov = subst (Has MOOV) (moov-at .is) (record {
             two = was-yea _ _ (pm .tiled x) (gm .tiled);
             three = moov-shape _ (one-of (gm .first) (pm .header x)) (rw (← gm .second .counted) (pm .some x)) (rw (← gm .second .counted) (pm .few x));
