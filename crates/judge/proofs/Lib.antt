@@ -1,6 +1,7 @@
 pub mod One
 pub mod Answers
 pub mod Shapes
+pub mod Empty
 pub mod Order
 pub mod Exact
 pub mod Refusals

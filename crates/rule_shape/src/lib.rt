@@ -1,11 +1,14 @@
 // Rule 3 and refusal 23 of one container: which boxes it has to have, or may not have.
 use boxes::containers::FILE;
 use boxes::seek;
+use boxes::seek::Seen;
 use boxes::walk::Step;
 use boxes::walk::Walk;
 ghost use mathlib.Core.Path.{_≡_};
+ghost use Prim.Native.Nat.{_≤_, _<_};
 ghost use Rattle.wire.specs.Clauses.{oneIf};
 ghost use Rattle.boxes.specs.Boxes.{boxes};
+ghost use Rattle.boxes.specs.Seek.{count};
 ghost use Rattle.rule_shape.specs.Three.{exactly as exactlyOf, needed, first, besides as besidesOf, shape};
 ghost use Rattle.rule_shape.specs.TwentyThree.{barred};
 
@@ -73,6 +76,16 @@ pub fn first_code(part: &[u8]) -> usize
     }
 }
 
+// An answer other than 0 says that a part has more than n boxes of a code, and 0 that it hasn't: not all of them need be counted.
+fn more_than(n: usize, part: &[u8], c: usize) -> usize
+    ensures { λ r. ⌜ (r ≡ 0 → count c (boxes (now (part .entry))) ≤ n) × ((r ≡ 0 → ⊥) → n < count c (boxes (now (part .entry)))) ⌝ }
+{
+    match seek::nth(part, c, n) {
+        Seen::At(_) => 1,
+        Seen::Missing => 0,
+    }
+}
+
 // Whether the file starts with `ftyp`, and `moov` has 1 to 4 `trak`: 1 or 0.
 fn besides(k: usize, part: &[u8]) -> usize
     ensures { λ r. ⌜ r ≡ oneIf (besidesOf k (boxes (now (part .entry)))) ⌝ }
@@ -84,11 +97,10 @@ fn besides(k: usize, part: &[u8]) -> usize
         return 1;
     }
     if k == codes::MOOV {
-        let tracks = seek::count(part, codes::TRAK);
-        if tracks < 1 {
+        if more_than(0, part, codes::TRAK) == 0 {
             return 0;
         }
-        if 4 < tracks {
+        if more_than(4, part, codes::TRAK) != 0 {
             return 0;
         }
         return 1;
@@ -96,14 +108,14 @@ fn besides(k: usize, part: &[u8]) -> usize
     1
 }
 
-// Whether a container of kind k has the boxes of rule 3: 1 or 0.
+// Whether a container of kind k has the boxes of rule 3: 1 or 0. What looks at few of them is asked first.
 pub fn shape_of(k: usize, part: &[u8]) -> usize
     ensures { λ r. ⌜ r ≡ oneIf (shape k (boxes (now (part .entry)))) ⌝ }
 {
-    if one_each(k, part) == 0 {
+    if besides(k, part) == 0 {
         return 0;
     }
-    if besides(k, part) == 0 {
+    if one_each(k, part) == 0 {
         return 0;
     }
     1

@@ -1,3 +1,4 @@
+-- Rules 6 and 7 give what rule 8 asks; where they fail it is not asked.
 use borrow.Author.Needs.{needs}
 use Rattle.rule_tracks.proofs.Chunks.{ready, eight-open, eight-six, eight-seven}
 use Rattle.mdat.proofs.Searching.{media-none}

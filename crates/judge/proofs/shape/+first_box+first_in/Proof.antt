@@ -4,6 +4,7 @@ use Prim.Native.Nat.{ℕ, _+_, _-_, _*_, _<_}
 use Rattle.boxes.proofs.Walking.{ran, ended, broke}
 use Rattle.boxes.specs.Boxes.{after}
 use Rattle.judge.proofs.Answers.{box-leaf, box-node, judge-shallow, judge-start}
+use Rattle.judge.proofs.Empty.{empty-fine}
 use Rattle.judge.proofs.Shapes.{first-broken, end-tiled, end-other, end-torn}
 use Rattle.judge.specs.Asked.{shapeBy}
 use Rattle.rule.proofs.Firsts.{first-node}
@@ -27,6 +28,7 @@ use Rattle.judge.proofs.shape.+first_box+first_in.Lts-first_in as first
 use Rattle.boxes.proofs.containers.kind_in.Reads as kind-in-reads
 use Rattle.boxes.proofs.walk.Walk.step.Reads as step-reads
 use Rattle.boxes.proofs.walk.body.Reads as body-reads
+use Rattle.judge.proofs.shape.idle.Reads as idle-reads
 use Rattle.judge.proofs.shape.shaped.Reads as shaped-reads
 use Rattle.judge.proofs.shape.+first_box+first_in.{statement}
 use Rattle.judge.proofs.shape.+first_box+first_in.Tie.{close}
@@ -62,17 +64,20 @@ first-in-μ-loop n part home base k depth w₀ w = length part - w .at
 
 pub +first-box+first-in-spec : {M : Type 1} → statement M
 +first-box+first-in-spec = close μ-first-box μ-first-in
-    (λ t. first-box-lts.spec (kind-in-reads.Asked, kind-in-reads.Learnt, body-reads.Asked, body-reads.Learnt, first-in-below t, first-in.Post) (first-box-at t) first-box.Post
+    (λ t. first-box-lts.spec (kind-in-reads.Asked, kind-in-reads.Learnt, idle-reads.Asked, idle-reads.Learnt, body-reads.Asked, body-reads.Learnt, first-in-below t, first-in.Post) (first-box-at t) first-box.Post
     (λ c. search needs)
     (λ c. search needs)
     (λ c κs. search needs)
     (λ c. let a = c .before .before .before .before .before .args in
     box-leaf (placed (shapeBy (a .n))) _ _ _ _ (c .before .kind-in .ensures) (c .if1 .taken) (unless-yea _ _ refl))
     (λ c κs. search needs)
+    (λ c. let a = c .before .before .before .before .before .before .before .args in let i = c .before .idle .ensures (c .if2 .taken) in
+    box-node (placed (shapeBy (a .n))) _ _ _ _ (c .before .before .before .kind-in .ensures) (c .before .before .if1 .left) (empty-fine _ _ _ _ (a .b) _ _ (i .0) (i .1)))
+    (λ c κs. search needs)
     (λ c. search needs)
     (λ c κs. (omega arith, (omega arith, rw (c .body .ensures, length-take, length-drop) (omega arith))))
-    (λ c. let a = c .before .before .before .before .before .before .before .args in
-    box-node (placed (shapeBy (a .n))) _ _ _ _ (c .before .before .before .kind-in .ensures) (c .before .before .if1 .left) (rw (c .before .body .ensures) at (c .first-in .ensures))))
+    (λ c. let a = c .before .before .before .before .before .before .before .before .before .args in
+    box-node (placed (shapeBy (a .n))) _ _ _ _ (c .before .before .before .before .before .kind-in .ensures) (c .before .before .before .before .if1 .left) (rw (c .before .body .ensures) at (c .first-in .ensures))))
     (λ t. first-in-lts.spec (shaped-reads.Asked, shaped-reads.Learnt, step-reads.Asked, step-reads.Learnt, first-box-below t, first-box.Post) (first-in-at t) first-in.Post first-in-Inv-loop first-in-μ-loop
     (λ c. judge-shallow _ _ _ _ _ _ (c .if1 .taken))
     (λ c κs. search needs)
