@@ -25,14 +25,14 @@ unless-is false p e q = q ∙ rw e (sym (eq-yea 0 0 (Bad p) Fine (Bad p) refl re
 
 -- ---- a box
 
-module _ (j : Judge) (go : ℕ → List ℕ → ℕ → ℕ → Verdict) (k : ℕ) (x : Box) (p : ℕ) {i : ℕ} {v : Verdict} where
-  pub box-leaf : i ≡ kindIn k (x .code) → i ≡ 0 → v ≡ j .leaf k (x .code) (x .body) p (p + head x) → v ≡ judgeBox j go k x p
+module _ (j : Judge) (go : ℕ → List ℕ → ℕ → ℕ → Verdict) (k : ℕ) (x : Box) (p : ℕ) {i h : ℕ} {v : Verdict} (w : h ≡ head x) where
+  pub box-leaf : i ≡ kindIn k (x .code) → i ≡ 0 → v ≡ j .leaf k (x .code) (x .body) p (p + h) → v ≡ judgeBox j go k x p
   unfolding judgeBox
-  box-leaf e z q = eq-yea _ _ _ _ _ (sym e ∙ z) q
+  box-leaf e z q = eq-yea _ _ _ _ _ (sym e ∙ z) (rw w at q)
 
-  pub box-node : i ≡ kindIn k (x .code) → (i ≡ 0 → ⊥) → v ≡ go i (x .body) p (p + head x) → v ≡ judgeBox j go k x p
+  pub box-node : i ≡ kindIn k (x .code) → (i ≡ 0 → ⊥) → v ≡ go i (x .body) p (p + h) → v ≡ judgeBox j go k x p
   unfolding judgeBox
-  box-node e z q = eq-nay _ _ _ _ _ (λ y. z (e ∙ y)) (rw (← e) q)
+  box-node e z q = eq-nay _ _ _ _ _ (λ y. z (e ∙ y)) (rw (← e, ← w) q)
 
 -- ---- what a container holds
 

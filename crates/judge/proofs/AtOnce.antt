@@ -10,7 +10,8 @@ use Rattle.boxes.specs.Boxes.{boxes}
 use Rattle.boxes.specs.Containers.{FILE, DEPTH, LONGEST}
 use Rattle.rule.specs.Rule.{Rule}
 use Rattle.rule.proofs.Places.{placed-says}
-use Rattle.rule_shape.specs.Two.{twoRule}
+use Rattle.rule.proofs.Acceptance.{each-says}
+use Rattle.rule_shape.specs.Two.{tiledRule, shutIn, twoRule}
 use Rattle.rule_shape.specs.Three.{threeRule}
 use Rattle.rule_headers.specs.Four.{fourRule}
 use Rattle.rule_headers.proofs.Rule4.{four-says}
@@ -49,7 +50,7 @@ module _ (xs : List ℕ) (least : 8 ≤ length xs) (most : length xs ≤ LONGEST
       let six = split sixRule _ xs (five .1) in
       let seven = split sevenRule _ xs (six .1) in
       let eight = split (eightRule l) nineRule xs (seven .1) in
-      skip (placed-says oneRule) 1 _ xs (one-holds xs least most) ∙ skip (placed-says twoRule) 2 _ xs (two .0)
+      skip (placed-says oneRule) 1 _ xs (one-holds xs least most) ∙ skip (each-says shutIn tiledRule) 2 _ xs (two .0)
       ∙ skip (placed-says threeRule) 3 _ xs (three .0) ∙ skip four-says 4 _ xs (four .0) ∙ skip five-says 5 _ xs (five .0)
       ∙ skip (placed-says sixRule) 6 _ xs (six .0) ∙ skip (placed-says sevenRule) 7 _ xs (seven .0) ∙ skip (eight-says l) 8 _ xs (eight .0)
       ∙ skip nine-says 9 _ xs (eight .1)

@@ -2,20 +2,17 @@
 use Prim.Native.Nat.{ℕ, _+_, _≤_}
 use native.Mathlib.Omega.{arith}
 use mathlib.Core.Path.{_≡_, refl, subst, _∙_}
-use mathlib.Core.Logic.{_⊎_, inl, inr, ⊎-elim}
 use mathlib.Core.List.{List, [], _∷_}
 use lib.ListN.{length, drop, length-drop, drop-of-length-le}
 use Rattle.wire.proofs.Tests.{le-yea, le-nay, lt-or}
 use Rattle.codes.specs.Codes.{MOOV, TRAK, MDIA, MINF, DINF, DREF, STBL, STSD}
 use Rattle.boxes.specs.Box.{Box, size}
-use Rattle.boxes.specs.Boxes.{HEAD, FRONT, boxes, total}
-use Rattle.boxes.specs.Seek.{nth, find, placeBy, placeIn}
+use Rattle.boxes.specs.Boxes.{FRONT, boxes, total}
+use Rattle.boxes.specs.Seek.{nth, find}
 use Rattle.boxes.proofs.Whole.{short-not}
-use Rattle.boxes.proofs.Reading.{All, Headed, heads, boxes-stop}
-use Rattle.boxes.proofs.Reading.All.{none, some}
-use Rattle.boxes.proofs.Meaning.{meant-or, nth-hit, nth-miss, place-hit, place-miss}
+use Rattle.boxes.proofs.Reading.{boxes-stop}
 use Rattle.boxes.proofs.Placing.{total-is, place-most, start-most}
-use Rattle.movie.specs.Ways.{follow, placeAlong}
+use Rattle.movie.specs.Ways.{follow, startAlong, placeAlong}
 use Rattle.movie.specs.Movie.{storedCount}
 use Rattle.movie.specs.Stsds.{Stsd, stsdsFrom}
 use Rattle.movie.proofs.Stsds.{Each, each-from}
@@ -42,32 +39,21 @@ listed-most f h n b q =
 
 -- ---- the `stsd`s
 
--- a box that is there lies inside with its payload
-find-inside : (c : ℕ) {l : List Box} → All Headed l → (find c l ≡ []) ⊎ (placeIn c 0 l + HEAD + length (find c l) ≤ total l)
-unfolding nth placeIn placeBy total
-find-inside c none = inl refl
-find-inside c (some {x = x} {l = l} h a) =
-    meant-or c (x .code)
-    (λ e. inr (rw (nth-hit c x l e, place-hit c x l e (λ y. 0)) (omega arith)))
-    (λ e. ⊎-elim
-    (λ g. inl (nth-miss c x l e 0 ∙ g))
-    (λ (g : placeIn c 0 l + HEAD + length (find c l) ≤ total l). inr (rw (nth-miss c x l e 0, place-miss c x l e (λ y. 0) 0) (omega arith))) (find-inside c a))
-
--- and so does the box at the end of a way
-along-inside : (c : ℕ) (cs b : List ℕ) → (follow (c ∷ cs) b ≡ []) ⊎ (placeAlong (c ∷ cs) b + HEAD + length (follow (c ∷ cs) b) ≤ length b)
-unfolding follow placeAlong
-along-inside c [] b = ⊎-elim inl (λ h. inr (omega (arith, total-is b))) (find-inside c (heads b))
-along-inside c (d ∷ cs) b = ⊎-elim inl (λ h. inr (omega (arith, total-is b, start-most c 0 (boxes b)))) (along-inside d cs (find c (boxes b)))
+-- the payload at the end of a way lies inside
+along-inside : (cs b : List ℕ) → startAlong cs b + length (follow cs b) ≤ length b
+unfolding follow startAlong
+along-inside [] b = omega arith
+along-inside (c ∷ cs) b = omega (arith, total-is b, start-most c 0 (boxes b), along-inside cs (find c (boxes b)))
 
 along-most : (c : ℕ) (cs b : List ℕ) → placeAlong (c ∷ cs) b ≤ length b
 unfolding placeAlong
 along-most c [] b = omega (arith, total-is b, place-most c 0 (boxes b))
 along-most c (d ∷ cs) b = omega (arith, total-is b, start-most c 0 (boxes b), along-most d cs (find c (boxes b)))
 
--- its place, and all of it where it is there, lie before place m
+-- its place, and all of its payload, lie before place m
 record Within (m : ℕ) (s : Stsd) : Type 0 where
   place : s .place ≤ m
-  whole : (s .body ≡ []) ⊎ (s .place + HEAD + length (s .body) ≤ m)
+  whole : s .start + length (s .body) ≤ m
 
 within-each : (m t : ℕ) (l : List Box) (p : ℕ) → p + total l ≤ m → Each (Within m) t (stsdsFrom t l p)
 within-each m t l p h =
@@ -77,7 +63,7 @@ within-each m t l p h =
     let s = start-most TRAK n l in
     record {
       place = omega (arith, along-most MDIA (MINF ∷ STBL ∷ STSD ∷ []) b);
-      whole = ⊎-elim inl (λ i. inr (omega arith)) (along-inside MDIA (MINF ∷ STBL ∷ STSD ∷ []) b);
+      whole = omega (arith, along-inside (MDIA ∷ MINF ∷ STBL ∷ STSD ∷ []) b);
     })
 
 -- ---- rule 5
@@ -112,13 +98,9 @@ nine-bounded =
 
 -- ---- rule 10
 
-entries-most : (m : ℕ) (a : Around) (s : Stsd) → Within m s → named (entriesJudged a (drop FRONT (s .body)) (s .place + HEAD + FRONT)) ≤ m
-unfolding entriesJudged judgeList
-entries-most m a s w =
-    ⊎-elim
-    (λ (e : s .body ≡ []). let z : boxes (drop FRONT (s .body)) ≡ [] = rw e (boxes-stop [] (short-not [] (omega arith))) in rw z (omega arith))
-    (λ h. omega (arith, listed-most (λ x i. unless (entryFine a x) i) (λ x i. unless-most _ (entryFine a x) i (omega arith)) FRONT (s .body) (s .place + HEAD)))
-    (w .whole)
+entries-most : (m : ℕ) (a : Around) (s : Stsd) → Within m s → named (entriesJudged a (drop FRONT (s .body)) (s .start + FRONT)) ≤ m
+unfolding entriesJudged
+entries-most m a s w = omega (arith, w .whole, listed-most (λ x i. unless (entryFine a x) i) (λ x i. unless-most _ (entryFine a x) i (omega arith)) FRONT (s .body) (s .start))
 
 judged-most : (m : ℕ) {t : ℕ} {l : List Stsd} → Each (Within m) t l → named (stsdsJudged l) ≤ m
 unfolding stsdsJudged

@@ -11,14 +11,13 @@ use Rattle.boxes.specs.Walk.{payload}
 use Rattle.rule.specs.declared.Verdict.the-variants.{Fine}
 use Rattle.rule.specs.Verdict.{sooner, unless}
 use Rattle.rule.specs.Judge.{judgeList, judgeIn}
-use Rattle.rule.specs.Rule.{placed}
-use Rattle.judge.specs.Asked.{shapedBy, tiledBy, shapeBy}
+use Rattle.judge.specs.Asked.{shapedBy, tiledBy, firstBy}
 
-nothing-fine : (d k home p : ℕ) → Fine ≡ judgeIn (placed (shapeBy 2)) d k [] home p
+nothing-fine : (d k home p : ℕ) → Fine ≡ judgeIn (firstBy 2) d k [] home p
 unfolding judgeIn judgeList shapedBy tiledBy boxes after total isEq ifEq unless sooner
 nothing-fine zero k home p = refl
 nothing-fine (suc d) k home p = refl
 
 pub empty-fine : (n d k : ℕ) (xs : List ℕ) (b : BoxAt) (home p : ℕ) → n ≡ 2 → b .span ≡ b .head
-    → Fine ≡ judgeIn (placed (shapeBy n)) d k (payload xs b) home p
+    → Fine ≡ judgeIn (firstBy n) d k (payload xs b) home p
 empty-fine n d k xs b home p e f = let z : b .at + b .span - (b .at + b .head) ≡ 0 = omega arith in rw (e, z) (nothing-fine d k home p)

@@ -11,8 +11,8 @@ use Rattle.rule.specs.declared.Verdict.the-variants.{Fine, Bad}
 use Rattle.rule.specs.Judge.{Judge}
 use Rattle.rule.specs.Rule.{Rule, Says}
 use Rattle.rule.proofs.Places.{placed-says}
-use Rattle.rule.proofs.Acceptance.{fine-all, all-fine}
-use Rattle.rule_shape.specs.Two.{twoRule}
+use Rattle.rule.proofs.Acceptance.{each-says, fine-all, all-fine}
+use Rattle.rule_shape.specs.Two.{tiledRule, shutIn}
 use Rattle.rule_shape.specs.Three.{threeRule}
 use Rattle.rule_lists.specs.Five.{fiveRule}
 use Rattle.rule_lists.specs.Nine.{nineRule}
@@ -67,7 +67,7 @@ hold-all (more {j} {r} {js} s t) n xs (cons h g) = skip s n js xs h ∙ hold-all
 
 pub rules-say : (l : List Box) → Say (judges l) (rules l)
 rules-say l =
-    more (placed-says oneRule) (more (placed-says twoRule) (more (placed-says threeRule) (more four-says (more five-says (more (placed-says sixRule)
+    more (placed-says oneRule) (more (each-says shutIn tiledRule) (more (placed-says threeRule) (more four-says (more five-says (more (placed-says sixRule)
     (more (placed-says sevenRule) (more (eight-says l) (more nine-says (more ten-says none)))))))))
 
 all-meet : (xs : List ℕ) → Hold xs (rules (boxes xs)) → Meets xs

@@ -10,8 +10,8 @@ use Rattle.wire.specs.Tests.{ifEq}
 use Rattle.wire.proofs.Tests.{eq-yea, eq-nay, eq-ways}
 use Rattle.wire.proofs.Clauses.{is-le, not-le, le-is, clause, fails, holds, done}
 use Rattle.boxes.specs.Containers.{FILE, LONGEST, parent, kindIn}
-use Rattle.boxes.proofs.Reading.{heads}
-use Rattle.boxes.proofs.Every.{all-map}
+use Rattle.boxes.specs.Boxes.{boxes}
+use Rattle.boxes.proofs.Reading.{all-of}
 use Rattle.rule.specs.declared.Verdict.{Verdict}
 use Rattle.rule.specs.declared.Verdict.the-variants.{Fine, Bad}
 use Rattle.rule.specs.Verdict.{sooner, unless}
@@ -38,8 +38,8 @@ one-below zero k xs n z = refl
 one-below (suc d) k xs n z =
     closed oneRule d k xs (record {
       node = sym (eq-nay _ _ _ _ _ n refl);
-      leaves = all-map (λ x h y. refl) (heads xs);
-      inside = all-map (λ x h y. one-below d (kindIn k (x .code)) (x .body) (kind-below k (x .code) z) y) (heads xs);
+      leaves = all-of (λ x y. refl) (boxes xs);
+      inside = all-of (λ x y. one-below d (kindIn k (x .code)) (x .body) (kind-below k (x .code) z) y) (boxes xs);
       end = refl;
     })
 
@@ -49,8 +49,8 @@ unfolding oneIn
 one-holds xs g l =
     closed oneRule 5 FILE xs (record {
       node = sym (eq-yea _ _ _ _ _ refl (holds _ _ (is-le _ _ g) (holds _ _ (is-le _ _ l) done)));
-      leaves = all-map (λ x h y. refl) (heads xs);
-      inside = all-map (λ x h y. one-below 5 (kindIn FILE (x .code)) (x .body) (kind-below FILE (x .code) (λ z. omega arith)) y) (heads xs);
+      leaves = all-of (λ x y. refl) (boxes xs);
+      inside = all-of (λ x y. one-below 5 (kindIn FILE (x .code)) (x .body) (kind-below FILE (x .code) (λ z. omega arith)) y) (boxes xs);
       end = refl;
     })
 

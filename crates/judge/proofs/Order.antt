@@ -13,6 +13,7 @@ use Rattle.rule.specs.declared.Verdict.the-variants.{Fine, Bad}
 use Rattle.rule.specs.Verdict.{unless}
 use Rattle.rule.specs.Judge.{Judge}
 use Rattle.rule.proofs.Places.{placed-says}
+use Rattle.rule.proofs.Alike.{no-test}
 use Rattle.rule.proofs.Acceptance.{fine-all, all-fine}
 use Rattle.rule_shape.specs.Two.{two}
 use Rattle.rule_shape.specs.Three.{three, threeRule}
@@ -28,8 +29,8 @@ use Rattle.rule_entries.specs.Ten.{ten}
 use Rattle.judge.specs.One.{one, oneRule}
 use Rattle.judge.specs.declared.Judgement.{Judgement}
 use Rattle.judge.specs.declared.Judgement.the-variants.{Accepted, Refused}
-use Rattle.judge.specs.Judgement.{unlessBroken, judgedFrom, judged}
-use Rattle.judge.specs.Asked.{shapedBy, tiledBy, leafBy, nodeBy, judgeBy, verdictOf}
+use Rattle.judge.specs.Judgement.{verdictBy, unlessBroken, judgedFrom, judged}
+use Rattle.judge.specs.Asked.{shapedBy, tiledBy, formedBy, firstBy, leafBy, nodeBy, judgeBy, verdictOf}
 use Rattle.judge.proofs.One.{one-holds, one-short, one-long}
 
 -- k rules from number n on, as code asks them
@@ -39,11 +40,16 @@ asked (suc k) n l = judgeBy n l ∷ asked k (n + 1) l
 
 -- rules 2 to 10 so
 abbrev readJudges : List Box → List Judge
-readJudges l = two ∷ three ∷ four ∷ five ∷ six ∷ askedSeven ∷ askedEight l ∷ nine ∷ ten ∷ []
+readJudges l = two ∷ firstBy 3 ∷ four ∷ five ∷ six ∷ askedSeven ∷ askedEight l ∷ nine ∷ ten ∷ []
 
 by-number : (l : List Box) → readJudges l ≡ asked 9 2 l
-unfolding shapedBy tiledBy leafBy nodeBy judgeBy ifEq ifLt unless
+unfolding shapedBy tiledBy formedBy leafBy nodeBy judgeBy ifEq ifLt unless
 by-number l = refl
+
+-- rule 3 asks nothing of a form
+three-asked : (xs : List ℕ) → verdictBy three xs ≡ verdictBy (firstBy 3) xs
+unfolding shapedBy tiledBy formedBy ifEq unless
+three-asked xs = sym (no-test (λ k x. formedBy 3 k (x .form)) threeRule (λ k x. refl) DEPTH FILE xs 0 0)
 
 -- a rule is read where the rules before it hold
 read : (n : ℕ) (v : Verdict) (i j : Judgement) → (v ≡ Fine → i ≡ j) → unlessBroken n v i ≡ unlessBroken n v j
@@ -55,14 +61,14 @@ read n (Bad p) i j h = refl
 as-read : (xs : List ℕ) → judged xs ≡ judgedFrom 1 (one ∷ readJudges (boxes xs)) xs
 unfolding judged judgedFrom
 as-read xs =
-    read 1 _ _ _ (λ e. read 2 _ _ _ (λ e. read 3 _ _ _ (λ e3. read 4 _ _ _ (λ e. read 5 _ _ _ (λ e. read 6 _ _ _ (λ e6.
+    read 1 _ _ _ (λ e. read 2 _ _ _ (λ e. rw (three-asked xs) (read 3 _ _ _ (λ e3. read 4 _ _ _ (λ e. read 5 _ _ _ (λ e. read 6 _ _ _ (λ e6.
     let m : Met sixRule DEPTH FILE xs =
     record {
-      three = fine-all three threeRule (placed-says threeRule) DEPTH FILE xs 0 0 e3;
+      three = fine-all three threeRule (placed-says threeRule) DEPTH FILE xs 0 0 (three-asked xs ∙ e3);
       rule = fine-all six sixRule (placed-says sixRule) DEPTH FILE xs 0 0 e6;
     } in
     rw (seven-asked DEPTH FILE xs 0 0 m) (read 7 _ _ _ (λ e7.
-    rw (eight-asked (boxes xs) DEPTH FILE xs 0 0 (record { six = m; seven = fine-all seven sevenRule (placed-says sevenRule) DEPTH FILE xs 0 0 e7 }))))))))))
+    rw (eight-asked (boxes xs) DEPTH FILE xs 0 0 (record { six = m; seven = fine-all seven sevenRule (placed-says sevenRule) DEPTH FILE xs 0 0 e7 })))))))))))
 
 as-asked : (xs : List ℕ) → judged xs ≡ judgedFrom 1 (one ∷ asked 9 2 (boxes xs)) xs
 as-asked xs = as-read xs ∙ ap (λ (js : List Judge). judgedFrom 1 (one ∷ js) xs) (by-number (boxes xs))

@@ -11,8 +11,8 @@ use Rattle.boxes.specs.Containers.{FILE, DEPTH, LONGEST}
 use Rattle.rule.specs.declared.Verdict.{Verdict}
 use Rattle.rule.specs.declared.Verdict.the-variants.{Fine, Bad}
 use Rattle.rule.specs.Judge.{Judge}
-use Rattle.rule.proofs.Bounds.{named, Bounded, placed-bounded, judge-most}
-use Rattle.rule_shape.specs.Two.{twoRule}
+use Rattle.rule.proofs.Bounds.{each-bounded, named, Bounded, placed-bounded, judge-most}
+use Rattle.rule_shape.specs.Two.{tiledRule, shutIn}
 use Rattle.rule_shape.specs.Three.{threeRule}
 use Rattle.rule_headers.proofs.Bounded.{four-bounded}
 use Rattle.rule_tracks.specs.Six.{sixRule}
@@ -33,7 +33,7 @@ data AllBounded : List Judge → Type 0 where
 
 all-bounded : (l : List Box) → AllBounded (judges l)
 all-bounded l =
-    more (placed-bounded oneRule) (more (placed-bounded twoRule) (more (placed-bounded threeRule) (more four-bounded (more five-bounded
+    more (placed-bounded oneRule) (more (each-bounded shutIn tiledRule) (more (placed-bounded threeRule) (more four-bounded (more five-bounded
     (more (placed-bounded sixRule) (more (placed-bounded sevenRule) (more (eight-bounded l) (more nine-bounded (more ten-bounded none)))))))))
 
 first-most : (m n : ℕ) (v : Verdict) (j : Judgement) → named v ≤ m → judgedPlace j ≤ m → judgedPlace (unlessBroken n v j) ≤ m

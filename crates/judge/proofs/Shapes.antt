@@ -1,5 +1,5 @@
 -- The traversal of the rules that look at containers alone. Assumes nothing.
-use Prim.Native.Nat.{ℕ, _+_, _-_, _≤_, _<_}
+use Prim.Native.Nat.{ℕ, zero, suc, _+_, _-_, _≤_, _<_}
 use native.Mathlib.Omega.{arith}
 use mathlib.Core.Path.{_≡_, refl, sym, ap, _∙_}
 use mathlib.Core.Bool.{Bool, true, false}
@@ -19,30 +19,59 @@ use Rattle.rule.specs.declared.Verdict.{Verdict}
 use Rattle.rule.specs.declared.Verdict.the-variants.{Fine, Bad}
 use Rattle.rule.specs.Verdict.{sooner, unless}
 use Rattle.rule.specs.Judge.{Judge, judgeBox, judgeIn}
-use Rattle.rule.specs.Rule.{Rule, placed}
+use Rattle.rule.specs.Rule.{Rule, placed, placedBy}
 use Rattle.rule.proofs.Places.{sooner-right}
-use Rattle.rule.proofs.Bounds.{named, unless-most, placed-bounded, judge-most}
-use Rattle.rule.proofs.Traverse.{Found, found-more, found-over}
-use Rattle.rule.proofs.Firsts.{first-box}
-use Rattle.judge.specs.Asked.{tiledBy, shapeBy, ruleBy, judgeBy, verdictOf}
+use Rattle.rule.proofs.Bounds.{named, sooner-most, unless-most, each-bounded, judge-most}
+use Rattle.rule.proofs.Traverse.{Found, found-none, found-more, found-over}
+use Rattle.rule.proofs.Firsts.{sooner-settled, boxFirst, first-start, judge-from, first-node, first-box}
+use Rattle.judge.specs.Asked.{shapedBy, tiledBy, shapeBy, formedBy, firstBy, boxBy, ruleBy, judgeBy, verdictOf}
 
 -- ---- a box that is broken, where none before it is
 
-module _ (r : Rule) (d k : ℕ) where
+module _ (t : ℕ → Box → Bool) (r : Rule) (d k : ℕ) where
   abbrev f : Box → ℕ → Verdict
-  f = judgeBox (placed r) (judgeIn (placed r) d) k
+  f = boxFirst t r d k
 
   box-most : (x : Box) (q : ℕ) → named (f x q) ≤ q + size x
   unfolding judgeBox
   box-most x q =
-      eq-any (λ v. named v ≤ q + size x) (kindIn k (x .code)) 0 _ _ (unless-most _ (r .leaf k (x .code) (x .body)) q (omega arith))
-      (omega (arith, judge-most (placed r) (placed-bounded r) d (kindIn k (x .code)) (x .body) q (q + head x) (omega arith)))
+      sooner-most _ _ _ (unless-most _ (t k x) q (omega arith))
+      (eq-any (λ v. named v ≤ q + size x) (kindIn k (x .code)) 0 _ _ (unless-most _ (r .leaf k (x .code) (x .body)) q (omega arith))
+      (omega (arith, judge-most (placedBy t r) (each-bounded t r) d (kindIn k (x .code)) (x .body) q (q + head x) (omega arith))))
 
-  pub first-broken : {xs : List ℕ} {base p at : ℕ} {whole v : Verdict} {b : BoxAt} {w : Walk} → Found f (placed r .end (after xs)) xs base whole Fine at → Ran xs at b w
+  broken : {xs : List ℕ} {base p at : ℕ} {whole v : Verdict} {b : BoxAt} {w : Walk} → Found f (placed r .end (after xs)) xs base whole Fine at → Ran xs at b w
       → v ≡ f (boxAt xs b) (base + b .at) → v ≡ Bad p → Bad p ≡ whole
-  first-broken {xs} {base} {p} {b = b} i s q e =
-      first-box r d k (found-more f _ xs base i s (sym e ∙ q) (sooner-right Fine (Bad p) refl))
+  broken {xs} {base} {p} {b = b} i s q e =
+      first-box t r d k (found-more f _ xs base i s (sym e ∙ q) (sooner-right Fine (Bad p) refl))
       (omega (arith, ap named (sym e ∙ q), box-most (boxAt xs b) (base + b .at), ran-next s base, s .start))
+
+pub first-broken : (n d k : ℕ) {xs : List ℕ} {base p at : ℕ} {whole v : Verdict} {b : BoxAt} {w : Walk} → Found (boxBy n d k) (firstBy n .end (after xs)) xs base whole Fine at → Ran xs at b w
+    → v ≡ boxBy n d k (boxAt xs b) (base + b .at) → v ≡ Bad p → Bad p ≡ whole
+first-broken n d k = broken (λ i y. formedBy n i (y .form)) (shapeBy n) d k
+
+-- ---- one box: its form, and what it is
+
+module _ (n d k : ℕ) (x : Box) (p : ℕ) where
+  pub box-unformed : formedBy n k (x .form) ≡ false → Bad p ≡ boxBy n d k x p
+  unfolding unless
+  box-unformed e = rw e (sooner-settled p p _ (omega arith) (judge-from (λ i y. formedBy n i (y .form)) (shapeBy n) d k x p))
+
+  pub box-formed : {v : Verdict} → formedBy n k (x .form) ≡ true → v ≡ judgeBox (firstBy n) (judgeIn (firstBy n) d) k x p → v ≡ boxBy n d k x p
+  unfolding unless sooner
+  box-formed e q = rw e q
+
+-- ---- the container
+
+pub first-unshaped : (n d k : ℕ) (xs : List ℕ) (home p : ℕ) → (d ≡ 0 → ⊥) → home ≤ p → shapedBy n k xs ≡ false → Bad home ≡ judgeIn (firstBy n) d k xs home p
+first-unshaped n = first-node (λ i y. formedBy n i (y .form)) (shapeBy n)
+
+pub first-begins : (n d k : ℕ) (xs : List ℕ) (home p : ℕ) → (d ≡ 0 → ⊥) → shapedBy n k xs ≡ true
+    → Found (boxBy n (d - 1) k) (firstBy n .end (after xs)) xs p (judgeIn (firstBy n) d k xs home p) Fine 0
+unfolding unless
+first-begins n zero k xs home p z e = absurd (z refl)
+first-begins n (suc d) k xs home p z e =
+    let q : suc d - 1 ≡ d = omega arith in
+    rw (q, first-start (λ i y. formedBy n i (y .form)) (shapeBy n) d k xs home p, e) (found-none (boxBy n d k) (firstBy n .end (after xs)) xs p Fine)
 
 -- ---- the end
 
@@ -66,10 +95,10 @@ at-rest : (t : Bool) (p : ℕ) → t ≡ false → sooner Fine (unless t p) ≡ 
 unfolding sooner unless
 at-rest t p e = rw e
 
-module _ (n : ℕ) (f : Box → ℕ → Verdict) {xs : List ℕ} {base : ℕ} {whole : Verdict} {at : ℕ} (i : Found f (placed (shapeBy n) .end (after xs)) xs base whole Fine at)
+module _ (n : ℕ) (f : Box → ℕ → Verdict) {xs : List ℕ} {base : ℕ} {whole : Verdict} {at : ℕ} (i : Found f (firstBy n .end (after xs)) xs base whole Fine at)
     (r : after xs ≡ after (drop at xs)) (o : Over xs at) where
   over : sooner Fine (unless (tiledBy n (after xs)) (base + at)) ≡ whole
-  over = found-over f (placed (shapeBy n) .end (after xs)) xs base i o
+  over = found-over f (firstBy n .end (after xs)) xs base i o
 
   -- nothing is left: the boxes tile the part
   pub end-tiled : length xs ≤ at → Fine ≡ whole
@@ -87,10 +116,10 @@ module _ (n : ℕ) (f : Box → ℕ → Verdict) {xs : List ℕ} {base : ℕ} {w
 -- ---- which traversal a number goes to
 
 module _ (n : ℕ) (xs : List ℕ) {v : Verdict} where
-  pub by-shape : n < 4 → v ≡ judgeIn (placed (shapeBy n)) DEPTH FILE xs 0 0 → v ≡ verdictOf n xs
+  pub by-shape : n < 4 → v ≡ judgeIn (firstBy n) DEPTH FILE xs 0 0 → v ≡ verdictOf n xs
   unfolding verdictOf judgeBy
-  by-shape h e = e ∙ ap (λ (j : Judge). judgeIn j DEPTH FILE xs 0 0) (lt-yea n 4 (placed (shapeBy n)) (ruleBy n (boxes xs)) _ h refl)
+  by-shape h e = e ∙ ap (λ (j : Judge). judgeIn j DEPTH FILE xs 0 0) (lt-yea n 4 (firstBy n) (ruleBy n (boxes xs)) _ h refl)
 
   pub by-boxes : 4 ≤ n → v ≡ judgeIn (ruleBy n (boxes xs)) DEPTH FILE xs 0 0 → v ≡ verdictOf n xs
   unfolding verdictOf judgeBy
-  by-boxes h e = e ∙ ap (λ (j : Judge). judgeIn j DEPTH FILE xs 0 0) (lt-nay n 4 (placed (shapeBy n)) (ruleBy n (boxes xs)) _ h refl)
+  by-boxes h e = e ∙ ap (λ (j : Judge). judgeIn j DEPTH FILE xs 0 0) (lt-nay n 4 (firstBy n) (ruleBy n (boxes xs)) _ h refl)

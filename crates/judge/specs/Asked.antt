@@ -3,13 +3,15 @@ use Prim.Native.Nat.{ℕ}
 use mathlib.Core.Bool.{Bool, true}
 use mathlib.Core.List.{List}
 use Rattle.wire.specs.Tests.{ifEq, ifLt}
+use Rattle.boxes.specs.declared.walk.Form.{Form}
 use Rattle.boxes.specs.Box.{Box}
 use Rattle.boxes.specs.Boxes.{boxes}
 use Rattle.rule.specs.declared.Verdict.{Verdict}
 use Rattle.rule.specs.declared.Verdict.the-variants.{Fine, Bad}
-use Rattle.rule.specs.Judge.{Judge}
-use Rattle.rule.specs.Rule.{Rule, placed}
-use Rattle.rule_shape.specs.Two.{twoRule}
+use Rattle.rule.specs.Verdict.{sooner, unless}
+use Rattle.rule.specs.Judge.{Judge, judgeBox, judgeIn}
+use Rattle.rule.specs.Rule.{Rule, placedBy}
+use Rattle.rule_shape.specs.Two.{tiledRule, mayHave}
 use Rattle.rule_shape.specs.Three.{threeRule}
 use Rattle.rule_shape.specs.TwentyThree.{editableRule}
 use Rattle.rule_lists.specs.Five.{five}
@@ -26,10 +28,21 @@ unfoldable pub shapedBy : ℕ → ℕ → List ℕ → Bool
 shapedBy n k xs = ifEq n 3 (threeRule .node k xs) (ifEq n 23 (editableRule .node k xs) true)
 
 unfoldable pub tiledBy : ℕ → List ℕ → Bool
-tiledBy n xs = ifEq n 2 (twoRule .end xs) true
+tiledBy n xs = ifEq n 2 (tiledRule .end xs) true
 
 abbrev pub shapeBy : ℕ → Rule
 shapeBy n = record { leaf = λ k c b. true; node = shapedBy n; end = tiledBy n }
+
+-- and the form of a box in a container of kind k, of which rule 2 alone asks
+unfoldable pub formedBy : ℕ → ℕ → Form → Bool
+formedBy n k f = ifEq n 2 (mayHave k f) true
+
+abbrev pub firstBy : ℕ → Judge
+firstBy n = placedBy (λ k x. formedBy n k (x .form)) (shapeBy n)
+
+-- of a box, its form first
+abbrev pub boxBy : ℕ → ℕ → ℕ → Box → ℕ → Verdict
+boxBy n d k x p = sooner (unless (formedBy n k (x .form)) p) (judgeBox (firstBy n) (judgeIn (firstBy n) d) k x p)
 
 -- ---- rules 4 to 10
 
@@ -56,7 +69,7 @@ ruleBy n l = record { leaf = leafBy n; node = nodeBy n l; end = λ xs p. Fine }
 -- ---- each by its number
 
 unfoldable pub judgeBy : ℕ → List Box → Judge
-judgeBy n l = ifLt n 4 (placed (shapeBy n)) (ruleBy n l)
+judgeBy n l = ifLt n 4 (firstBy n) (ruleBy n l)
 
 -- what rule n says of a file
 unfoldable pub verdictOf : ℕ → List ℕ → Verdict

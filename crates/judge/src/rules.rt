@@ -8,6 +8,7 @@ use rule::Verdict;
 ghost use mathlib.Core.Path.{_≡_};
 ghost use Prim.Native.Nat.{_+_, _-_, _^_, _≤_, _<_};
 ghost use lib.ListN.{length};
+ghost use Rattle.boxes.specs.Box.{headOf};
 ghost use Rattle.boxes.specs.Boxes.{boxes};
 ghost use Rattle.boxes.specs.Walk.{boxAt};
 ghost use Rattle.rule.specs.Judge.{judgeBox, judgeIn};
@@ -76,7 +77,7 @@ fn judge_box(
     k: usize,
     depth: usize,
 ) -> Verdict
-    requires { ⌜ (b .head ≤ b .span) × (b .at + b .span ≤ length (now part)) × (base + length (now part) < 2 ^ 60) × (0 < depth) ⌝ }
+    requires { ⌜ (b .head ≡ headOf (b .form)) × (b .head ≤ b .span) × (b .at + b .span ≤ length (now part)) × (base + length (now part) < 2 ^ 60) × (0 < depth) ⌝ }
     ensures { λ r. ⌜ r ≡ judgeBox (ruleBy n (boxes (now (file .entry)))) (judgeIn (ruleBy n (boxes (now (file .entry)))) (depth - 1)) k (boxAt (now (part .entry)) b) (base + b .at) ⌝ }
 {
     let place = base + b.at;

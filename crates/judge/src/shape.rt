@@ -2,6 +2,7 @@
 use boxes::containers;
 use boxes::walk;
 use boxes::walk::BoxAt;
+use boxes::walk::Form;
 use boxes::walk::Step;
 use boxes::walk::Walk;
 use rule::Verdict;
@@ -9,10 +10,10 @@ ghost use mathlib.Core.Path.{_≡_};
 ghost use Prim.Native.Nat.{_+_, _-_, _^_, _≤_, _<_};
 ghost use lib.ListN.{length};
 ghost use Rattle.wire.specs.Clauses.{oneIf};
+ghost use Rattle.boxes.specs.Box.{headOf};
 ghost use Rattle.boxes.specs.Walk.{boxAt};
-ghost use Rattle.rule.specs.Judge.{judgeBox, judgeIn};
-ghost use Rattle.rule.specs.Rule.{placed};
-ghost use Rattle.judge.specs.Asked.{shapedBy, shapeBy};
+ghost use Rattle.rule.specs.Judge.{judgeIn};
+ghost use Rattle.judge.specs.Asked.{shapedBy, shapeBy, formedBy, firstBy, boxBy};
 
 // Whether a container of kind k has the boxes that rule n wants: 1 or 0.
 fn shaped(n: usize, k: usize, part: &[u8]) -> usize
@@ -40,12 +41,32 @@ fn idle(n: usize, b: BoxAt) -> usize
     1
 }
 
-// A box of a container of kind k: an opaque one is not asked.
+// Whether a box may have its form in a container of kind k, of which rule 2 alone asks: 1 or 0.
+fn formed(n: usize, k: usize, form: Form) -> usize
+    ensures { λ r. ⌜ r ≡ oneIf (formedBy n k form) ⌝ }
+{
+    if n != 2 {
+        return 1;
+    }
+    if k == containers::FILE {
+        return 1;
+    }
+    if walk::is_open(form) != 0 {
+        return 0;
+    }
+    1
+}
+
+// A box of a container of kind k: an opaque one is asked for its form alone.
 fn first_box(n: usize, part: &[u8], b: BoxAt, base: usize, k: usize, depth: usize) -> Verdict
-    requires { ⌜ (b .head ≤ b .span) × (b .at + b .span ≤ length (now part)) × (base + length (now part) < 2 ^ 60) × (0 < depth) ⌝ }
-    ensures { λ r. ⌜ r ≡ judgeBox (placed (shapeBy n)) (judgeIn (placed (shapeBy n)) (depth - 1)) k (boxAt (now (part .entry)) b) (base + b .at) ⌝ }
+    requires { ⌜ (b .head ≡ headOf (b .form)) × (b .head ≤ b .span) × (b .at + b .span ≤ length (now part)) × (base + length (now part) < 2 ^ 60) × (0 < depth) ⌝ }
+    ensures { λ r. ⌜ r ≡ boxBy n (depth - 1) k (boxAt (now (part .entry)) b) (base + b .at) ⌝ }
 {
     let place = base + b.at;
+    let form = b.form;
+    if formed(n, k, form) == 0 {
+        return Verdict::Bad(place);
+    }
     let start = place + b.head;
     let kind = containers::kind_in(k, b.code);
     if kind == 0 {
@@ -60,7 +81,7 @@ fn first_box(n: usize, part: &[u8], b: BoxAt, base: usize, k: usize, depth: usiz
 // All that a container of kind k holds, as deep as depth containers.
 pub fn first_in(n: usize, part: &[u8], home: usize, base: usize, k: usize, depth: usize) -> Verdict
     requires { ⌜ (home ≤ base) × (base + length (now part) < 2 ^ 60) ⌝ }
-    ensures { λ r. ⌜ r ≡ judgeIn (placed (shapeBy n)) depth k (now (part .entry)) home base ⌝ }
+    ensures { λ r. ⌜ r ≡ judgeIn (firstBy n) depth k (now (part .entry)) home base ⌝ }
 {
     if depth == 0 {
         return Verdict::Fine;

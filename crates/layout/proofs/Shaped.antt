@@ -14,7 +14,7 @@ use Rattle.boxes.specs.Boxes.{boxes, tiles}
 use Rattle.boxes.specs.Containers.{FILE}
 use Rattle.boxes.specs.Seek.{count}
 use Rattle.rule.specs.Rule.{allList}
-use Rattle.rule_shape.specs.Two.{shutIn}
+use Rattle.rule_shape.specs.Two.{mayHave, shutIn}
 use Rattle.rule_shape.specs.Three.{needed, exactly, first, besides, shape}
 use Rattle.layout.specs.declared.gather.Slot.{Slot}
 use Rattle.layout.specs.declared.gather.Want.{Want}
@@ -56,7 +56,7 @@ module _ (l : List Box) where
 -- ---- no box is open
 
 shut-box : (i : ℕ) (x : Box) → oneIf (isOpen (x .form)) ≡ 0 → shutIn i x ≡ true
-unfolding shutIn
+unfolding mayHave
 shut-box i x z = rw (was-nay (isOpen (x .form)) 0 refl (sym z)) (eq-any (λ t. t ≡ true) i FILE true true refl refl)
 
 pub none-open : (i : ℕ) (l : List Box) → opens l ≡ 0 → allList (shutIn i) true l ≡ true
@@ -66,7 +66,7 @@ none-open i (x ∷ l) e = rw (shut-box i x (omega arith)) (none-open i l (omega 
 
 -- in the file's own list one may be
 pub file-shut : (l : List Box) → allList (shutIn FILE) true l ≡ true
-unfolding shutIn allList ifEq
+unfolding mayHave allList ifEq
 file-shut [] = refl
 file-shut (x ∷ l) = file-shut l
 

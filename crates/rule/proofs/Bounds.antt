@@ -15,7 +15,7 @@ use Rattle.rule.specs.declared.Verdict.{Verdict}
 use Rattle.rule.specs.declared.Verdict.the-variants.{Fine, Bad}
 use Rattle.rule.specs.Verdict.{sooner, unless}
 use Rattle.rule.specs.Judge.{Judge, judgeList, judgeBox, judgeIn}
-use Rattle.rule.specs.Rule.{Rule, placed}
+use Rattle.rule.specs.Rule.{Rule, placed, placedBy}
 
 -- the place that a verdict names, and 0 where nothing is broken
 abbrev pub named : Verdict → ℕ
@@ -61,6 +61,17 @@ placed-bounded r =
       leaf = λ k c b p q h. unless-most _ (r .leaf k c b) p (omega arith);
       node = λ k xs home p h. unless-most _ (r .node k xs) home (omega arith);
       end = λ xs p. unless-most _ (r .end xs) p (omega arith);
+    }
+
+pub each-bounded : (t : ℕ → Box → Bool) (r : Rule) → Bounded (placedBy t r)
+each-bounded t r =
+    record {
+      leaf = placed-bounded r .leaf;
+      node = λ k xs home p h.
+          let n = total-is xs in
+          sooner-most _ _ _ (placed-bounded r .node k xs home p h)
+          (list-most _ (λ x q. unless (t k x) q) (λ q. Fine) (λ x q. unless-most _ (t k x) q (omega arith)) (boxes xs) p (omega arith) (λ q e. omega arith));
+      end = placed-bounded r .end;
     }
 
 -- ---- all that a container holds

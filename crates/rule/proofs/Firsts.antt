@@ -43,7 +43,7 @@ from-sooner m (Bad p) Fine a b = a
 from-sooner m (Bad p) (Bad q) a b = from-bad m _ (omega (arith, a .least p refl, b .least q refl))
 
 -- what is no sooner changes nothing
-sooner-settled : (m p : ℕ) (v : Verdict) → p ≤ m → From m v → Bad p ≡ sooner (Bad p) v
+pub sooner-settled : (m p : ℕ) (v : Verdict) → p ≤ m → From m v → Bad p ≡ sooner (Bad p) v
 unfolding sooner
 sooner-settled m p Fine h a = refl
 sooner-settled m p (Bad q) h a = ap Bad (omega (arith, a .least q refl))
@@ -80,12 +80,15 @@ module _ (t : ℕ → Box → Bool) (r : Rule) where
   unfolding judgeIn
   first-start d k xs home p = sooner-then _ _ _ ∙ ap (sooner (unless (r .node k xs) home)) (list-both _ _ _ (boxes xs) p)
 
-  box-from : (d k : ℕ) → ((i : ℕ) (ys : List ℕ) (h q : ℕ) → h ≤ q → From h (judgeIn by d i ys h q)) → (x : Box) (p : ℕ) → From p (boxFirst d k x p)
+  -- a box as an opaque one or a container
+  node-from : (d k : ℕ) → ((i : ℕ) (ys : List ℕ) (h q : ℕ) → h ≤ q → From h (judgeIn by d i ys h q)) → (x : Box) (p : ℕ) → From p (judgeBox by (judgeIn by d) k x p)
   unfolding judgeBox
-  box-from d k ih x p =
-      from-sooner p _ _ (from-unless p (t k x) p (omega arith))
-      (eq-any (From p) (kindIn k (x .code)) 0 _ _ (from-unless p (r .leaf k (x .code) (x .body)) p (omega arith))
-      (ih (kindIn k (x .code)) (x .body) p (p + head x) (omega arith)))
+  node-from d k ih x p =
+      eq-any (From p) (kindIn k (x .code)) 0 _ _ (from-unless p (r .leaf k (x .code) (x .body)) p (omega arith))
+      (ih (kindIn k (x .code)) (x .body) p (p + head x) (omega arith))
+
+  box-from : (d k : ℕ) → ((i : ℕ) (ys : List ℕ) (h q : ℕ) → h ≤ q → From h (judgeIn by d i ys h q)) → (x : Box) (p : ℕ) → From p (boxFirst d k x p)
+  box-from d k ih x p = from-sooner p _ _ (from-unless p (t k x) p (omega arith)) (node-from d k ih x p)
 
   from-in : (d k : ℕ) (xs : List ℕ) (home p : ℕ) → home ≤ p → From home (judgeIn by d k xs home p)
   unfolding judgeIn
@@ -94,6 +97,9 @@ module _ (t : ℕ → Box → Bool) (r : Rule) where
       rw (first-start d k xs home p)
       (from-sooner home _ _ (from-unless home (r .node k xs) home (omega arith))
       (from-list home _ _ (box-from d k (λ i ys g q z. from-in d i ys g q z)) (λ q. from-unless q (r .end (after xs)) q (omega arith)) (boxes xs) p h))
+
+  pub judge-from : (d k : ℕ) (x : Box) (p : ℕ) → From p (judgeBox by (judgeIn by d) k x p)
+  judge-from d k x p = node-from d k (from-in d) x p
 
   -- what is left from a place on
   left-from : (d k : ℕ) (xs : List ℕ) (l : List Box) (p : ℕ) → From p (judgeList (boxFirst d k) (placed r .end (after xs)) l p)

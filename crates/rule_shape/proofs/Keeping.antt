@@ -18,7 +18,7 @@ use Rattle.rule.specs.Rule.{allList, allIn}
 use Rattle.rule.proofs.Keeping.{keep}
 use Rattle.rule_shape.specs.Three.{needed, exactly, first, besides, shape, threeRule}
 use Rattle.rule_shape.specs.TwentyThree.{barred, editableRule}
-use Rattle.rule_shape.specs.Two.{shutIn, twoRule}
+use Rattle.rule_shape.specs.Two.{mayHave, shutIn, twoRule}
 
 -- ---- lists of boxes with the same codes
 
@@ -42,11 +42,10 @@ same-shape l m e h k = rw (same-exactly l m h 1 (needed k), same-first l m e, h 
 -- ---- forms: none opens
 
 shut-file : (x : Box) → shutIn FILE x ≡ true
-unfolding shutIn
+unfolding mayHave
 shut-file x = sym (eq-yea _ _ _ _ _ refl refl)
 
 shut-kin : (k : ℕ) (x y : Box) → Formed k (x .code) (x .form) (y .form) → shutIn k x ≡ true → shutIn k y ≡ true
-unfolding shutIn
 shut-kin k x y (inl e) t = rw e at t
 shut-kin k x y (inr (z, c, o, p)) t = rw z (shut-file y)
 

@@ -3,6 +3,7 @@
 use Prim.Native.Nat.{ℕ}
 use mathlib.Core.Bool.{Bool, true, false}
 use Rattle.wire.specs.Tests.{pick, ifEq}
+use Rattle.boxes.specs.declared.walk.Form.{Form}
 use Rattle.boxes.specs.Box.{Box, isOpen}
 use Rattle.boxes.specs.Boxes.{nothing}
 use Rattle.boxes.specs.Containers.{FILE}
@@ -12,9 +13,12 @@ use Rattle.rule.specs.Rule.{Rule, placedBy, withEach}
 abbrev pub tiledRule : Rule
 tiledRule = record { leaf = λ k c b. true; node = λ k xs. true; end = nothing }
 
--- a box may have its form in a container of kind k
-unfoldable pub shutIn : ℕ → Box → Bool
-shutIn k x = ifEq k FILE true (pick (isOpen (x .form)) false true)
+-- a box may have a form in a container of kind k
+unfoldable pub mayHave : ℕ → Form → Bool
+mayHave k f = ifEq k FILE true (pick (isOpen f) false true)
+
+abbrev pub shutIn : ℕ → Box → Bool
+shutIn k x = mayHave k (x .form)
 
 abbrev pub twoRule : Rule
 twoRule = withEach shutIn tiledRule

@@ -3,16 +3,15 @@ use borrow.Author.Needs.{needs}
 use Prim.Native.Nat.{ℕ, _+_, _-_, _*_, _<_}
 use Rattle.boxes.proofs.Walking.{ran, ended, broke}
 use Rattle.boxes.specs.Boxes.{after}
-use Rattle.judge.proofs.Answers.{box-leaf, box-node, judge-shallow, judge-start}
+use Rattle.boxes.specs.Walk.{boxAt}
+use Rattle.judge.proofs.Answers.{box-leaf, box-node, judge-shallow}
 use Rattle.judge.proofs.Empty.{empty-fine}
-use Rattle.judge.proofs.Shapes.{first-broken, end-tiled, end-other, end-torn}
-use Rattle.judge.specs.Asked.{shapeBy}
-use Rattle.rule.proofs.Firsts.{first-node}
+use Rattle.judge.proofs.Shapes.{first-broken, box-unformed, box-formed, first-unshaped, first-begins, end-tiled, end-other, end-torn}
+use Rattle.judge.specs.Asked.{firstBy, boxBy}
 use Rattle.rule.proofs.Places.{sooner-none, unless-yea}
 use Rattle.rule.proofs.Traverse.{Found, found-more}
 use Rattle.rule.specs.declared.Verdict.the-variants.{Fine}
-use Rattle.rule.specs.Judge.{judgeBox, judgeIn}
-use Rattle.rule.specs.Rule.{placed}
+use Rattle.rule.specs.Judge.{judgeIn}
 use Rattle.wire.proofs.Clauses.{was-yea, was-nay}
 use lib.ListN.{length, drop, length-take, length-drop}
 use mathlib.Core.Path.{_≡_, refl, sym, _∙_}
@@ -28,6 +27,7 @@ use Rattle.judge.proofs.shape.+first_box+first_in.Lts-first_in as first
 use Rattle.boxes.proofs.containers.kind_in.Reads as kind-in-reads
 use Rattle.boxes.proofs.walk.Walk.step.Reads as step-reads
 use Rattle.boxes.proofs.walk.body.Reads as body-reads
+use Rattle.judge.proofs.shape.formed.Reads as formed-reads
 use Rattle.judge.proofs.shape.idle.Reads as idle-reads
 use Rattle.judge.proofs.shape.shaped.Reads as shaped-reads
 use Rattle.judge.proofs.shape.+first_box+first_in.{statement}
@@ -55,8 +55,7 @@ first-in-below t =
 
 abbrev first-in-Inv-loop : first-in-lts.InvT-loop
 first-in-Inv-loop n part home base k depth w₀ w =
-    Found (judgeBox (placed (shapeBy n)) (judgeIn (placed (shapeBy n)) (depth - 1)) k) (placed (shapeBy n) .end (after part)) part base
-    (judgeIn (placed (shapeBy n)) depth k part home base) Fine (w .at)
+    Found (boxBy n (depth - 1) k) (firstBy n .end (after part)) part base (judgeIn (firstBy n) depth k part home base) Fine (w .at)
     × (after part ≡ after (drop (w .at) part))
 
 abbrev first-in-μ-loop : first-in-lts.MeasureT-loop
@@ -64,28 +63,38 @@ first-in-μ-loop n part home base k depth w₀ w = length part - w .at
 
 pub +first-box+first-in-spec : {M : Type 1} → statement M
 +first-box+first-in-spec = close μ-first-box μ-first-in
-    (λ t. first-box-lts.spec (kind-in-reads.Asked, kind-in-reads.Learnt, idle-reads.Asked, idle-reads.Learnt, body-reads.Asked, body-reads.Learnt, first-in-below t, first-in.Post) (first-box-at t) first-box.Post
-    (λ c. search needs)
+    (λ t. first-box-lts.spec (formed-reads.Asked, formed-reads.Learnt, kind-in-reads.Asked, kind-in-reads.Learnt, idle-reads.Asked, idle-reads.Learnt, body-reads.Asked, body-reads.Learnt, first-in-below t, first-in.Post) (first-box-at t) first-box.Post
     (λ c. search needs)
     (λ c κs. search needs)
-    (λ c. let a = c .before .before .before .before .before .args in
-    box-leaf (placed (shapeBy (a .n))) _ _ _ _ (c .before .kind-in .ensures) (c .if1 .taken) (unless-yea _ _ refl))
+    (λ c. let a = c .before .before .before .before .args in
+    box-unformed (a .n) _ (a .k) (boxAt (a .part .now) (a .b)) _ (was-nay _ _ (c .if1 .taken) (c .before .formed .ensures)))
+    (λ c. search needs)
     (λ c κs. search needs)
-    (λ c. let a = c .before .before .before .before .before .before .before .args in let i = c .before .idle .ensures (c .if2 .taken) in
-    box-node (placed (shapeBy (a .n))) _ _ _ _ (c .before .before .before .kind-in .ensures) (c .before .before .if1 .left) (empty-fine _ _ _ _ (a .b) _ _ (i .0) (i .1)))
+    (λ c. let s = c .before .before .before .before .before .before .before in
+    let a = s .args in
+    let f = was-yea _ _ (c .before .before .before .if1 .left) (c .before .before .before .before .formed .ensures) in
+    box-formed (a .n) _ (a .k) (boxAt (a .part .now) (a .b)) _ f (box-leaf (firstBy (a .n)) _ _ (boxAt (a .part .now) (a .b)) _ (s .pre .1 .0) (c .before .kind-in .ensures) (c .if2 .taken) (unless-yea _ _ refl)))
+    (λ c κs. search needs)
+    (λ c. let s = c .before .before .before .before .before .before .before .before .before in
+    let a = s .args in
+    let f = was-yea _ _ (c .before .before .before .before .before .if1 .left) (c .before .before .before .before .before .before .formed .ensures) in
+    let i = c .before .idle .ensures (c .if3 .taken) in
+    box-formed (a .n) _ (a .k) (boxAt (a .part .now) (a .b)) _ f (box-node (firstBy (a .n)) _ _ (boxAt (a .part .now) (a .b)) _ (s .pre .1 .0) (c .before .before .before .kind-in .ensures) (c .before .before .if2 .left) (empty-fine _ _ _ _ (a .b) _ _ (i .0) (i .1))))
     (λ c κs. search needs)
     (λ c. search needs)
     (λ c κs. (omega arith, (omega arith, rw (c .body .ensures, length-take, length-drop) (omega arith))))
-    (λ c. let a = c .before .before .before .before .before .before .before .before .before .args in
-    box-node (placed (shapeBy (a .n))) _ _ _ _ (c .before .before .before .before .before .kind-in .ensures) (c .before .before .before .before .if1 .left) (rw (c .before .body .ensures) at (c .first-in .ensures))))
+    (λ c. let s = c .before .before .before .before .before .before .before .before .before .before .before in
+    let a = s .args in
+    let f = was-yea _ _ (c .before .before .before .before .before .before .before .if1 .left) (c .before .before .before .before .before .before .before .before .formed .ensures) in
+    box-formed (a .n) _ (a .k) (boxAt (a .part .now) (a .b)) _ f (box-node (firstBy (a .n)) _ _ (boxAt (a .part .now) (a .b)) _ (s .pre .1 .0) (c .before .before .before .before .before .kind-in .ensures) (c .before .before .before .before .if2 .left) (rw (c .before .body .ensures) at (c .first-in .ensures)))))
     (λ t. first-in-lts.spec (shaped-reads.Asked, shaped-reads.Learnt, step-reads.Asked, step-reads.Learnt, first-box-below t, first-box.Post) (first-in-at t) first-in.Post first-in-Inv-loop first-in-μ-loop
     (λ c. judge-shallow _ _ _ _ _ _ (c .if1 .taken))
     (λ c κs. search needs)
-    (λ c. first-node _ _ _ _ _ _ (c .before .before .if1 .left) (omega arith) (was-nay _ _ (c .if2 .taken) (c .before .shaped .ensures)))
-    (λ c. (judge-start _ _ _ _ _ _ (c .before .before .if1 .left) (unless-yea _ _ (sym (was-yea _ _ (c .if2 .left) (c .before .shaped .ensures)))), refl))
+    (λ c. first-unshaped _ _ _ _ _ _ (c .before .before .if1 .left) (omega arith) (was-nay _ _ (c .if2 .taken) (c .before .shaped .ensures)))
+    (λ c. (first-begins _ _ _ _ _ _ (c .before .before .if1 .left) (was-yea _ _ (c .if2 .left) (c .before .shaped .ensures)), refl))
     (λ c κs. search needs)
     (λ c. search needs)
-    (λ c κs. let s = ran _ _ _ _ _ (c .before .before .before .step .ensures) (c .before .b .given .1) in (omega arith, (s .least, omega arith, omega arith, omega arith)))
+    (λ c κs. let s = ran _ _ _ _ _ (c .before .before .before .step .ensures) (c .before .b .given .1) in (omega arith, (s .head, s .least, omega arith, omega arith, omega arith)))
     (λ c. search needs)
     (λ c. let s = ran _ _ _ _ _ (c .before .before .before .before .before .before .step .ensures) (c .before .before .before .before .b .given .1) in omega arith)
     (λ c. let s = ran _ _ _ _ _ (c .before .before .before .before .before .before .step .ensures) (c .before .before .before .before .b .given .1) in
