@@ -9,7 +9,7 @@ use Rattle.boxes.specs.Box.{Box}
 use Rattle.boxes.specs.Boxes.{boxes}
 use Rattle.boxes.specs.Containers.{kindIn, FILE, DEPTH}
 use Rattle.boxes.specs.Kin.{Leaf, Kin}
-use Rattle.boxes.proofs.Reading.{All, Headed, heads}
+use Rattle.boxes.proofs.Reading.{All}
 use Rattle.boxes.proofs.Every.{all-map, all-four}
 use Rattle.mdat.specs.Payloads.{inAt}
 use Rattle.rule.specs.Rule.{allIn}
@@ -44,11 +44,11 @@ module _ (f g : ℕ → ℕ) where
   agrees-leaf k c b q e r = eq-yea _ _ _ _ _ e (eq-yea _ _ _ _ _ r refl) ∙ q
 
   -- the tables of a part
-  module _ (l : List Box) (headed : All Headed l) (h : (o n : ℕ) → inAt l o n ≡ true → f o ≡ g o) where
+  module _ (l : List Box) (h : (o n : ℕ) → inAt l o n ≡ true → f o ≡ g o) where
     leaves : (d k : ℕ) (xs : List ℕ) → Chunked l (suc d) k xs → All (λ x. kindIn k (x .code) ≡ 0 → agreeIn f g k (x .code) (x .body) ≡ true) (boxes xs)
     leaves d k xs s =
         eq-or k STBL
-        (λ e. all-map (λ x p z. leaf-agrees k (x .code) (x .body) (λ r. p)) (all-agree l headed d xs (subst (λ (i : ℕ). Chunked l (suc d) i xs) e s) f g h))
+        (λ e. all-map (λ x p z. leaf-agrees k (x .code) (x .body) (λ r. p)) (all-agree l d xs (subst (λ (i : ℕ). Chunked l (suc d) i xs) e s) f g h))
         (λ e. all-map (λ x p z. leaf-agrees k (x .code) (x .body) (λ r. absurd (e r))) (inside l d k xs s))
 
     pub chunked-agree : (d k : ℕ) (xs : List ℕ) → Chunked l d k xs → allIn (agree f g) d k xs ≡ true
@@ -64,7 +64,7 @@ module _ (f g : ℕ → ℕ) where
 
   -- of a file that meets the rules
   pub meets-agree : (xs : List ℕ) → Meets xs → ((o n : ℕ) → inAt (boxes xs) o n ≡ true → f o ≡ g o) → Holds (agree f g) xs
-  meets-agree xs m h = chunked-agree (boxes xs) (heads xs) h DEPTH FILE xs (file-chunked xs m)
+  meets-agree xs m h = chunked-agree (boxes xs) h DEPTH FILE xs (file-chunked xs m)
 
   -- of what is kin to it by an edit that lets `stco` be
   pub kin-agree : (G : Leaf) → ((b b′ : List ℕ) → G STBL STCO b b′ → b ≡ b′) → (d k : ℕ) (xs zs : List ℕ) → Kin G d k xs zs → allIn (agree f g) d k xs ≡ true → allIn (agree f g) d k zs ≡ true

@@ -3,5 +3,7 @@ pub mod Offsets
 pub mod Placed
 pub mod Agreement
 pub mod Settled
+pub mod Closing
+pub mod ClosingHere
 pub mod InMoov
 pub mod Accepted

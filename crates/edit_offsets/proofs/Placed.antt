@@ -12,7 +12,7 @@ use Rattle.boxes.specs.Box.{Box}
 use Rattle.boxes.specs.Boxes.{boxes}
 use Rattle.boxes.specs.Seek.{find}
 use Rattle.boxes.proofs.Every.{found-each}
-use Rattle.boxes.proofs.Reading.{All, Headed}
+use Rattle.boxes.proofs.Reading.{All}
 use Rattle.sample_tables.specs.Tables as table
 use Rattle.sample_tables.specs.Chunks.{offsetAt, extentAt}
 use Rattle.mdat.specs.Payloads.{inAt}
@@ -24,10 +24,10 @@ use Rattle.rule_tracks.proofs.Chunked.{Chunked, stbl-six, stbl-eight}
 use Rattle.edit_offsets.proofs.Offsets.{agreeOn}
 
 -- an `stbl`
-module _ (l : List Box) (headed : All Headed l) (d : ℕ) (xs : List ℕ) (s : Chunked l (suc d) STBL xs) where
+module _ (l : List Box) (d : ℕ) (xs : List ℕ) (s : Chunked l (suc d) STBL xs) where
   -- an offset of its `stco`
   offset-in : (i : ℕ) → i < table.items (find STCO (boxes xs)) → inAt l (offsetAt (find STCO (boxes xs)) i) (extentAt (find STSC (boxes xs)) (find STSZ (boxes xs)) (find STCO (boxes xs)) i .bytes) ≡ true
-  offset-in i h = chunk-in l _ _ _ headed i (eight-at l _ _ _ (stbl-eight s) i h)
+  offset-in i h = chunk-in l _ _ _ i (eight-at l _ _ _ (stbl-eight s) i h)
 
   module _ (f g : ℕ → ℕ) (h : (o n : ℕ) → inAt l o n ≡ true → f o ≡ g o) where
     stco-agrees : agreeOn f g (find STCO (boxes xs)) ≡ true

@@ -1,10 +1,12 @@
 // The chunk offsets of a file that was edited.
 use boxes::containers;
+use boxes::walk;
 use boxes::walk::BoxAt;
 use boxes::words;
 use boxes::words::By;
 use boxes::words::Target;
 use boxes::words::Targets;
+use wire::number;
 ghost use mathlib.Core.Path.{_≡_};
 ghost use Prim.Native.Nat.{_+_, _≤_};
 ghost use lib.ListN.{length};
@@ -12,7 +14,19 @@ ghost use Rattle.codes.specs.Codes.{MOOV};
 ghost use Rattle.boxes.specs.Walk.{payload};
 ghost use Rattle.boxes.specs.Rewrite.{editIn, inBody};
 ghost use Rattle.boxes.specs.Words.{rewordLeaf, moved, Small};
+ghost use Rattle.edit_offsets.specs.Close.{closedAt};
 ghost use Rattle.edit_offsets.specs.Settle.{offsets};
+
+// Gives the `moov` b of a part its true size where it stands, if it is open.
+pub fn close(out: &mut [u8], b: BoxAt)
+    requires { ⌜ b .at + 8 ≤ length (now out) ⌝ }
+    ensures { λ _. ⌜ now (out .exit) ≡ closedAt b (now (out .entry)) ⌝ }
+{
+    let form = b.form;
+    if walk::is_open(form) != 0 {
+        number::put32(out, b.at, b.span);
+    }
+}
 
 // Moves every chunk offset of the `moov` b of a part where it stands.
 pub fn settle(out: &mut [u8], b: BoxAt, by: By)
