@@ -24,6 +24,7 @@ use Rattle.boxes.proofs.Reading.Shut.{end, next}
 use Rattle.boxes.proofs.Written.{boxes-write, after-write}
 use Rattle.boxes.proofs.Rewriting.{bytes-write}
 use Rattle.boxes.proofs.Kin.{kin-refl}
+use Rattle.boxes.proofs.Pairs.{all2-then}
 use Rattle.mdat.specs.Relocate.{Alike}
 use Rattle.edit_offsets.specs.Close.{shutForm, formAfter, shutBox, closed}
 
@@ -53,7 +54,7 @@ module _ (c : ℕ) (f : Form) where
   unfolding formAfter
   form-other e = sym (eq-nay _ _ _ _ _ e refl)
 
-  form-head : headOf (formAfter c f) ≡ headOf f
+  pub form-head : headOf (formAfter c f) ≡ headOf f
   form-head = eq-or c MOOV (λ e. ap headOf (form-moov e) ∙ shut-head f) (λ e. ap headOf (form-other e))
 
   -- what is open then was so, and is no `moov`
@@ -144,3 +145,7 @@ module _ (xs : List ℕ) where
 
     pub alike-closed : All2 Alike (boxes xs) (boxes (closed xs))
     alike-closed = rw boxes-closed (shut-alike (boxes xs))
+
+    -- what has the layout of the closed file has that of the file
+    pub alike-then : {m : List Box} → All2 Alike (boxes (closed xs)) m → All2 Alike (boxes xs) m
+    alike-then a = all2-then (λ x y z r s. record { head = r .head ∙ s .head; code = r .code ∙ s .code; long = r .long ∙ s .long }) alike-closed a

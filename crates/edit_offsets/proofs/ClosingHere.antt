@@ -1,5 +1,5 @@
 -- The one `moov` of a list of boxes closed where it stands. Assumes nothing.
-use Prim.Native.Nat.{ℕ, _+_, _≤_}
+use Prim.Native.Nat.{ℕ, _+_, _<_}
 use native.Mathlib.Omega.{arith}
 use mathlib.Core.Path.{_≡_, refl, sym, ap, _∙_}
 use mathlib.Core.Bool.{true, false}
@@ -24,8 +24,9 @@ use Rattle.boxes.proofs.Meaning.{meant-yes}
 use Rattle.boxes.proofs.Numbered.{count-append}
 use Rattle.boxes.proofs.Placing.{length-write, total-before}
 use Rattle.boxes.proofs.Cutting.{cut-size}
+use Rattle.boxes.proofs.InMoov.{OneMoov}
 use Rattle.edit_offsets.specs.Close.{shutForm, formAfter, shutBox, closed, closedAt}
-use Rattle.edit_offsets.proofs.Closing.{form-moov, form-other}
+use Rattle.edit_offsets.proofs.Closing.{form-moov, form-other, form-head, shut-size, shut-total, shut-count, boxes-closed}
 
 -- as many bytes in the place of others
 put-there : (a u v w : List ℕ) (n : ℕ) → length a ≡ n → length u ≡ length v → put (a ++ (u ++ w)) n v ≡ a ++ (v ++ w)
@@ -95,3 +96,23 @@ closed-file xs rest {b} v n c e =
     let z : xs ++ rest ≡ write l ++ (after xs ++ rest) = ap (λ (t : List ℕ). t ++ rest) w ∙ append-assoc (write l) (after xs) rest in
     let h = closed-here (c .p) (boxAt xs b) (c .q) (after xs ++ rest) b e (c .nth) k (sym (total-before v c)) refl (cut-size v c) in
     ap (closedAt b) z ∙ h ∙ sym (append-assoc (write (map shutBox l)) (after xs) rest) ∙ ap (λ (m : List Box). write (map shutBox m) ++ after xs ++ rest) (sym (c .list))
+
+-- it is then the one `moov` there
+map-append : (p q : List Box) → map shutBox (p ++ q) ≡ map shutBox p ++ map shutBox q
+map-append [] q = refl
+map-append (x ∷ p) q = ap (λ (l : List Box). shutBox x ∷ l) (map-append p q)
+
+pub only-closed : {xs : List ℕ} {b : BoxAt} → Bytes xs → length xs < 4294967296 → OneMoov xs b → OneMoov (closed xs) b
+only-closed {xs} {b} v s o =
+    record {
+      p = map shutBox (o .p);
+      x = shutBox (o .x);
+      q = map shutBox (o .q);
+      list = boxes-closed xs v s ∙ ap (map shutBox) (o .list) ∙ map-append (o .p) (o .x ∷ o .q);
+      code = o .code;
+      before = shut-count MOOV (o .p) ∙ o .before;
+      behind = shut-count MOOV (o .q) ∙ o .behind;
+      at = o .at ∙ sym (shut-total (o .p));
+      head = o .head ∙ sym (form-head (o .x .code) (o .x .form));
+      span = o .span ∙ sym (shut-size (o .x));
+    }

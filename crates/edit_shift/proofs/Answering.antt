@@ -34,7 +34,7 @@ use Rattle.edit_shift.proofs.Meaning.{leaves-are, shift-text}
 
 pub text-length : (z : Zone) (xs : List ℕ) → length (zoneText z xs) ≡ length xs
 unfolding zoneText
-text-length z xs = all-length (moved (byZone z)) xs
+text-length z xs = all-length (moved (byZone z)) (closed xs) ∙ length-closed xs
 
 -- ---- by a zone
 

@@ -41,4 +41,7 @@ leaves-are z = ext _ _ (λ t. sym (may-is z t))
 
 pub shift-text : (z : ℤ) (xs : List ℕ) → Bytes xs → length xs < 4294967296 → zoneText (zoneOf z) xs ≡ shiftOf z xs
 unfolding zoneText shiftOf
-shift-text z xs v h = rw (times-are z) (sym (settled-same xs (allTimesBy (shiftTime z) xs) (all-alike (shiftTime z) xs v h) (all-bytes (shiftTime z) xs v)))
+shift-text z xs v h =
+    let u = bytes-closed xs v h in
+    let n = length-closed xs in
+    rw (times-are z) (sym (settled-same xs (allTimesBy (shiftTime z) (closed xs)) (alike-then xs v h (all-alike (shiftTime z) (closed xs) u (omega arith))) (all-bytes (shiftTime z) (closed xs) u)))

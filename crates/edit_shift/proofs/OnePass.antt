@@ -47,11 +47,14 @@ leaf-is f k c b =
 -- ---- a file
 
 -- written, and then its times by f where they stand
-pub one-pass : (f : ℕ → ℕ) (xs : List ℕ) → Bytes xs → Meets xs → {b : BoxAt} → Cut xs MOOV 0 b → {out mid after : List ℕ} {n : ℕ} {ts : Targets} → Wrote xs out n mid
-    → ts ≡ headersOf → after ≡ inBody mid b (editIn (rewordEach ts f) 5 MOOV (payload mid b)) → after ≡ allTimesBy f xs ++ drop (length xs) out
+pub one-pass : (f : ℕ → ℕ) (xs : List ℕ) → Bytes xs → Meets xs → {b : BoxAt} → Cut xs MOOV 0 b → {out mid made after : List ℕ} {n : ℕ} {ts : Targets} → Wrote xs out n mid → made ≡ closedAt b mid
+    → ts ≡ headersOf → after ≡ inBody made b (editIn (rewordEach ts f) 5 MOOV (payload made b)) → after ≡ allTimesBy f (closed xs) ++ drop (length xs) out
 unfolding allTimesBy
-one-pass f xs v m {b} c {out = out} {n = n} w e q =
-    let o = only-moov v (one-moov xs m) c (meant-is MOOV (b .code) (λ z. omega arith) (c .hit)) in
+one-pass f xs v m {b} c {out = out} {n = n} w g e q =
+    let k = meant-is MOOV (b .code) (λ z. omega arith) (c .hit) in
+    let s : length xs < 4294967296 = omega (arith, m .most) in
+    let o = only-closed v s (only-moov v (one-moov xs m) c k) in
+    let y = g ∙ ap (closedAt b) (w .is) ∙ closed-file xs (drop n out) v (one-moov xs m) c k in
     let z = moov-edit (rewordEach headersOf f)
-    (λ c d. each-none headersOf f FILE c d (λ z. omega arith) (λ z. omega arith) (λ z. omega arith)) (each-length headersOf f) xs (drop n out) v b o in
-    rw (e, w .is) at q ∙ z ∙ ap (λ (g : Leaves). editIn g DEPTH FILE xs ++ drop n out) (λ i k c b. leaf-is f k c b i) ∙ rw (w .span)
+    (λ c d. each-none headersOf f FILE c d (λ z. omega arith) (λ z. omega arith) (λ z. omega arith)) (each-length headersOf f) (closed xs) (drop n out) (bytes-closed xs v s) b o in
+    rw (e, y) at q ∙ z ∙ ap (λ (g : Leaves). editIn g DEPTH FILE (closed xs) ++ drop n out) (λ i k c b. leaf-is f k c b i) ∙ rw (w .span)

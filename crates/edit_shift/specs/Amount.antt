@@ -17,6 +17,7 @@ use Rattle.clocks.specs.Zones.{leaves}
 use Rattle.rule.specs.Results.{Result, asked}
 use Rattle.rule.specs.Results.Result.{gives}
 use Rattle.judge.specs.Acceptance.{editable}
+use Rattle.edit_offsets.specs.Close.{closed}
 use Rattle.edit_shift.specs.Shift.{CREATION, both, trackTimes, allTimes, allTimesBy}
 
 -- p of the times of a box of `moov`, of all its tracks, and of all that it holds
@@ -41,7 +42,7 @@ abbrev pub byZone : Zone → By
 byZone z = record { limit = 1; low = 0; high = z .behind; less = z .ahead }
 
 unfoldable pub zoneText : Zone → List ℕ → List ℕ
-zoneText z xs = allTimesBy (moved (byZone z)) xs
+zoneText z xs = allTimesBy (moved (byZone z)) (closed xs)
 
 -- of an accepted file
 unfoldable pub zoneResult : Zone → List ℕ → Result

@@ -19,6 +19,7 @@ use Rattle.movie.specs.Movie.{movie, tracks, track, mdia}
 use Rattle.rule.specs.Results.{Result}
 use Rattle.judge.specs.Calls.{resultOn}
 use Rattle.judge.specs.Acceptance.{editable}
+use Rattle.edit_offsets.specs.Close.{closed}
 use Rattle.edit_offsets.specs.Settle.{settled}
 
 -- ---- its meaning
@@ -47,7 +48,7 @@ unfoldable pub allTimesBy : (ℕ → ℕ) → List ℕ → List ℕ
 allTimesBy f xs = editIn (timesLeaf f) DEPTH FILE xs
 
 unfoldable pub shiftOf : ℤ → List ℕ → List ℕ
-shiftOf z xs = settled xs (allTimesBy (shiftTime z) xs)
+shiftOf z xs = settled xs (allTimesBy (shiftTime z) (closed xs))
 
 -- ---- its answer
 

@@ -26,6 +26,7 @@ ghost use Rattle.boxes.specs.Words.{moved, Small};
 ghost use Rattle.clocks.specs.Zones.{Near, leaves};
 ghost use Rattle.rule.specs.Results.{Exact};
 ghost use Rattle.judge.specs.Acceptance.{Meets};
+ghost use Rattle.edit_offsets.specs.Close.{closed};
 ghost use Rattle.edit_shift.specs.Shift.{both as bothOf, trackTimes, allTimesBy, shiftResult};
 ghost use Rattle.edit_shift.specs.Amount.{boxTimes, tracksTimes, moovTimes, timesOf, headersOf, zoneResult};
 
@@ -130,9 +131,10 @@ fn headers() -> Targets
 // Writes the file with its times shifted, its `moov` being b.
 fn put_shifted(out: &mut [u8], file: &[u8], b: BoxAt, by: By)
     requires { ⌜ (Small by) × (length (now file) ≤ length (now out)) × (Meets (now file)) × (Cut (now file) MOOV 0 b) ⌝ }
-    ensures { λ _. ⌜ now (out .exit) ≡ allTimesBy (moved by) (now (file .entry)) ++ drop (length (now (file .entry))) (now (out .entry)) ⌝ }
+    ensures { λ _. ⌜ now (out .exit) ≡ allTimesBy (moved by) (closed (now (file .entry))) ++ drop (length (now (file .entry))) (now (out .entry)) ⌝ }
 {
     pen::copy(out, file);
+    edit_offsets::close(out, b);
     words::reword_moov(out, b, headers(), by);
 }
 
