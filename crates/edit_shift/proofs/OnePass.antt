@@ -1,5 +1,5 @@
 -- What the one pass over `moov` leaves is the rewriting that is meant. Assumes nothing.
-use Prim.Native.Nat.{ℕ}
+use Prim.Native.Nat.{ℕ, _<_}
 use native.Mathlib.Omega.{arith}
 use mathlib.Core.Path.{_≡_, refl, ap, _∙_}
 use mathlib.Core.Bool.{Bool, true, false}
@@ -24,7 +24,10 @@ use Rattle.boxes.proofs.Aiming.{each-none, each-length}
 use Rattle.boxes.proofs.InMoov.{only-moov, moov-edit}
 use Rattle.boxes.proofs.Meaning.{meant-is}
 use Rattle.judge.specs.Acceptance.{Meets}
+use Rattle.edit_offsets.specs.Close.{closed, closedAt}
 use Rattle.edit_offsets.proofs.Accepted.{one-moov}
+use Rattle.edit_offsets.proofs.Closing.{bytes-closed}
+use Rattle.edit_offsets.proofs.ClosingHere.{closed-file, only-closed}
 use Rattle.edit_shift.specs.Shift.{hasTimes, timesLeaf, allTimesBy}
 use Rattle.edit_shift.specs.Amount.{headersOf}
 
