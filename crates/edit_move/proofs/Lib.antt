@@ -1,4 +1,5 @@
 pub mod Sifting
+pub mod Shutting
 pub mod Mapping
 pub mod Order
 pub mod Pieces

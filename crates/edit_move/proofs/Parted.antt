@@ -7,7 +7,7 @@ use lib.ListN.{length}
 use Rattle.wire.specs.Numbers.{Bytes}
 use Rattle.codes.specs.Codes.{FTYP, MOOV}
 use Rattle.boxes.specs.declared.walk.BoxAt.{BoxAt}
-use Rattle.boxes.specs.Box.{Box, size}
+use Rattle.boxes.specs.Box.{Box, headOf, size}
 use Rattle.boxes.specs.Boxes.{boxes, total}
 use Rattle.boxes.specs.Walk.{boxAt}
 use Rattle.boxes.specs.Seek.{ANY, meant, count, placeBy, placeIn, Cut}
@@ -42,7 +42,10 @@ pub record Parted (xs : List ℕ) (b : BoxAt) : Type 0 where
   pub second : moovSecond (boxes xs) ≡ ftyp ∷ (boxAt xs b ∷ (mid ++ end))
   pub name : ftyp .code ≡ FTYP
   pub moov : b .code ≡ MOOV
+  pub before : count MOOV (ftyp ∷ mid) ≡ 0
+  pub behind : count MOOV end ≡ 0
   pub at : b .at ≡ size ftyp + total mid
+  pub head : b .head ≡ headOf (b .form)
   pub span : b .span ≡ size (boxAt xs b)
   pub inside : b .at + b .span ≤ length xs
 
@@ -70,7 +73,10 @@ module _ (xs : List ℕ) (v : Bytes xs) (m : Meets xs) {b : BoxAt} (c : Cut xs M
         second = ap moovSecond l ∙ second-is (boxAt xs b) (c .q) cut-moov none-after x p (omega arith);
         name = ftyp-first xs m x (p ++ boxAt xs b ∷ c .q) l;
         moov = cut-moov;
+        before = omega arith;
+        behind = none-after;
         at = sym (total-before v c) ∙ ap total e;
+        head = c .head;
         span = cut-size v c;
         inside = c .inside;
       }

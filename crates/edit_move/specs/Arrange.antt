@@ -15,4 +15,4 @@ up b = record { limit = b .at + b .span; low = b .span; high = 0; less = 0 }
 
 -- where it then stands
 abbrev pub moovAt : ℕ → BoxAt → BoxAt
-moovAt f b = record { at = f; head = b .head; span = b .span; code = b .code }
+moovAt f b = record { at = f; form = b .form; head = b .head; span = b .span; code = b .code }

@@ -8,6 +8,7 @@ use Rattle.boxes.specs.Boxes.{boxes}
 use Rattle.rule.specs.Results.{Result}
 use Rattle.judge.specs.Calls.{resultOn}
 use Rattle.judge.specs.Acceptance.{editable}
+use Rattle.edit_offsets.specs.Close.{closed}
 use Rattle.edit_offsets.specs.Settle.{settled}
 
 -- the boxes of a code, and the others
@@ -25,7 +26,7 @@ moovSecond [] = []
 moovSecond (x ∷ l) = x ∷ (just MOOV l ++ others MOOV l)
 
 unfoldable pub moveOf : List ℕ → List ℕ
-moveOf xs = settled xs (write (moovSecond (boxes xs)))
+moveOf xs = settled xs (write (moovSecond (boxes (closed xs))))
 
 -- "move 23, 25"
 unfoldable pub moveResult : List ℕ → Result

@@ -34,20 +34,24 @@ fn arrange(out: &mut [u8], file: &[u8], f: usize, b: BoxAt) -> usize
     pen::put_part(out, k, &file[to..])
 }
 
-// Writes a file with its `moov` b at the place f of its second box, and moves the chunk offsets that stood before `moov` up by its size.
+// Writes a file with its `moov` b closed at the place f of its second box, and moves the chunk offsets that stood before `moov` up by its size.
 fn shift(out: &mut [u8], file: &[u8], f: usize, b: BoxAt) -> usize
     requires { ⌜ (Meets (now file)) × (Cut (now file) MOOV 0 b) × (f ≡ placeIn ANY 1 (boxes (now file))) × (length (now file) ≤ length (now out)) ⌝ }
     ensures { λ r. ⌜ Wrote (moveOf (now (file .entry))) (now (out .entry)) r (now (out .exit)) ⌝ }
 {
     let n = arrange(out, file, f, b);
+    let form = b.form;
+    let moov = BoxAt {
+        at: f,
+        form,
+        head: b.head,
+        span: b.span,
+        code: b.code,
+    };
+    edit_offsets::close(out, moov);
     edit_offsets::settle(
         out,
-        BoxAt {
-            at: f,
-            head: b.head,
-            span: b.span,
-            code: b.code,
-        },
+        moov,
         By {
             limit: b.at + b.span,
             low: b.span,

@@ -73,8 +73,9 @@ module _ (f g : ℕ → ℕ) where
       kept : (k c : ℕ) (b b′ : List ℕ) → kindIn k c ≡ 0 → G k c b b′ → agreeIn f g k c b ≡ true → agreeIn f g k c b′ ≡ true
       kept k c b b′ z r q = leaf-agrees k c b′ (λ e s. ap (agreeOn f g) (sym (same b b′ (rw (e, s) at r))) ∙ agrees-leaf k c b q e s)
 
-  -- of what holds the same boxes in another order
-  pub list-agree : (d k : ℕ) (xs zs : List ℕ) → ((P : Box → Type 0) → All P (boxes xs) → All P (boxes zs)) → allIn (agree f g) (suc d) k xs ≡ true → allIn (agree f g) (suc d) k zs ≡ true
+  -- of what holds the same boxes in another order, in whatever forms
+  pub list-agree : (d k : ℕ) (xs zs : List ℕ) → ((P : ℕ → List ℕ → Type 0) → All (λ x. P (x .code) (x .body)) (boxes xs) → All (λ x. P (x .code) (x .body)) (boxes zs))
+      → allIn (agree f g) (suc d) k xs ≡ true → allIn (agree f g) (suc d) k zs ≡ true
   list-agree d k xs zs h q =
       let o = opened (agree f g) d k xs q in
-      closed (agree f g) d k zs (record { node = refl; leaves = h _ (o .leaves); inside = h _ (o .inside); end = refl })
+      closed (agree f g) d k zs (record { node = refl; leaves = h (λ c b. kindIn k c ≡ 0 → agreeIn f g k c b ≡ true) (o .leaves); inside = h (λ c b. (kindIn k c ≡ 0 → ⊥) → allIn (agree f g) d (kindIn k c) b ≡ true) (o .inside); end = refl })

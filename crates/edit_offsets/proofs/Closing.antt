@@ -83,7 +83,7 @@ unfolding count
 shut-count c [] = refl
 shut-count c (x ∷ l) = omega (arith, shut-count c l)
 
-shut-each : {P : Box → Type 0} → ((x : Box) → P x → P (shutBox x)) → {l : List Box} → All P l → All P (map shutBox l)
+pub shut-each : {P : Box → Type 0} → ((x : Box) → P x → P (shutBox x)) → {l : List Box} → All P l → All P (map shutBox l)
 shut-each h none = none
 shut-each h (some {x} p a) = some {x = shutBox x} (h x p) (shut-each h a)
 

@@ -44,10 +44,10 @@ unfolding count
 others [] h = refl
 others (x ∷ l) h = rw (other-box x (omega arith), others l (omega arith))
 
-one-moov : (p : List Box) (x : Box) (q : List Box) → count MOOV p ≡ 0 → count MOOV q ≡ 0 → map shutBox (p ++ x ∷ q) ≡ p ++ shutBox x ∷ q
+pub shut-one : (p : List Box) (x : Box) (q : List Box) → count MOOV p ≡ 0 → count MOOV q ≡ 0 → map shutBox (p ++ x ∷ q) ≡ p ++ shutBox x ∷ q
 unfolding count
-one-moov [] x q h k = rw (others q k)
-one-moov (y ∷ p) x q h k = rw (other-box y (omega arith), one-moov p x q (omega arith) k)
+shut-one [] x q h k = rw (others q k)
+shut-one (y ∷ p) x q h k = rw (other-box y (omega arith), shut-one p x q (omega arith) k)
 
 -- ---- the `moov`
 
@@ -84,7 +84,7 @@ pub closed-here : (p : List Box) (x : Box) (q : List Box) (rest : List ℕ) (b :
     → b .at ≡ total p → b .form ≡ x .form → b .span ≡ size x → closedAt b (write (p ++ x ∷ q) ++ rest) ≡ write (map shutBox (p ++ x ∷ q)) ++ rest
 unfolding closedAt
 closed-here p x q rest b c h k at f s =
-    rw (s, f, one-moov p x q h k, form-moov (x .code) (x .form) c) (by-form p x q rest (b .at) at (x .form) refl)
+    rw (s, f, shut-one p x q h k, form-moov (x .code) (x .form) c) (by-form p x q rest (b .at) at (x .form) refl)
 
 -- of a file, as a search finds it
 pub closed-file : (xs rest : List ℕ) {b : BoxAt} → Bytes xs → count MOOV (boxes xs) ≡ 1 → Cut xs MOOV 0 b → b .code ≡ MOOV → closedAt b (xs ++ rest) ≡ closed xs ++ rest

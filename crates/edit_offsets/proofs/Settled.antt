@@ -11,7 +11,6 @@ use Rattle.wire.specs.Tests.{pick, ifEq}
 use Rattle.wire.specs.Numbers.{Bytes, bytes, word}
 use Rattle.codes.specs.Codes.{STBL, STCO}
 use Rattle.wire.proofs.Numbers.{bytes-word, bytes-drop, bytes-take}
-use Rattle.boxes.specs.Box.{Box}
 use Rattle.boxes.specs.Boxes.{boxes}
 use Rattle.boxes.specs.Containers.{FILE, DEPTH, LONGEST}
 use Rattle.boxes.specs.Rewrite.{editIn}
@@ -46,8 +45,8 @@ module _ (xs zs : List ℕ) (f : ℕ → ℕ) where
     pub settled-kin : (G : Leaf) → ((b b′ : List ℕ) → G STBL STCO b b′ → b ≡ b′) → Kin G DEPTH FILE xs zs → editIn (rewordLeaf offsets f) DEPTH FILE zs ≡ settled xs zs
     settled-kin G same a = settled-by (kin-agree f _ G same DEPTH FILE xs zs a (meets-agree f _ xs m h))
 
-    -- the same boxes in another order
-    pub settled-list : ((P : Box → Type 0) → All P (boxes xs) → All P (boxes zs)) → editIn (rewordLeaf offsets f) DEPTH FILE zs ≡ settled xs zs
+    -- the same boxes in another order, in whatever forms
+    pub settled-list : ((P : ℕ → List ℕ → Type 0) → All (λ x. P (x .code) (x .body)) (boxes xs) → All (λ x. P (x .code) (x .body)) (boxes zs)) → editIn (rewordLeaf offsets f) DEPTH FILE zs ≡ settled xs zs
     settled-list k = settled-by (list-agree f _ 5 FILE xs zs k (meets-agree f _ xs m h))
 
 -- ---- nothing moved
