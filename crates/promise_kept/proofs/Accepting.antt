@@ -2,17 +2,16 @@
 use Prim.Native.Nat.{ℕ, _≤_}
 use mathlib.Core.Path.{_≡_, refl}
 use mathlib.Core.Bool.{true}
-use mathlib.Core.List.{List}
+use mathlib.Core.List.{List, [], _∷_}
 use lib.ListN.{length}
 use Rattle.wire.specs.Tests.{ifEq}
 use Rattle.wire.specs.Numbers.{Bytes}
 use Rattle.boxes.specs.Box.{Box, write}
 use Rattle.boxes.specs.Boxes.{boxes}
 use Rattle.boxes.specs.Containers.{FILE, DEPTH, LONGEST}
-use Rattle.boxes.proofs.Reading.{heads}
-use Rattle.rule.specs.Rule.{Rule}
+use Rattle.rule.specs.Rule.{Rule, allList}
 use Rattle.rule_shape.specs.Three.{needed, besides, shape, threeRule}
-use Rattle.rule_shape.specs.Two.{twoRule}
+use Rattle.rule_shape.specs.Two.{mayHave, shutIn, twoRule}
 use Rattle.rule_shape.specs.TwentyThree.{editableRule}
 use Rattle.rule_shape.proofs.Keeping.{same-exactly, kin-2, kin-3, kin-editable}
 use Rattle.rule_lists.specs.Five.{fiveRule}
@@ -32,8 +31,14 @@ use Rattle.promise_kept.proofs.Content.{Content}
 use Rattle.promise_kept.proofs.Forms.{six-forms}
 use Rattle.promise_kept.proofs.Arranges.{Arranges}
 use Rattle.promise_kept.proofs.Arranging.{arranged-rule}
-use Rattle.promise_kept.proofs.Settling.{new, new-bytes, new-tiled, new-small, Changes, edit-kin, edit-sound}
-use Rattle.promise_kept.proofs.Following.{in-order, edit-moved, same-payloads, new-good}
+use Rattle.promise_kept.proofs.Settling.{new, new-bytes, new-tiled, new-small, new-shut, Changes, edit-kin, edit-sound}
+use Rattle.promise_kept.proofs.Following.{in-order, edit-moved, same-payloads}
+
+-- any box of the file may be open
+all-may : (l : List Box) → allList (shutIn FILE) true l ≡ true
+unfolding allList mayHave ifEq
+all-may [] = refl
+all-may (x ∷ l) = all-may l
 
 -- the file has its boxes, in whichever order
 shape-arranged : {A : List Box → List Box} → Arranges A → (l : List Box) → shape FILE (A l) ≡ shape FILE l
@@ -49,7 +54,7 @@ module _ {A : List Box → List Box} (a : Arranges A) (xs ys : List ℕ) (w : By
 
   -- a rule of the content is one of the file
   to-file : (r : Rule) → (r .node FILE mid ≡ true → r .node FILE result ≡ true) → Holds r mid → Holds r result
-  to-file r = arranged-rule a mid (new-bytes a xs ys w m c) (new-tiled a xs ys w m c) (new-small a xs ys w m c) r 5 FILE
+  to-file r = arranged-rule a mid (new-bytes a xs ys w m c) (new-tiled a xs ys w m c) (new-small a xs ys w m c) (new-shut a xs ys w m c) r 5 FILE
 
   -- refusal 23 lets it pass again
   pub edit-plain : editable xs ≡ true → editable result ≡ true
@@ -67,7 +72,7 @@ module _ {A : List Box → List Box} (a : Arranges A) (xs ys : List ℕ) (w : By
       record {
         least = n;
         most = k;
-        two = to-file twoRule (λ p. p) (kin-2 G DEPTH FILE xs mid h (m .two));
+        two = to-file twoRule (λ p. all-may (boxes result)) (kin-2 G DEPTH FILE xs mid h (m .two));
         three = to-file threeRule (λ p. rw (in-order a xs ys w m c, shape-arranged a (boxes mid)) p) (kin-3 G DEPTH FILE xs mid h (m .three));
         four = to-file fourRule (λ p. refl) (kin-4 G (s .forms) (s .tkhd) DEPTH FILE xs mid h (m .four));
         five = to-file fiveRule (λ p. refl) (kin-5 G (s .stsd) (s .tables .stsd) (s .dref) DEPTH FILE xs mid h (m .five));
@@ -75,7 +80,7 @@ module _ {A : List Box → List Box} (a : Arranges A) (xs ys : List ℕ) (w : By
         seven = to-file sevenRule (λ p. refl) (kin-7 G (s .tables) DEPTH FILE xs mid h (m .seven));
         eight =
             rw (in-order a xs ys w m c) (to-file (eightRule (A (boxes mid))) (λ p. refl)
-            (kin-8 G (s .tables) (boxes xs) (A (boxes mid)) (same-payloads a xs ys w m c) (heads xs) (new-good a xs ys w m c) (edit-moved a xs ys w m c) DEPTH FILE xs mid h (m .eight)));
+            (kin-8 G (s .tables) (boxes xs) (A (boxes mid)) (same-payloads a xs ys w m c) (edit-moved a xs ys w m c) DEPTH FILE xs mid h (m .eight)));
         nine = to-file nineRule (λ p. p) (kin-9 G (s .urls) DEPTH FILE xs mid h (m .nine));
         ten = to-file tenRule (λ p. refl) (kin-10 G (s .described) DEPTH FILE xs mid h (m .ten));
       }

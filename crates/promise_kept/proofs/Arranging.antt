@@ -12,23 +12,27 @@ use Rattle.boxes.specs.Rewrite.{Bodies, Leaves, over, editBox, editIn}
 use Rattle.boxes.specs.Kin.{All2}
 use Rattle.boxes.proofs.Whole.{Good}
 use Rattle.boxes.proofs.Written.{boxes-all, after-all}
-use Rattle.boxes.proofs.Reading.{All, parts, lengths}
+use Rattle.boxes.proofs.Reading.{All, Shut, parts, lengths}
 use Rattle.boxes.proofs.Rewriting.{open-over, boxes-over, length-over, bytes-write}
 use Rattle.boxes.proofs.Editing.{box-length}
 use Rattle.mdat.specs.Relocate.{Alike}
 use Rattle.mdat.proofs.Staying.{alike-over}
 use Rattle.rule.specs.Rule.{Rule, allIn}
 use Rattle.rule.proofs.Opened.{opened, closed}
+use Rattle.edit_offsets.proofs.Closing.{ShutMoov}
 use Rattle.promise_kept.proofs.Arranges.{Arranges}
 
 -- ---- a file that boxes tile, in the order A
 
-module _ {A : List Box → List Box} (a : Arranges A) (ys : List ℕ) (w : Bytes ys) (e : after ys ≡ []) (n : length ys < 4294967296) where
+module _ {A : List Box → List Box} (a : Arranges A) (ys : List ℕ) (w : Bytes ys) (e : after ys ≡ []) (n : length ys < 4294967296) (o : All ShutMoov (boxes ys)) where
   abbrev pub arrange : List ℕ
   arrange = write (A (boxes ys))
 
   good : All Good (A (boxes ys))
   good = a .each (parts ys w .good)
+
+  shut : Shut [] (A (boxes ys))
+  shut = a .shut o (rw e at (parts ys w .shut))
 
   -- as long as it was
   pub arranged-length : length (write (A (boxes ys))) ≡ length ys
@@ -39,11 +43,11 @@ module _ {A : List Box → List Box} (a : Arranges A) (ys : List ℕ) (w : Bytes
 
   -- its boxes
   pub arranged-boxes : boxes (write (A (boxes ys))) ≡ A (boxes ys)
-  arranged-boxes = boxes-all good small
+  arranged-boxes = boxes-all good shut small
 
   -- boxes tile it
   pub arranged-after : after (write (A (boxes ys))) ≡ []
-  arranged-after = after-all good small
+  arranged-after = after-all good shut small
 
   -- it holds bytes
   pub arranged-bytes : Bytes (write (A (boxes ys)))

@@ -33,7 +33,7 @@ use Rattle.promise_kept.proofs.Keeping.{keeps, keeps-stay}
 -- "Move: moov goes right after ftyp"
 pub keeps-move : (xs : List ℕ) → Bytes xs → Meets xs → Keeps xs (moveOf xs)
 unfolding moveOf
-keeps-move xs w m = keeps second xs xs w m (content-same xs w (m .most))
+keeps-move xs w m = keeps second xs (closed xs) w m (content-closed xs w (m .most))
 
 -- "Shift times by z minutes"
 pub keeps-shift : (z : ℤ) (xs : List ℕ) → Bytes xs → Meets xs → Keeps xs (shiftOf z xs)

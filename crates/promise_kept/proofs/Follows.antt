@@ -11,7 +11,6 @@ use Rattle.boxes.specs.Box.{Box, write}
 use Rattle.boxes.specs.Boxes.{boxes}
 use Rattle.boxes.specs.Seek.{nth, find}
 use Rattle.boxes.specs.Kin.{Kin}
-use Rattle.boxes.proofs.Reading.{heads}
 use Rattle.sample_tables.specs.Tables.{items}
 use Rattle.sample_tables.specs.Chunks.{offsetAt}
 use Rattle.mdat.specs.Payloads.{mdats}
@@ -72,7 +71,7 @@ module _ {A : List Box → List Box} (a : Arranges A) (xs ys : List ℕ) (w : By
         λ k n.
             rw (r .offsets k n)
             (follows (boxes xs) (boxes result) (rw (in-order a xs ys w m c) (same-payloads a xs ys w m c)) _ _
-            (in-lies (boxes xs) _ _ (chunk-in (boxes xs) (find STSC (boxes b)) (find STSZ (boxes b)) (find STCO (boxes b)) (heads xs) k (eight-at (boxes xs) _ _ _ q k n)))),
+            (in-lies (boxes xs) _ _ (chunk-in (boxes xs) (find STSC (boxes b)) (find STSZ (boxes b)) (find STCO (boxes b)) k (eight-at (boxes xs) _ _ _ q k n)))),
       )
 
   pub edit-follows : AllFollow xs (write (A (boxes (new a xs ys w m c))))

@@ -20,7 +20,7 @@ use Rattle.promise_kept.specs.Kept.{Kept, Keeps}
 use Rattle.promise_kept.proofs.Content.{Content}
 use Rattle.promise_kept.proofs.Arranges.{Arranges, stay}
 use Rattle.promise_kept.proofs.Arranging.{arranged-length, arranged-bytes}
-use Rattle.promise_kept.proofs.Settling.{xs-tiled, new, new-bytes, new-tiled, new-small, new-length, edit-kin, settled-is, ys-tiled}
+use Rattle.promise_kept.proofs.Settling.{xs-tiled, new, new-bytes, new-tiled, new-small, new-shut, new-length, edit-kin, settled-is, ys-tiled}
 use Rattle.promise_kept.proofs.Accepting.{edit-plain, edit-meets}
 use Rattle.promise_kept.proofs.Sampling.{edit-tracks, edit-samples}
 use Rattle.promise_kept.proofs.Follows.{edit-follows}
@@ -58,7 +58,7 @@ module _ {A : List Box → List Box} (a : Arranges A) (xs ys : List ℕ) (w : By
   result = write (A (boxes (new a xs ys w m c)))
 
   long : length result ≡ length mid
-  long = arranged-length a mid (new-bytes a xs ys w m c) (new-tiled a xs ys w m c) (new-small a xs ys w m c)
+  long = arranged-length a mid (new-bytes a xs ys w m c) (new-tiled a xs ys w m c) (new-small a xs ys w m c) (new-shut a xs ys w m c)
 
   least : 8 ≤ length mid
   least =
@@ -72,7 +72,7 @@ module _ {A : List Box → List Box} (a : Arranges A) (xs ys : List ℕ) (w : By
         editable = edit-plain a xs ys w m c;
         tracks = edit-tracks a xs ys w m c;
         samples = edit-samples a xs ys w m c;
-        bytes = arranged-bytes a mid (new-bytes a xs ys w m c) (new-tiled a xs ys w m c) (new-small a xs ys w m c);
+        bytes = arranged-bytes a mid (new-bytes a xs ys w m c) (new-tiled a xs ys w m c) (new-small a xs ys w m c) (new-shut a xs ys w m c);
       }
 
   -- an edit of the content and an order of the boxes, chunk offsets following, keep a file: it is accepted and has the same samples

@@ -34,7 +34,7 @@ module _ (r : Rule) (G : Leaf) where
   kin-with zero k xs ys e q = e
   kin-with (suc d) k xs ys (a, e) q = let o = opened r d k xs q in (
     list-with (λ x y s f g. record {
-      head = s .head;
+      form = s .form;
       code = s .code;
       leaf = λ z. (s .leaf z, f z);
       node = λ z. kin-with d (kindIn k (x .code)) (x .body) (y .body) (s .node z) (g z);

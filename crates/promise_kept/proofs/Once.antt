@@ -18,7 +18,7 @@ use Rattle.rule_lists.specs.Five.{listForm}
 use Rattle.rule_headers.specs.Forms.{ifBox, form}
 use Rattle.rule_entries.specs.Ten.{entriesFine}
 use Rattle.promise_kept.proofs.Sound.{Sound}
-use Rattle.promise_kept.proofs.Content.{Content}
+use Rattle.promise_kept.proofs.Content.{Content, kin-shut}
 use Rattle.promise_kept.proofs.Changed.{Changed, changed-fine, changed-stored, changed-form}
 
 -- rule 4 reads no `stsd`
@@ -66,5 +66,5 @@ module _ (b₀ b₁ : List ℕ) where
         }
 
     -- one entry of the file has another decoder record
-    pub once-content : (xs ys : List ℕ) → Kin (Once STBL STSD b₀ b₁) DEPTH FILE xs ys → Bytes ys → length ys ≤ LONGEST → Content xs ys
-    once-content xs ys k w n = record { leaf = Once STBL STSD b₀ b₁; kin = k; sound = once-sound; stco = other STBL STCO (λ e f. omega arith); bytes = w; small = n }
+    pub once-content : (xs ys : List ℕ) → Kin (Once STBL STSD b₀ b₁) DEPTH FILE xs ys → Bytes ys → length ys ≤ LONGEST → All ShutMoov (boxes xs) → Content xs ys
+    once-content xs ys k w n o = record { leaf = Once STBL STSD b₀ b₁; kin = k; sound = once-sound; stco = other STBL STCO (λ e f. omega arith); shut = kin-shut (k .0) o; bytes = w; small = n }

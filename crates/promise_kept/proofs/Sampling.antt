@@ -26,7 +26,7 @@ use Rattle.promise_kept.proofs.Arranges.{Arranges}
 use Rattle.promise_kept.proofs.Arranging.{arranged-after, arranged-bytes}
 use Rattle.promise_kept.proofs.Tracking.{kin-track}
 use Rattle.promise_kept.proofs.Tables.{track-eight}
-use Rattle.promise_kept.proofs.Settling.{xs-tiled, new, new-bytes, new-tiled, new-small, Changes, edit-kin, edit-sound}
+use Rattle.promise_kept.proofs.Settling.{xs-tiled, new, new-bytes, new-tiled, new-small, new-shut, Changes, edit-kin, edit-sound}
 use Rattle.promise_kept.proofs.Following.{in-order, stbl-moved, same-payloads}
 
 module _ {A : List Box → List Box} (a : Arranges A) (xs ys : List ℕ) (w : Bytes xs) (m : Meets xs) (c : Content xs ys) where
@@ -69,8 +69,8 @@ module _ {A : List Box → List Box} (a : Arranges A) (xs ys : List ℕ) (w : By
       let G = Changes a xs ys w m c in
       let t = edit-sound a xs ys w m c .tables in
       rw (← same-table G t 0 b b′ h STSC (λ z. omega arith) refl (t .stsc), ← same-table G t 0 b b′ h STSZ (λ z. omega arith) refl (t .stsz))
-      (file-samples-kept xs result w (arranged-bytes a mid (new-bytes a xs ys w m c) (new-tiled a xs ys w m c) (new-small a xs ys w m c)) (xs-tiled a xs ys w m c)
-      (arranged-after a mid (new-bytes a xs ys w m c) (new-tiled a xs ys w m c) (new-small a xs ys w m c)) (rw (in-order a xs ys w m c) (same-payloads a xs ys w m c))
+      (file-samples-kept xs result w (arranged-bytes a mid (new-bytes a xs ys w m c) (new-tiled a xs ys w m c) (new-small a xs ys w m c) (new-shut a xs ys w m c)) (xs-tiled a xs ys w m c)
+      (arranged-after a mid (new-bytes a xs ys w m c) (new-tiled a xs ys w m c) (new-small a xs ys w m c) (new-shut a xs ys w m c)) (rw (in-order a xs ys w m c) (same-payloads a xs ys w m c))
       (find STSC (boxes b)) (find STSZ (boxes b)) (find STCO (boxes b)) (find STCO (boxes b′))
       (stbl-moved a xs ys w m c b b′ h) q)
 

@@ -14,6 +14,7 @@ use Rattle.rule_shape.specs.Three.{first}
 use Rattle.edit_move.specs.Moving.{moovSecond}
 use Rattle.edit_move.proofs.Order.{second-length}
 use Rattle.edit_move.proofs.Sifting.{seconded, each-second}
+use Rattle.edit_move.proofs.Shutting.{shut-second}
 use Rattle.edit_move.proofs.Mapping.{second-maps}
 use Rattle.promise_kept.proofs.Arranges.{Arranges}
 
@@ -44,4 +45,4 @@ second-first (x ∷ l) = refl
 
 -- the order of a move
 pub second : Arranges moovSecond
-second = record { each = each-second; span = second-length; payloads = second-payloads; counts = second-counts; first = second-first; movie = second-movie; maps = second-maps }
+second = record { each = each-second; shut = shut-second; span = second-length; payloads = second-payloads; counts = second-counts; first = second-first; movie = second-movie; maps = second-maps }

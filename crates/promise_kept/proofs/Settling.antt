@@ -11,6 +11,7 @@ use Rattle.boxes.specs.Containers.{FILE, DEPTH, LONGEST}
 use Rattle.boxes.specs.Rewrite.{Leaves, editIn}
 use Rattle.boxes.specs.Words.{rewordLeaf}
 use Rattle.boxes.specs.Kin.{All2, Leaf, Kin}
+use Rattle.boxes.proofs.Reading.{All}
 use Rattle.boxes.proofs.Kin.{Then, Made, kin-then, kin-edit}
 use Rattle.boxes.proofs.Editing.{edit-length, edit-bytes}
 use Rattle.boxes.proofs.Wording.{leaf-length, leaf-bytes}
@@ -18,9 +19,10 @@ use Rattle.mdat.specs.Relocate.{relocate, Alike}
 use Rattle.rule_tracks.specs.Six.{sixRule}
 use Rattle.judge.specs.Acceptance.{Meets}
 use Rattle.edit_offsets.specs.Settle.{offsets, settled}
+use Rattle.edit_offsets.proofs.Closing.{ShutMoov}
 use Rattle.edit_offsets.proofs.Accepted.{file-tiled}
 use Rattle.promise_kept.proofs.Sound.{Sound, sound-less, sound-then}
-use Rattle.promise_kept.proofs.Content.{Content}
+use Rattle.promise_kept.proofs.Content.{Content, kin-shut}
 use Rattle.promise_kept.proofs.Knowing.{With, kin-with, short, short-all}
 use Rattle.promise_kept.proofs.Offsets.{offsets-sound}
 use Rattle.promise_kept.proofs.Arranges.{Arranges}
@@ -62,6 +64,13 @@ module _ {A : List Box → List Box} (a : Arranges A) (xs ys : List ℕ) (w : By
   pub new-small : length new < 4294967296
   new-small = omega (arith, new-length, c .small)
 
+  abbrev made : Kin (Made (rewordLeaf offsets (relocate (boxes xs) (A (boxes ys))))) DEPTH FILE ys new
+  made = kin-edit g DEPTH FILE ys (c .bytes) new-small
+
+  -- no `moov` of it is open
+  pub new-shut : All ShutMoov (boxes new)
+  new-shut = kin-shut (made .0) (c .shut)
+
   -- what is known of its boxes
   abbrev pub Changes : Leaf
   Changes = Then (With sixRule (With (short LONGEST) (c .leaf))) (Made (rewordLeaf offsets (relocate (boxes xs) (A (boxes ys)))))
@@ -71,7 +80,7 @@ module _ {A : List Box → List Box} (a : Arranges A) (xs ys : List ℕ) (w : By
   edit-kin =
       kin-then (With sixRule (With (short LONGEST) (c .leaf))) (Made g) DEPTH FILE xs ys new
       (kin-with sixRule (With (short LONGEST) (c .leaf)) DEPTH FILE xs ys (kin-with (short LONGEST) (c .leaf) DEPTH FILE xs ys (c .kin) (short-all LONGEST DEPTH FILE xs (m .most))) (m .six))
-      (kin-edit g DEPTH FILE ys (c .bytes) new-small)
+      made
 
   -- which keeps every rule but 8
   pub edit-sound : Sound Changes
@@ -84,8 +93,8 @@ module _ {A : List Box → List Box} (a : Arranges A) (xs ys : List ℕ) (w : By
   -- the edited file, as boxes that were put in order
   pub settled-is : settled xs (write (A (boxes ys))) ≡ write (A (boxes new))
   unfolding settled
-  settled-is = rw (arranged-boxes a ys (c .bytes) ys-tiled ys-small) (arranged-edit a ys (c .bytes) ys-tiled ys-small g keeps 5 FILE)
+  settled-is = rw (arranged-boxes a ys (c .bytes) ys-tiled ys-small (c .shut)) (arranged-edit a ys (c .bytes) ys-tiled ys-small (c .shut) g keeps 5 FILE)
 
   -- its layout is that of the content
   pub new-alike : All2 Alike (A (boxes ys)) (A (boxes new))
-  new-alike = arranged-alike a ys (c .bytes) ys-tiled ys-small g keeps 5 FILE
+  new-alike = arranged-alike a ys (c .bytes) ys-tiled ys-small (c .shut) g keeps 5 FILE

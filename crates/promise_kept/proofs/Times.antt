@@ -10,13 +10,16 @@ use Rattle.wire.specs.Numbers.{Bytes}
 use Rattle.codes.specs.Codes.{STBL, STCO}
 use Rattle.boxes.specs.Containers.{FILE, DEPTH, LONGEST}
 use Rattle.boxes.specs.Words.{reword}
+use Rattle.boxes.specs.Boxes.{boxes}
+use Rattle.boxes.proofs.Reading.{All}
 use Rattle.boxes.proofs.Kin.{Made, kin-edit}
 use Rattle.boxes.proofs.Wording.{reword-length}
 use Rattle.edit_shift.specs.Shift.{hasTimes, timesLeaf, allTimesBy}
+use Rattle.edit_offsets.proofs.Closing.{ShutMoov}
 use Rattle.edit_shift.proofs.Passing.{all-length, all-bytes}
 use Rattle.promise_kept.proofs.Words.{byte-before, word-behind}
 use Rattle.promise_kept.proofs.Sound.{sound-less}
-use Rattle.promise_kept.proofs.Content.{Content}
+use Rattle.promise_kept.proofs.Content.{Content, kin-shut}
 use Rattle.promise_kept.proofs.Clocked.{Clocked, clocked-same, in-stbl, clocked-sound}
 
 -- what no rule reads of a box, its times by any function
@@ -35,14 +38,16 @@ clocked-made f k c b = go (hasTimes k c) refl
     go false e = clocked-same k c b
 
 -- the times of every header
-pub shift-content : (f : ℕ → ℕ) (xs : List ℕ) → Bytes xs → length xs ≤ LONGEST → Content xs (allTimesBy f xs)
+pub shift-content : (f : ℕ → ℕ) (xs : List ℕ) → Bytes xs → length xs ≤ LONGEST → All ShutMoov (boxes xs) → Content xs (allTimesBy f xs)
 unfolding allTimesBy
-shift-content f xs w n =
+shift-content f xs w n o =
+    let k = kin-edit (timesLeaf f) DEPTH FILE xs w (omega (arith, all-length f xs)) in
     record {
       leaf = Made (timesLeaf f);
-      kin = kin-edit (timesLeaf f) DEPTH FILE xs w (omega (arith, all-length f xs));
+      kin = k;
       sound = sound-less (λ k c b b′ r. rw (r .0) (clocked-made f k c b)) clocked-sound;
       stco = λ b b′ r. in-stbl STCO b b′ (rw (r .0) (clocked-made f STBL STCO b));
+      shut = kin-shut (k .0) o;
       bytes = all-bytes f xs w;
       small = omega (arith, all-length f xs);
     }
