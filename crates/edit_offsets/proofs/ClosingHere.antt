@@ -44,7 +44,7 @@ unfolding count
 others [] h = refl
 others (x ∷ l) h = rw (other-box x (omega arith), others l (omega arith))
 
-one-moov : (p : List Box) (x : Box) (q : List Box) → count MOOV p ≡ 0 → count MOOV q ≡ 0 → map shutBox (p ++ x ∷ q) ≡ p ++ shutBox x ∷ q
+pub one-moov : (p : List Box) (x : Box) (q : List Box) → count MOOV p ≡ 0 → count MOOV q ≡ 0 → map shutBox (p ++ x ∷ q) ≡ p ++ shutBox x ∷ q
 unfolding count
 one-moov [] x q h k = rw (others q k)
 one-moov (y ∷ p) x q h k = rw (other-box y (omega arith), one-moov p x q (omega arith) k)

@@ -1,3 +1,4 @@
+pub mod Shutting
 pub mod Changing
 pub mod Lengths
 pub mod Settling
