@@ -75,9 +75,10 @@ pub fn replaced(out: &mut [u8], file: &[u8], b: BoxAt, p: Place, keep: usize, ne
         high: span,
         less: file.len(),
     };
+    let form = b.form;
     let moov = BoxAt {
         at: b.at,
-        form: b.form,
+        form,
         head: b.head,
         span: b.span + span - file.len(),
         code: b.code,
