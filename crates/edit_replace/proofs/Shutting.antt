@@ -1,24 +1,18 @@
 -- The `moov` that was found in a file stands in the file with its `moov` closed, and all around it is the same. Assumes nothing.
 use Prim.Native.Nat.{ℕ, _+_, _-_, _≤_, _<_}
 use native.Mathlib.Omega.{arith}
-use mathlib.Core.Path.{_≡_, refl, sym, ap, _∙_}
-use mathlib.Core.Bool.{Bool, true, false}
+use mathlib.Core.Path.{_≡_, sym, ap, _∙_}
 use mathlib.Core.List.{List, [], _∷_, _++_, map, append-nil}
-use lib.ListN.{length, take, drop, length-take}
-use lib.Seq.{drop-drop, take-at}
-use Rattle.wire.specs.Tests.{pick}
-use Rattle.wire.specs.Numbers.{Bytes, bytes}
-use Rattle.wire.specs.Writing.{put}
-use Rattle.wire.proofs.Numbers.{length-bytes}
-use Rattle.wire.proofs.Writing.{open-put, drop-put}
+use lib.ListN.{length, take, drop}
+use Rattle.wire.specs.Numbers.{Bytes}
 use Rattle.codes.specs.Codes.{MOOV}
 use Rattle.boxes.specs.declared.walk.BoxAt.{BoxAt}
 use Rattle.boxes.specs.declared.walk.Form.{Form}
-use Rattle.boxes.specs.Box.{Box, isOpen}
+use Rattle.boxes.specs.Box.{isOpen}
 use Rattle.boxes.specs.Boxes.{boxes}
 use Rattle.boxes.specs.Walk.{payload, boxAt}
 use Rattle.boxes.specs.Seek.{count, Cut}
-use Rattle.boxes.specs.Way.{around, boxBy, BoxInside}
+use Rattle.boxes.specs.Way.{around, BoxInside}
 use Rattle.boxes.proofs.Meaning.{meant-is}
 use Rattle.boxes.proofs.Numbered.{count-append}
 use Rattle.judge.specs.Acceptance.{Meets}
@@ -26,26 +20,7 @@ use Rattle.edit_offsets.specs.Close.{shutBox, shutAt, closed, closedAt}
 use Rattle.edit_offsets.proofs.Accepted.{one-moov}
 use Rattle.edit_offsets.proofs.Closing.{shut-head, form-moov, length-closed, boxes-closed, after-closed}
 use Rattle.edit_offsets.proofs.ClosingHere.{closed-file, one-moov as shut-one}
-
--- ---- a part with a size put into it
-
-module _ (xs : List ℕ) (at n : ℕ) (h : at + 8 ≤ length xs) where
-  abbrev sized : Bool → List ℕ
-  sized t = pick t (put xs at (bytes 4 n)) xs
-
-  before-size : (t : Bool) → take at (sized t) ≡ take at xs
-  before-size false = refl
-  before-size true = ap (take at) (open-put xs at (bytes 4 n)) ∙ take-at (take at xs) _ at (rw length-take (omega arith))
-
-  behind-size : (t : Bool) (k : ℕ) → 4 ≤ k → drop (at + k) (sized t) ≡ drop (at + k) xs
-  behind-size false k l = refl
-  behind-size true k l =
-      let e : at + 4 + (k - 4) ≡ at + k = omega arith in
-      let w = length-bytes 4 n in
-      let d : drop (at + 4) (put xs at (bytes 4 n)) ≡ drop (at + 4) xs = rw w at (drop-put xs at (bytes 4 n) (omega arith)) in
-      rw e at (sym (drop-drop (k - 4) (at + 4) (put xs at (bytes 4 n))) ∙ ap (drop (k - 4)) d ∙ drop-drop (k - 4) (at + 4) xs)
-
--- ---- the `moov` b
+use Rattle.edit_replace.proofs.Sized.{before-size, behind-size}
 
 -- a box that a search found lies in its part
 pub cut-inside : {xs : List ℕ} {c n : ℕ} {b : BoxAt} → Cut xs c n b → BoxInside xs b

@@ -22,7 +22,6 @@ use Rattle.entry_rules.specs.Entries.{FRAMES}
 use Rattle.entry_rules.specs.Decoders.{recordRule}
 use Rattle.edit_offsets.specs.Close.{shutAt, closed}
 use Rattle.edit_offsets.specs.Settle.{offsets, settled}
-use Rattle.edit_offsets.proofs.Closing.{bytes-closed}
 use Rattle.edit_offsets.proofs.Settled.{settled-length}
 use Rattle.edit_offsets.proofs.InMoov.{settle-file}
 use Rattle.edit_replace.specs.Replace.{kindAt, recordAt}
@@ -30,9 +29,8 @@ use Rattle.edit_replace.specs.declared.place.Place.{Place}
 use Rattle.edit_replace.specs.Places.{recordThere}
 use Rattle.edit_replace.specs.Fitting.{grown, grownBox, Fits}
 use Rattle.edit_replace.proofs.Taking.{kind-none, record-short}
-use Rattle.edit_replace.proofs.Changing.{record-bytes}
 use Rattle.edit_replace.proofs.Placing.{record-in}
-use Rattle.edit_replace.proofs.Settling.{record-settled, only, there-inside, still}
+use Rattle.edit_replace.proofs.Settling.{record-filled, record-settled, only, there-inside, still}
 
 -- ---- the writing
 
@@ -70,7 +68,7 @@ module _ (xs : List ℕ) (b : BoxAt) (p : Place) (keep : ℕ) (new out : List �
   settle-wrote {r} {mid} {after} s q =
       let e : r ≡ length zs = omega (arith, s .next, ap length text-is) in
       let g = pen-front s (omega (arith, s .next, f .room)) in
-      let k = settle-file (moved (grown b (length zs) (length xs))) zs (drop r out) (record-bytes (f .place .t) (p .nth) keep new (closed xs) w (bytes-closed xs v (omega (arith, f .meets .most))))
+      let k = settle-file (moved (grown b (length zs) (length xs))) zs (drop r out) (record-filled (f .place .t) (p .nth) keep new xs w v (f .meets) few (f .place .moov))
       (only (f .place .t) (p .nth) keep new xs w v (f .meets) few (f .place .moov)) (g .is ∙ ap (λ (ys : List ℕ). ys ++ drop r out) text-is) (rw e at q) in
       let o = record-settled (f .place .t) (p .nth) keep new xs w v (f .meets) few (f .place .moov) in
       rw text-is (record { span = e ∙ sym (settled-length xs zs); is = k ∙ ap (λ (l : List ℕ). l ++ drop r out) o })
