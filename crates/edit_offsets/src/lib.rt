@@ -2,6 +2,7 @@
 use boxes::containers;
 use boxes::walk;
 use boxes::walk::BoxAt;
+use boxes::walk::Form;
 use boxes::words;
 use boxes::words::By;
 use boxes::words::Target;
@@ -14,8 +15,33 @@ ghost use Rattle.codes.specs.Codes.{MOOV};
 ghost use Rattle.boxes.specs.Walk.{payload};
 ghost use Rattle.boxes.specs.Rewrite.{editIn, inBody};
 ghost use Rattle.boxes.specs.Words.{rewordLeaf, moved, Small};
-ghost use Rattle.edit_offsets.specs.Close.{closedAt};
+ghost use Rattle.edit_offsets.specs.Close.{shutForm, shutAt, closedAt};
 ghost use Rattle.edit_offsets.specs.Settle.{offsets};
+
+// A form that says the size.
+fn shut_form(form: Form) -> Form
+    ensures { λ r. ⌜ r ≡ shutForm form ⌝ }
+{
+    match form {
+        Form::Plain => Form::Plain,
+        Form::Wide => Form::Wide,
+        Form::Open => Form::Plain,
+    }
+}
+
+// A `moov` that was found, with a form that says its size.
+pub fn shut(b: BoxAt) -> BoxAt
+    ensures { λ r. ⌜ r ≡ shutAt b ⌝ }
+{
+    let form = b.form;
+    BoxAt {
+        at: b.at,
+        form: shut_form(form),
+        head: b.head,
+        span: b.span,
+        code: b.code,
+    }
+}
 
 // Gives the `moov` b of a part its true size where it stands, if it is open.
 pub fn close(out: &mut [u8], b: BoxAt)

@@ -23,9 +23,11 @@ use Rattle.boxes.proofs.Down.{endOf}
 use Rattle.movie.specs.Ways.{toStsd, follow}
 use Rattle.movie.specs.Movie.{mdia, minf}
 use Rattle.movie.specs.Named.{listIn}
+use Rattle.edit_offsets.specs.Close.{shutAt}
 use Rattle.edit_replace.specs.declared.place.Place.{Place}
 use Rattle.edit_replace.specs.Replace.{turn}
 use Rattle.edit_replace.specs.Places.{Within, wayIn, recordThere, lengthIn}
+use Rattle.edit_replace.proofs.Shutting.{cut-inside, shut-inside}
 use Rattle.edit_replace.proofs.Changing.{toEntry}
 
 -- ---- one box: the part grows by as much as its body
@@ -47,7 +49,7 @@ around-grows : (xs : List ℕ) (b : BoxAt) (ys : List ℕ) → BoxInside xs b �
 unfolding around
 around-grows xs b ys i =
     let n = payload-length xs b (i .least) (i .inside) in
-    rw (length-append, length-append, length-boxBy, length-drop, length-take) (omega (arith, i .eight, i .least, i .inside))
+    rw (length-append, length-append, length-boxBy, length-drop, length-take) (omega (arith, i .head, i .least, i .inside))
 
 -- ---- a way to what isn't empty
 
@@ -66,10 +68,6 @@ way-grows (t ∷ w) h xs l =
     rw length-append (omega (arith, way-grows w h z l, over-grows (t .code) (t .nth) (λ us. editWay w h us) ys p, length-take (t .skip) xs, length-drop (t .skip) xs))
 
 -- ---- the file
-
--- a box that a search found lies in its part
-pub cut-inside : {xs : List ℕ} {c n : ℕ} {b : BoxAt} → Cut xs c n b → BoxInside xs b
-cut-inside s = record { eight = s .eight; least = s .least; inside = s .inside }
 
 module _ (n keep : ℕ) (new ys : List ℕ) {e : BoxAt} (c : Cut (listIn ys) ANY n e) where
   abbrev stsd : List ℕ
@@ -107,16 +105,16 @@ module _ (xs : List ℕ) (b : BoxAt) (p : Place) (i : Within xs b p) where
   abbrev trak : List ℕ
   trak = payload moov (p .trak)
 
-  pub entry-fits : (8 ≤ p .entry .span) × (p .entry .span ≤ length xs)
+  pub entry-fits : (p .entry .head ≤ p .entry .span) × (p .entry .span ≤ length xs)
   entry-fits =
       let e = i .place .entry in
       let m = payload-length xs b (i .moov .least) (i .moov .inside) in
       let t = payload-length moov (p .trak) (i .place .trak .least) (i .place .trak .inside) in
-      (omega (arith, e .least, e .eight), omega (arith, stsd-length (p .nth) 0 [] trak e .1, follow-short trak, m, t, i .moov .inside, i .place .trak .inside))
+      (e .least, omega (arith, stsd-length (p .nth) 0 [] trak e .1, follow-short trak, m, t, i .moov .inside, i .place .trak .inside))
 
-  pub length-in : (keep : ℕ) (new : List ℕ) → lengthIn (length xs) (p .entry) keep (length new) ≡ length (recordThere xs b p keep new)
+  pub length-in : (keep : ℕ) (new : List ℕ) → lengthIn (length xs) (p .entry) keep (length new) ≡ length (recordThere xs (shutAt b) p keep new)
   unfolding recordThere
   length-in keep new =
       let made : List ℕ = editWay (wayIn (p .nth)) (tailBy keep new) trak in
       let z : List ℕ = around moov (p .trak) made in
-      omega (arith, around-grows xs b z (cut-inside (i .moov)), around-grows moov (p .trak) made (cut-inside (i .place .trak)), track-grows (p .nth) keep new trak (i .place .entry), entry-fits .1, i .place .entry .eight)
+      omega (arith, around-grows xs (shutAt b) z (shut-inside (cut-inside (i .moov))), around-grows moov (p .trak) made (cut-inside (i .place .trak)), track-grows (p .nth) keep new trak (i .place .entry), entry-fits .1, i .place .entry .least)

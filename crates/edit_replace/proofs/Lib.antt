@@ -1,3 +1,6 @@
+pub mod Sized
+pub mod Shutting
+pub mod Standing
 pub mod Changing
 pub mod Lengths
 pub mod Settling

@@ -11,7 +11,7 @@ use Rattle.wire.proofs.Tests.{eq-nay}
 use Rattle.wire.proofs.Numbers.{length-bytes, word-right, word-bytes}
 use Rattle.codes.specs.Codes.{MOOV, TRAK}
 use Rattle.boxes.specs.declared.walk.BoxAt.{BoxAt}
-use Rattle.boxes.specs.Box.{Box, size, header}
+use Rattle.boxes.specs.Box.{Box, fieldOf, moreOf, size, header}
 use Rattle.boxes.specs.Boxes.{HEAD, boxes}
 use Rattle.boxes.specs.Walk.{payload, boxAt}
 use Rattle.boxes.specs.Seek.{ANY, find, nth, startIn, Cut}
@@ -36,6 +36,8 @@ use Rattle.rule.specs.declared.Answer.{Answer}
 use Rattle.rule.specs.declared.Answer.the-variants.{Refused}
 use Rattle.rule.specs.Results.{Exact}
 use Rattle.rule.proofs.Results.{test-nay}
+use Rattle.judge.specs.Acceptance.{Meets}
+use Rattle.edit_offsets.specs.Close.{shutAt, closed}
 use Rattle.edit_offsets.specs.Settle.{settled}
 use Rattle.edit_replace.specs.declared.place.Place.{Place}
 use Rattle.edit_replace.specs.declared.place.Placing.{Placing}
@@ -43,6 +45,7 @@ use Rattle.edit_replace.specs.declared.place.Placing.the-variants.{At, N
 use Rattle.edit_replace.specs.Replace.{kindAt, recordCode, takes, recordAt, recordReplaced, replaceOf}
 use Rattle.edit_replace.specs.Places.{PlaceIn, InTrackAs, PlaceOf, InMoovAs, Found, FoundAs, Within, wayIn, recordThere, placeText, placeResult}
 use Rattle.edit_replace.specs.Fitting.{entryResult}
+use Rattle.edit_replace.proofs.Shutting.{payload-is, around-is, cut-shut}
 use Rattle.edit_replace.proofs.Taking.{kind-none, takes-none}
 
 -- ---- as code finds it
@@ -81,11 +84,13 @@ module _ (ys : List ℕ) where
 
 -- ---- what is written there
 
-pub record-in : (xs : List ℕ) (b : BoxAt) (p : Place) (i : Within xs b p) (keep : ℕ) (new : List ℕ) → recordThere xs b p keep new ≡ recordAt (In (i .t) (p .nth)) keep new xs
+pub record-in : (xs : List ℕ) (b : BoxAt) (p : Place) (i : Within xs b p) (keep : ℕ) (new : List ℕ) → Bytes xs → Meets xs → recordThere xs (shutAt b) p keep new ≡ recordAt (In (i .t) (p .nth)) keep new (closed xs)
 unfolding recordThere editWay overTurn
-record-in xs b p i keep new =
+record-in xs b p i keep new v m =
     let g : List ℕ → List ℕ = λ ys. editWay (wayIn (p .nth)) (tailBy keep new) ys in
-    ap (around xs b) (nth-at TRAK (i .t) g (payload xs b) (i .place .trak)) ∙ nth-at MOOV 0 (λ ys. overNth TRAK (i .t) g ys) xs (i .moov)
+    let h : List ℕ → List ℕ = λ ys. overNth TRAK (i .t) g ys in
+    ap (around xs (shutAt b)) (nth-at TRAK (i .t) g (payload xs b) (i .place .trak)) ∙ around-is xs v m (i .moov) (h (payload xs b))
+    ∙ ap (λ (ys : List ℕ). around (closed xs) (shutAt b) (h ys)) (sym (payload-is xs v m (i .moov))) ∙ nth-at MOOV 0 h (closed xs) (cut-shut xs v m (i .moov))
 
 -- ---- the entry there is entry i
 
@@ -101,7 +106,7 @@ module _ (xs : List ℕ) (i : ℕ) (new : List ℕ) {b : BoxAt} (c : Cut xs MOOV
     unfolding track
     track-is = cut-payload (payload xs b) TRAK (f .t) (p .trak) (f .place .trak) ∙ ap (λ (ys : List ℕ). nth TRAK (f .t) (boxes ys)) moov-is
 
-    module _ (v : Bytes xs) (z : i ≡ 0 → ⊥) where
+    module _ (v : Bytes xs) (m : Meets xs) (z : i ≡ 0 → ⊥) where
       entry-cut : Cut (listIn (track xs (f .t))) ANY (p .nth) (p .entry)
       entry-cut = rw track-is at (f .place .entry)
 
@@ -116,7 +121,10 @@ module _ (xs : List ℕ) (i : ℕ) (new : List ℕ) {b : BoxAt} (c : Cut xs MOOV
 
       code-is : word 4 (header x ++ x .body) 4 ≡ x .code
       unfolding header
-      code-is = rw append-assoc (word-right 4 (bytes 4 (size x)) (bytes 4 (x .code) ++ x .body) 4 0 (length-bytes 4 (size x)) ∙ word-bytes 4 (x .code) (x .body) (good .code))
+      code-is =
+          let n : ℕ = fieldOf (x .form) (size x) in
+          let more : List ℕ = moreOf (x .form) (size x) ++ x .body in
+          rw (append-assoc, append-assoc) (word-right 4 (bytes 4 n) (bytes 4 (x .code) ++ more) 4 0 (length-bytes 4 n) ∙ word-bytes 4 (x .code) more (good .code))
 
       kind-is : kindOf (p .entry .code) ≡ kindAt xs i
       unfolding kindAt
@@ -127,9 +135,9 @@ module _ (xs : List ℕ) (i : ℕ) (new : List ℕ) {b : BoxAt} (c : Cut xs MOOV
       text-is =
           let q = startIn MOOV 0 (boxes xs) in
           let n : ℕ = headSize (kindAt xs i) - HEAD in
-          let a : recordThere xs b p n new ≡ recordAt (In (f .t) (p .nth)) n new xs = record-in xs b p (record { t = f .t; moov = c; place = f .place }) n new in
+          let a : recordThere xs (shutAt b) p n new ≡ recordAt (In (f .t) (p .nth)) n new (closed xs) = record-in xs b p (record { t = f .t; moov = c; place = f .place }) n new v m in
           let u : In (f .t) (p .nth) ≡ spotIn (stsds xs) (i - 1) = f .spot q ∙ ap (λ (m : List ℕ). spotIn (stsdsFrom 0 (boxes m) q) (i - 1)) moov-is in
-          ap (settled xs) a ∙ ap (λ (s : Spot). settled xs (recordAt s n new xs)) u
+          ap (settled xs) a ∙ ap (λ (s : Spot). settled xs (recordAt s n new (closed xs))) u
 
       pub place-exact : {out left : List ℕ} {r : Answer} → Exact (placeResult xs b p (kindOf (p .entry .code)) new) out r left → Exact (entryResult xs i new) out r left
       unfolding placeResult entryResult

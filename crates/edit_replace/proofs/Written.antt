@@ -20,6 +20,7 @@ use Rattle.movie.specs.Entries.{entries}
 use Rattle.entry_heads.specs.Heads.{headSize}
 use Rattle.entry_rules.specs.Entries.{FRAMES}
 use Rattle.entry_rules.specs.Decoders.{recordRule}
+use Rattle.edit_offsets.specs.Close.{shutAt, closed}
 use Rattle.edit_offsets.specs.Settle.{offsets, settled}
 use Rattle.edit_offsets.proofs.Settled.{settled-length}
 use Rattle.edit_offsets.proofs.InMoov.{settle-file}
@@ -28,46 +29,48 @@ use Rattle.edit_replace.specs.declared.place.Place.{Place}
 use Rattle.edit_replace.specs.Places.{recordThere}
 use Rattle.edit_replace.specs.Fitting.{grown, grownBox, Fits}
 use Rattle.edit_replace.proofs.Taking.{kind-none, record-short}
-use Rattle.edit_replace.proofs.Changing.{record-bytes}
 use Rattle.edit_replace.proofs.Placing.{record-in}
-use Rattle.edit_replace.proofs.Settling.{record-settled, only, there-inside, still}
+use Rattle.edit_replace.proofs.Settling.{record-filled, record-settled, only, there-inside, still}
 
 -- ---- the writing
 
 module _ (xs : List ℕ) (b : BoxAt) (p : Place) (keep : ℕ) (new out : List ℕ) (f : Fits xs b p keep new out) (v : Bytes xs) (w : Bytes new) where
-  abbrev zs : List ℕ
-  zs = recordAt (In (f .place .t) (p .nth)) keep new xs
+  abbrev text : List ℕ
+  text = recordThere xs (shutAt b) p keep new
 
-  text-is : recordThere xs b p keep new ≡ zs
-  text-is = record-in xs b p (f .place) keep new
+  abbrev zs : List ℕ
+  zs = recordAt (In (f .place .t) (p .nth)) keep new (closed xs)
+
+  text-is : text ≡ zs
+  text-is = record-in xs b p (f .place) keep new v (f .meets)
 
   few : length zs < 4294967296
   few = omega (arith, f .most, ap length text-is)
 
   -- where `moov` then stands
-  pub settle-room : {r : ℕ} {mid : List ℕ} → Put (recordThere xs b p keep new) out 0 r mid
+  pub settle-room : {r : ℕ} {mid : List ℕ} → Put text out 0 r mid
       → (b .head ≤ grownBox b r (length xs) .span) × (b .at + grownBox b r (length xs) .span ≤ length mid) × (length xs ≤ b .span + r) × (r ≤ LONGEST)
   settle-room s =
-      let i = there-inside (f .place .t) (p .nth) keep new xs w v few (f .place .moov) in
+      let i = there-inside (f .place .t) (p .nth) keep new xs w v (f .meets) few (f .place .moov) in
       let e = ap length text-is in
       (omega (arith, i .0, s .next), omega (arith, i .1, s .next, s .same, f .room), omega (arith, i .2, s .next), omega (arith, s .next, f .most))
 
   -- written, and nothing moved
-  pub still-wrote : {r : ℕ} {mid : List ℕ} → Put (recordThere xs b p keep new) out 0 r mid → r ≡ length xs → Wrote (settled xs (recordThere xs b p keep new)) out r mid
+  pub still-wrote : {r : ℕ} {mid : List ℕ} → Put text out 0 r mid → r ≡ length xs → Wrote (settled xs text) out r mid
   still-wrote s e =
-      let q : settled xs zs ≡ zs = still (f .place .t) (p .nth) keep new xs w v few (f .place .moov) (omega (arith, s .next, ap length text-is)) in
+      let q : settled xs zs ≡ zs = still (f .place .t) (p .nth) keep new xs w v (f .meets) few (f .place .moov) (omega (arith, s .next, ap length text-is)) in
       rw (text-is, q) (rw text-is at (pen-front s (omega (arith, s .next, f .room))))
 
   -- written and then settled there
-  pub settle-wrote : {r : ℕ} {mid after : List ℕ} → Put (recordThere xs b p keep new) out 0 r mid
-      → after ≡ inBody mid (grownBox b r (length xs)) (editIn (rewordLeaf offsets (moved (grown b r (length xs)))) 5 MOOV (payload mid (grownBox b r (length xs))))
-      → Wrote (settled xs (recordThere xs b p keep new)) out r after
+  pub settle-wrote : {r : ℕ} {mid after : List ℕ} → Put text out 0 r mid
+      → after ≡ inBody mid (grownBox (shutAt b) r (length xs)) (editIn (rewordLeaf offsets (moved (grown b r (length xs)))) 5 MOOV (payload mid (grownBox b r (length xs))))
+      → Wrote (settled xs text) out r after
   settle-wrote {r} {mid} {after} s q =
       let e : r ≡ length zs = omega (arith, s .next, ap length text-is) in
       let g = pen-front s (omega (arith, s .next, f .room)) in
-      let k = settle-file (moved (grown b (length zs) (length xs))) zs (drop r out) (record-bytes (f .place .t) (p .nth) keep new xs w v) (only (f .place .t) (p .nth) keep new xs w v few (f .place .moov) (f .meets))
-      (g .is ∙ ap (λ (ys : List ℕ). ys ++ drop r out) text-is) (rw e at q) in
-      let o = record-settled (f .place .t) (p .nth) keep new xs w v few (f .place .moov) (f .meets) in
+      let k = settle-file (moved (grown b (length zs) (length xs))) zs (drop r out) (record-filled (f .place .t) (p .nth) keep new xs w v (f .meets) few (f .place .moov))
+      (only (f .place .t) (p .nth) keep new xs w v (f .meets) few (f .place .moov)) (g .is ∙ ap (λ (ys : List ℕ). ys ++ drop r out) text-is) (rw e at q) in
+      let o = record-settled (f .place .t) (p .nth) keep new xs w v (f .meets) few (f .place .moov) in
       rw text-is (record { span = e ∙ sym (settled-length xs zs); is = k ∙ ap (λ (l : List ℕ). l ++ drop r out) o })
 
 -- ---- the entry

@@ -10,6 +10,7 @@ use Rattle.entry_rules.specs.Decoders.{recordRule}
 use Rattle.rule.specs.Results.{Result, asked, inLimit}
 use Rattle.rule.specs.Results.Result.{gives}
 use Rattle.judge.specs.Acceptance.{Meets, editable}
+use Rattle.edit_offsets.specs.Close.{shutAt}
 use Rattle.edit_replace.specs.declared.place.Place.{Place}
 use Rattle.edit_replace.specs.Replace.{kindAt, takes, replaceOf}
 use Rattle.edit_replace.specs.Places.{recordThere, Within}
@@ -19,8 +20,8 @@ pub record Fits (xs : List ℕ) (b : BoxAt) (p : Place) (keep : ℕ) (new out : 
   pub meets : Meets xs
   pub place : Within xs b p
   pub short : length new ≤ 31
-  pub most : length (recordThere xs b p keep new) ≤ LONGEST
-  pub room : length (recordThere xs b p keep new) ≤ length out
+  pub most : length (recordThere xs (shutAt b) p keep new) ≤ LONGEST
+  pub room : length (recordThere xs (shutAt b) p keep new) ≤ length out
 
 -- past the box b a chunk offset moves by as much as a file of m bytes grows to n
 abbrev pub grown : BoxAt → ℕ → ℕ → By
@@ -28,7 +29,7 @@ grown b n m = record { limit = b .at + b .span; low = 0; high = n; less = m }
 
 -- and such a box grows by as much
 abbrev pub grownBox : BoxAt → ℕ → ℕ → BoxAt
-grownBox b n m = record { at = b .at; head = b .head; span = b .span + n - m; code = b .code }
+grownBox b n m = record { at = b .at; form = b .form; head = b .head; span = b .span + n - m; code = b .code }
 
 -- of an accepted file
 unfoldable pub entryResult : List ℕ → ℕ → List ℕ → Result

@@ -21,6 +21,7 @@ use Rattle.entry_rules.specs.Decoders.{recordRule}
 use Rattle.rule.specs.Results.{Result, asked, inLimit}
 use Rattle.rule.specs.Results.Result.{gives}
 use Rattle.judge.specs.Acceptance.{editable}
+use Rattle.edit_offsets.specs.Close.{shutAt}
 use Rattle.edit_offsets.specs.Settle.{settled}
 use Rattle.edit_replace.specs.declared.place.Place.{Place}
 use Rattle.edit_replace.specs.declared.place.Placing.{Placing}
@@ -72,18 +73,18 @@ pub record Within (xs : List ℕ) (b : BoxAt) (p : Place) : Type 0 where
 abbrev pub wayIn : ℕ → List Turn
 wayIn n = map (λ c. turn c 0) toStsd ++ (record { skip = FRONT; code = ANY; nth = n } ∷ [])
 
--- the file with another record
+-- the file with another record, its `moov` written by the form of b
 unfoldable pub recordThere : List ℕ → BoxAt → Place → ℕ → List ℕ → List ℕ
 recordThere xs b p keep new = around xs b (around (payload xs b) (p .trak) (editWay (wayIn (p .nth)) (tailBy keep new) (payload (payload xs b) (p .trak))))
 
 -- its length, by that of the file and of the entry
 abbrev pub lengthIn : ℕ → BoxAt → ℕ → ℕ → ℕ
-lengthIn m e keep n = m - (e .span - HEAD) + (min keep (e .span - HEAD) + n)
+lengthIn m e keep n = m - (e .span - e .head) + (min keep (e .span - e .head) + n)
 
 -- ---- the answer, by the kind of the entry there
 
 unfoldable pub placeText : List ℕ → BoxAt → Place → ℕ → List ℕ → List ℕ
-placeText xs b p kind new = settled xs (recordThere xs b p (headSize kind - HEAD) new)
+placeText xs b p kind new = settled xs (recordThere xs (shutAt b) p (headSize kind - HEAD) new)
 
 unfoldable pub placeResult : List ℕ → BoxAt → Place → ℕ → List ℕ → Result
 placeResult xs b p kind new =

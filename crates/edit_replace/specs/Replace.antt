@@ -25,6 +25,7 @@ use Rattle.entry_rules.specs.Decoders.{recordRule}
 use Rattle.rule.specs.Results.{Result, inLimit}
 use Rattle.judge.specs.Calls.{resultOn}
 use Rattle.judge.specs.Acceptance.{editable}
+use Rattle.edit_offsets.specs.Close.{closed}
 use Rattle.edit_offsets.specs.Settle.{settled}
 
 -- ---- the entry
@@ -51,8 +52,9 @@ abbrev pub recordAt : Spot → ℕ → List ℕ → List ℕ → List ℕ
 recordAt (In t n) keep new xs = editWay (wayTo t n) (tailBy keep new) xs
 recordAt Past keep new xs = xs
 
+-- in the file with its `moov` closed, where every entry stands as in the file
 unfoldable pub recordReplaced : List ℕ → ℕ → List ℕ → List ℕ
-recordReplaced xs i new = recordAt (spotIn (stsds xs) (i - 1)) (headSize (kindAt xs i) - HEAD) new xs
+recordReplaced xs i new = recordAt (spotIn (stsds xs) (i - 1)) (headSize (kindAt xs i) - HEAD) new (closed xs)
 
 unfoldable pub replaceOf : List ℕ → ℕ → List ℕ → List ℕ
 replaceOf xs i new = settled xs (recordReplaced xs i new)

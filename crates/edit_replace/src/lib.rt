@@ -24,6 +24,7 @@ ghost use Rattle.entry_heads.specs.Kinds.{kindOf};
 ghost use Rattle.rule.specs.Results.{asked, inLimit, Exact};
 ghost use Rattle.rule.specs.Results.Result.{gives};
 ghost use Rattle.judge.specs.Acceptance.{Meets};
+ghost use Rattle.edit_offsets.specs.Close.{shutAt};
 ghost use Rattle.edit_offsets.specs.Settle.{settled};
 ghost use Rattle.edit_replace.specs.Replace.{replaceResult};
 ghost use Rattle.edit_replace.specs.Places.{Within, recordThere, placeResult};
@@ -32,7 +33,7 @@ ghost use Rattle.edit_replace.specs.Fitting.{entryResult};
 // At a place in the `moov` b of a file that an edit takes: 24, 25, or the result is written.
 fn replace_at(file: &[u8], b: BoxAt, p: Place, keep: usize, new: &[u8], out: &mut [u8]) -> Answer
     requires { ⌜ (Meets (now file)) × (Within (now file) b p) × (length (now new) ≤ 31) ⌝ }
-    ensures { λ r. ⌜ Exact (asked ((24, inLimit (settled (now (file .entry)) (recordThere (now (file .entry)) b p keep (now (new .entry))))) ∷ []) (gives (settled (now (file .entry)) (recordThere (now (file .entry)) b p keep (now (new .entry)))))) (now (out .entry)) r (now (out .exit)) ⌝ }
+    ensures { λ r. ⌜ Exact (asked ((24, inLimit (settled (now (file .entry)) (recordThere (now (file .entry)) (shutAt b) p keep (now (new .entry))))) ∷ []) (gives (settled (now (file .entry)) (recordThere (now (file .entry)) (shutAt b) p keep (now (new .entry)))))) (now (out .entry)) r (now (out .exit)) ⌝ }
 {
     let span = write::result_length(file, p.entry, keep, new);
     if containers::LONGEST < span {

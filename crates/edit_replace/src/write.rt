@@ -10,10 +10,10 @@ ghost use mathlib.Core.Path.{_≡_};
 ghost use Prim.Native.Nat.{_≤_};
 ghost use lib.ListN.{length as lengthOf};
 ghost use Rattle.wire.specs.Writing.{Wrote, Put};
-ghost use Rattle.boxes.specs.Boxes.{HEAD};
 ghost use Rattle.boxes.specs.Containers.{LONGEST};
 ghost use Rattle.boxes.specs.Walk.{payload};
 ghost use Rattle.boxes.specs.Way.{BoxInside, turns};
+ghost use Rattle.edit_offsets.specs.Close.{shutAt};
 ghost use Rattle.edit_offsets.specs.Settle.{settled};
 ghost use Rattle.edit_replace.specs.Places.{wayIn, recordThere, lengthIn};
 ghost use Rattle.edit_replace.specs.Fitting.{Fits};
@@ -52,18 +52,19 @@ fn put_record(out: &mut [u8], file: &[u8], b: BoxAt, p: Place, keep: usize, new:
 
 // The length of a file with another record in its entry e: what stood behind the first `keep` bytes of its payload goes.
 pub fn result_length(file: &[u8], e: BoxAt, keep: usize, new: &[u8]) -> usize
-    requires { ⌜ (HEAD ≤ e .span) × (e .span ≤ lengthOf (now file)) × (lengthOf (now file) ≤ LONGEST) × (lengthOf (now new) ≤ 31) ⌝ }
+    requires { ⌜ (e .head ≤ e .span) × (e .span ≤ lengthOf (now file)) × (lengthOf (now file) ≤ LONGEST) × (lengthOf (now new) ≤ 31) ⌝ }
     ensures { λ r. ⌜ r ≡ lengthIn (lengthOf (now (file .entry))) e keep (lengthOf (now (new .entry))) ⌝ }
 {
-    let body = e.span - walk::HEAD;
+    let body = e.span - e.head;
     file.len() - body + (number::least(keep, body) + new.len())
 }
 
 // Writes the file with another record, and answers its length: a chunk offset past `moov` moves by as much as the file grows, if it does.
 pub fn replaced(out: &mut [u8], file: &[u8], b: BoxAt, p: Place, keep: usize, new: &[u8]) -> usize
     requires { ⌜ Fits (now file) b p keep (now new) (now out) ⌝ }
-    ensures { λ r. ⌜ Wrote (settled (now (file .entry)) (recordThere (now (file .entry)) b p keep (now (new .entry)))) (now (out .entry)) r (now (out .exit)) ⌝ }
+    ensures { λ r. ⌜ Wrote (settled (now (file .entry)) (recordThere (now (file .entry)) (shutAt b) p keep (now (new .entry)))) (now (out .entry)) r (now (out .exit)) ⌝ }
 {
+    let b = edit_offsets::shut(b);
     let span = put_record(out, file, b, p, keep, new);
     if span == file.len() {
         return span;
@@ -74,8 +75,10 @@ pub fn replaced(out: &mut [u8], file: &[u8], b: BoxAt, p: Place, keep: usize, ne
         high: span,
         less: file.len(),
     };
+    let form = b.form;
     let moov = BoxAt {
         at: b.at,
+        form,
         head: b.head,
         span: b.span + span - file.len(),
         code: b.code,

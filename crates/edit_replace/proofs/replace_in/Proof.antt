@@ -18,5 +18,5 @@ replace-in-spec = tie.close (tie.spec
     (λ c κs. let s = c .before .before .before .before .before .before .before .before .before .before in (s .pre .0, within _ (s .args .i) (s .args .new .now) (s .pre .1) (found-at _ _ _ (rw (c .before .before .before .before .before .body .ensures) at (c .before .before .before .before .find .ensures)) _ (c .before .before .p .given .1))))
     (λ c. search needs)
     (λ c. search needs)
-    (λ c. let s = c .before .before .before .before .before .before .before .before .before .before .before .before .before in place-exact _ (s .args .i) _ (s .pre .1) (found-at _ _ _ (rw (c .before .before .before .before .before .before .before .before .body .ensures) at (c .before .before .before .before .before .before .before .find .ensures)) _ (c .before .before .before .before .before .p .given .1)) (λ i. c .before .before .before .before .before .before .before .before .before .before .before .before .shared-slice-known .given i .fits) (omega arith) (c .before .before .replace-entry .ensures))
+    (λ c. let s = c .before .before .before .before .before .before .before .before .before .before .before .before .before in place-exact _ (s .args .i) _ (s .pre .1) (found-at _ _ _ (rw (c .before .before .before .before .before .before .before .before .body .ensures) at (c .before .before .before .before .before .before .before .find .ensures)) _ (c .before .before .before .before .before .p .given .1)) (λ i. c .before .before .before .before .before .before .before .before .before .before .before .before .shared-slice-known .given i .fits) (s .pre .0) (omega arith) (c .before .before .replace-entry .ensures))
     (λ c. let s = c .before .before .before .before .before .before .before .before in nowhere-exact _ (s .args .i) _ (s .pre .1) _ (rw (c .before .before .before .body .ensures) at (c .before .before .find .ensures)) (c .enum-told .given .1) _))
