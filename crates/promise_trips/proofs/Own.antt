@@ -1,15 +1,15 @@
--- Of the entries of a file, those of one track are the boxes that its `stsd` lists, and their table is that box. Assumes nothing.
+-- Of the entries of a file, those of one track are the boxes that its `stsd` lists, and their table is that box under a plain header. Assumes nothing.
 use Prim.Native.Nat.{ℕ, zero, suc, _+_, _≤_, _<_}
 use native.Mathlib.Omega.{arith}
-use mathlib.Core.Path.{_≡_, refl, sym, ap, _∙_}
+use mathlib.Core.Path.{_≡_, refl, sym, ap}
 use mathlib.Core.List.{List, [], _∷_, _++_, append-nil}
 use lib.ListN.{length, take, drop}
 use Rattle.codes.specs.Codes.{STSD}
 use Rattle.wire.proofs.Tests.{eq-yea, eq-nay, through}
+use Rattle.boxes.specs.declared.walk.Form.the-variants.{Plain}
 use Rattle.boxes.specs.Box.{Box, size, header}
-use Rattle.boxes.specs.Boxes.{HEAD, FRONT}
+use Rattle.boxes.specs.Boxes.{FRONT}
 use Rattle.boxes.specs.Way.{boxBy}
-use Rattle.boxes.proofs.Turning.{length-boxBy}
 use Rattle.movie.specs.Stsds.{Stsd, standing}
 use Rattle.movie.specs.Entries.{Entry, entriesFrom, entriesOf, entriesIn}
 use Rattle.movie.proofs.Stsds.{Each}
@@ -47,11 +47,10 @@ not-of : (s : Stsd) (u : ℕ) → (s .track ≡ u → ⊥) → ownEntries u (ent
 unfolding entriesOf
 not-of s u h = not-from (s .track) u _ _ h
 
--- it is written back as it stands
-of-stands : {xs : List ℕ} (s : Stsd) → Described xs s → table (entriesOf s) ≡ take (HEAD + length (s .body)) (drop (s .place) xs)
-unfolding entriesOf boxBy
-of-stands s d =
-    table-written (s .body) (d .filled) (d .listed) (s .track) (s .place + HEAD + FRONT) ∙ sym (d .lies .is) ∙ rw (length-boxBy STSD (s .body))
+-- it is written back as its payload stands, under a plain header
+of-stands : {xs : List ℕ} (s : Stsd) → Described xs s → table (entriesOf s) ≡ boxBy Plain STSD (take (length (s .body)) (drop (s .start) xs))
+unfolding entriesOf
+of-stands s d = rw (d .lies .is) (table-written (s .body) (d .filled) (d .listed) (s .track) (s .start + FRONT))
 
 -- ---- all of them
 
@@ -67,7 +66,7 @@ module _ {xs : List ℕ} where
   not-there u none h = refl
   not-there u (more {t} {s} {l} e d a) h = rw (own-append u (entriesOf s) (entriesIn l), not-of s u (λ z. omega arith)) (not-there u a (omega arith))
 
-  -- after t tracks, those of track n from there on: there are some, and their table is what stands at the place of its `stsd`
+  -- after t tracks, those of track n from there on: there are some, and their table is what stands as the payload of its `stsd`, under a plain header
   pub own-at : (n u : ℕ) {t : ℕ} {l : List Stsd} → Each (Described xs) t l → n < length l → u ≡ t + 1 + n → (1 ≤ length (ownEntries u (entriesIn l))) × (table (ownEntries u (entriesIn l)) ≡ standing xs l n)
   unfolding entriesIn standing
   own-at n u none h q = absurd (omega arith)

@@ -1,20 +1,22 @@
--- An accepted file's own sheet has the form, and the tables written from it are the file's. Assumes nothing.
+-- An accepted file's own sheet has the form, and the tables written from it are the file's, under plain headers. Assumes nothing.
 use Prim.Native.Nat.{ℕ, _-_, _≤_, _<_}
 use native.Mathlib.Omega.{arith}
-use mathlib.Core.Path.{_≡_, _∙_}
+use mathlib.Core.Path.{_≡_, sym, _∙_}
 use mathlib.Core.Bool.{true}
 use mathlib.Core.List.{List, []}
 use mathlib.Core.Logic.{_⊎_, ⊎-elim}
-use lib.ListN.{length, length-take, length-drop}
+use lib.ListN.{length}
 use Rattle.codes.specs.Codes.{STSD}
 use Rattle.wire.specs.Numbers.{Bytes}
+use Rattle.boxes.specs.declared.walk.Form.the-variants.{Plain}
 use Rattle.boxes.specs.Containers.{LONGEST}
 use Rattle.boxes.specs.Way.{boxBy}
+use Rattle.boxes.proofs.Whole.{head-least}
 use Rattle.boxes.proofs.Turning.{length-boxBy}
-use Rattle.movie.specs.Ways.{toStsd, follow}
 use Rattle.movie.specs.Movie.{tracks, track, sampleTable}
 use Rattle.movie.specs.Stsds.{stsds, standing}
 use Rattle.movie.specs.Entries.{entries}
+use Rattle.movie.specs.Named.{stsdAt}
 use Rattle.movie.proofs.Stsds.{standing-at}
 use Rattle.rule_shape.proofs.Descent.{tracks-few}
 use Rattle.judge.specs.Acceptance.{Meets}
@@ -24,7 +26,7 @@ use Rattle.sheet.proofs.Accepted.{accepted-fits}
 use Rattle.sheet_table.specs.Form.{unsheet, formed}
 use Rattle.sheet_table.specs.Table.{ownEntries, table, trackTable}
 use Rattle.sheet_table.proofs.RoundTrip.{AllSmall, unsheet-sheet, formed-sheet}
-use Rattle.promise_trips.proofs.Track.{described-at, all-described}
+use Rattle.promise_trips.proofs.Track.{stsdForm, atPlace, described-at, all-described}
 use Rattle.promise_trips.proofs.Tracks.{length-stsds, all-steps, all-meet, all-some}
 use Rattle.promise_trips.proofs.Small.{all-small}
 use Rattle.promise_trips.proofs.Own.{not-after, not-there, own-at}
@@ -60,18 +62,26 @@ module _ (xs : List ℕ) (m : Meets xs) (v : Bytes xs) where
     pub own-some : 1 ≤ length (ownEntries t (entries xs))
     own-some = own-t .0
 
-    -- the table that is written from it is what stands in the file at the place of that track's `stsd`
+    -- the table that is written from it is what stands in the file as the payload of that track's `stsd`, under a plain header
     pub table-returns : trackTable SLOTS (sheetOf xs) t ≡ standing xs (stsds xs) (t - 1)
     unfolding trackTable
     table-returns = rw own-unsheet (own-t .1)
 
     -- and that is the box
-    pub standing-box : standing xs (stsds xs) (t - 1) ≡ boxBy STSD (sampleTable STSD (track xs (t - 1)))
+    pub standing-box : standing xs (stsds xs) (t - 1) ≡ boxBy Plain STSD (sampleTable STSD (track xs (t - 1)))
     unfolding sampleTable
     standing-box =
-        let d = described-at xs m v (t - 1) (omega arith) in
-        standing-at xs (t - 1) (omega arith) ∙ rw (length-boxBy STSD (follow toStsd (track xs (t - 1)))) at (d .lies .is)
+        standing-at xs (t - 1) (omega arith) ∙ rw (described-at xs m v (t - 1) (omega arith) .lies .is)
+
+    -- the very bytes at its place, where its own header is plain
+    pub standing-plain : stsdForm (track xs (t - 1)) ≡ Plain → standing xs (stsds xs) (t - 1) ≡ atPlace xs (stsdAt xs (t - 1))
+    unfolding sampleTable
+    standing-plain e = standing-box ∙ sym (rw (e, length-boxBy) at (described-at xs m v (t - 1) (omega arith) .whole .is))
 
     -- no longer than the file
     pub standing-short : length (standing xs (stsds xs) (t - 1)) ≤ LONGEST
-    standing-short = rw (standing-at xs (t - 1) (omega arith), length-take, length-drop) (omega (arith, m .most))
+    unfolding sampleTable
+    standing-short =
+        let b = track xs (t - 1) in
+        let w = rw length-boxBy at (described-at xs m v (t - 1) (omega arith) .whole .inside) in
+        rw (standing-box, length-boxBy) (omega (arith, m .most, head-least (stsdForm b)))

@@ -1,17 +1,12 @@
 -- Every entry lies in its file, so that its place and its length fit a slot. Assumes nothing.
 use Prim.Native.Nat.{ℕ, _+_, _^_, _<_}
 use native.Mathlib.Omega.{arith}
-use mathlib.Core.List.{List, _++_}
+use mathlib.Core.List.{List, [], _∷_, _++_}
 use lib.ListN.{length, drop, length-append, length-drop}
-use Rattle.codes.specs.Codes.{STSD}
-use Rattle.wire.proofs.Numbers.{bytes-drop}
 use Rattle.boxes.specs.Box.{Box, size, header}
 use Rattle.boxes.specs.Boxes.{total, FRONT}
-use Rattle.boxes.proofs.Whole.{Good, length-header}
-use Rattle.boxes.proofs.Reading.{All, parts}
-use Rattle.boxes.proofs.Reading.All.{none as no-box, some}
+use Rattle.boxes.proofs.Whole.{length-header}
 use Rattle.boxes.proofs.Placing.{total-is}
-use Rattle.boxes.proofs.Turning.{length-boxBy}
 use Rattle.movie.specs.Stsds.{Stsd}
 use Rattle.movie.specs.Entries.{Entry, entriesFrom, entriesOf, entriesIn}
 use Rattle.movie.proofs.Stsds.{Each}
@@ -26,19 +21,18 @@ small-append (one-more s a) b = one-more s (small-append a b)
 
 -- ---- one `stsd`
 
-small-from : (t : ℕ) {l : List Box} (p : ℕ) → All Good l → p + total l < 2 ^ 32 → AllSmall (entriesFrom t l p)
+small-from : (t : ℕ) (l : List Box) (p : ℕ) → p + total l < 2 ^ 32 → AllSmall (entriesFrom t l p)
 unfolding entriesFrom total
-small-from t p no-box h = no-entry
-small-from t p (some {x} {l} g a) h =
-    let s : Small (record { track = t; place = p; bytes = header x ++ x .body }) = record { place = omega (arith, g .head); span = rw (length-append, length-header) (omega (arith, g .head)) } in
-    one-more s (small-from t (p + size x) a (omega arith))
+small-from t [] p h = no-entry
+small-from t (x ∷ l) p h =
+    let s : Small (record { track = t; place = p; bytes = header x ++ x .body }) = record { place = omega arith; span = rw (length-append, length-header) (omega arith) } in
+    one-more s (small-from t l (p + size x) (omega arith))
 
 small-of : {xs : List ℕ} (s : Stsd) → Described xs s → length xs < 2 ^ 32 → AllSmall (entriesOf s)
 unfolding entriesOf
 small-of s d h =
     let b = s .body in
-    let w = bytes-drop FRONT b (d .filled) in
-    small-from (s .track) _ (parts (drop FRONT b) w .good) (omega (arith, d .lies .inside, length-boxBy STSD b, total-is (drop FRONT b), length-drop FRONT b, d .listed .room))
+    small-from (s .track) _ _ (omega (arith, d .lies .inside, total-is (drop FRONT b), length-drop FRONT b, d .listed .room))
 
 -- ---- all of them
 

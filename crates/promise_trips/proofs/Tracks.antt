@@ -8,7 +8,7 @@ use lib.ListN.{length, drop, length-append}
 use Rattle.codes.specs.Codes.{MOOV, TRAK}
 use Rattle.wire.proofs.Clauses.{is-le, holds, done}
 use Rattle.boxes.specs.Box.{Box, size}
-use Rattle.boxes.specs.Boxes.{HEAD, FRONT, boxes}
+use Rattle.boxes.specs.Boxes.{FRONT, boxes}
 use Rattle.boxes.specs.Seek.{count, startIn}
 use Rattle.boxes.proofs.Meaning.{meant-or, count-hit, count-miss}
 use Rattle.movie.specs.Movie.{movie, tracks}
@@ -58,7 +58,7 @@ steps-next t (x ∷ l) p e k n q = rw (goes t (t + 1) (omega arith) (omega arith
 
 steps-of : (t : ℕ) (s : Stsd) → s .track ≡ t + 1 → (e : List Entry) → t + 1 ≤ 4 → 1 ≤ length (entriesOf s) → steps (t + 1) e ≡ true → steps t (entriesOf s ++ e) ≡ true
 unfolding entriesOf
-steps-of t s z e k n q = rw z (steps-next t (boxes (drop FRONT (s .body))) (s .place + HEAD + FRONT) e k (rw z at n) q)
+steps-of t s z e k n q = rw z (steps-next t (boxes (drop FRONT (s .body))) (s .start + FRONT) e k (rw z at n) q)
 
 -- ---- all of them
 

@@ -7,10 +7,12 @@ use mathlib.Core.Logic.{_⊎_}
 use lib.ListN.{length, take}
 use Rattle.codes.specs.Codes.{STSD}
 use Rattle.wire.specs.Numbers.{Bytes}
+use Rattle.boxes.specs.declared.walk.Form.the-variants.{Plain}
 use Rattle.boxes.specs.Way.{boxBy}
 use Rattle.movie.specs.Movie.{tracks, track, sampleTable}
 use Rattle.movie.specs.Stsds.{stsds, standing}
 use Rattle.movie.specs.Entries.{Entry, entries}
+use Rattle.movie.specs.Named.{stsdAt}
 use Rattle.entry_records.specs.declared.field.Record.{Record}
 use Rattle.entry_records.specs.declared.field.Record.the-variants.{Broken}
 use Rattle.entry_records.specs.Fields.{fieldsRule}
@@ -29,7 +31,8 @@ use Rattle.sheet_table.specs.Table.{tableResult}
 use Rattle.sheet_table.proofs.RoundTrip as roundTrip
 use Rattle.entry_fields.specs.Numbers.{readResult, writeResult}
 use Rattle.entry_fields.proofs.Returning.{written-back, read-back}
-use Rattle.promise_trips.proofs.Returned.{own-formed, own-unsheet, standing-box}
+use Rattle.promise_trips.proofs.Track.{stsdForm, atPlace}
+use Rattle.promise_trips.proofs.Returned.{own-formed, own-unsheet, standing-box, standing-plain}
 use Rattle.promise_trips.proofs.Answered.{no-table, own-table, sheet-meets, sheet-taken}
 
 -- ---- a file that meets the rules
@@ -44,9 +47,13 @@ module _ (xs : List ℕ) (v : Bytes xs) (m : Meets xs) where
   sheet-entries = own-unsheet xs m v
 
   module _ (t : ℕ) (h : 1 ≤ t) (k : t ≤ tracks xs) where
-    -- what stands in the file at the place of a track's `stsd` is that box
-    pub stsd-stands : standing xs (stsds xs) (t - 1) ≡ boxBy STSD (sampleTable STSD (track xs (t - 1)))
+    -- what stands in the file as the payload of a track's `stsd`, under a plain header, is that `stsd` as a plain box
+    pub stsd-stands : standing xs (stsds xs) (t - 1) ≡ boxBy Plain STSD (sampleTable STSD (track xs (t - 1)))
     stsd-stands = standing-box xs m v t h k
+
+    -- where its header is plain in the file too, those are the very bytes at its place
+    pub stsd-plain : stsdForm (track xs (t - 1)) ≡ Plain → standing xs (stsds xs) (t - 1) ≡ atPlace xs (stsdAt xs (t - 1))
+    stsd-plain e = standing-plain xs m v t h k e
 
     -- the table writer gives it from the file's own sheet
     pub table-stands : tableResult SLOTS (sheetOf xs) t ≡ gives (standing xs (stsds xs) (t - 1))
@@ -58,7 +65,7 @@ module _ (xs : List ℕ) (v : Bytes xs) (m : Meets xs) where
 
 -- ---- the sheet reader, and then the table writer, on any bytes
 
--- what the reader gave, given to the writer, gives back what stands in the file at the place of any track's `stsd`
+-- what the reader gave, given to the writer, gives back what stands in the file as the payload of any track's `stsd`, under a plain header
 pub sheet-table : (xs : List ℕ) → Bytes xs → (out : List ℕ) (n : ℕ) → answerIn (sheetResult xs) out ≡ Done n → (t : ℕ) → 1 ≤ t → t ≤ tracks xs
     → tableResult SLOTS (take n (leftIn (sheetResult xs) out)) t ≡ gives (standing xs (stsds xs) (t - 1))
 sheet-table xs v out n e t h k = rw (sheet-taken xs out n e) (table-stands xs v (sheet-meets xs out n e) t h k)

@@ -1,7 +1,7 @@
--- The table of the boxes that an `stsd` lists is that `stsd`, byte for byte. Assumes nothing.
+-- The table of the boxes that an `stsd` lists is that `stsd`, byte for byte, under a plain header. Assumes nothing.
 use Prim.Native.Nat.{ℕ, _+_}
 use native.Mathlib.Omega.{arith}
-use mathlib.Core.Path.{_≡_, refl, sym, ap, _∙_}
+use mathlib.Core.Path.{_≡_, refl, sym, _∙_}
 use mathlib.Core.List.{List, [], _∷_, _++_, append-nil, append-assoc}
 use lib.ListN.{length, take, drop, length-drop, take-append-drop}
 use lib.Seq.{take-add}
@@ -9,8 +9,10 @@ use Rattle.codes.specs.Codes.{STSD}
 use Rattle.wire.specs.Numbers.{Bytes, bytes, word}
 use Rattle.wire.proofs.Lists.{nil-is}
 use Rattle.wire.proofs.Numbers.{bytes-drop, bytes-word}
+use Rattle.boxes.specs.declared.walk.Form.the-variants.{Plain}
 use Rattle.boxes.specs.Box.{Box, size, header, write}
-use Rattle.boxes.specs.Boxes.{HEAD, boxes, after, FRONT}
+use Rattle.boxes.specs.Boxes.{boxes, after, FRONT}
+use Rattle.boxes.specs.Way.{boxBy}
 use Rattle.boxes.proofs.Reading.{write-boxes}
 use Rattle.boxes.proofs.Numbered.{count-any}
 use Rattle.movie.specs.Entries.{entriesFrom}
@@ -35,11 +37,10 @@ module _ (b : List ℕ) (v : Bytes b) (g : Listed b) where
       let a = rw (g .front) at (bytes-word 4 b 0 v (omega (arith, g .room))) in
       rw (a, bytes-word 4 b 4 v (omega (arith, g .room))) (sym (take-add 4 4 b))
 
-  pub table-written : (t p : ℕ) → table (entriesFrom t (boxes (drop FRONT b)) p) ≡ header (record { head = HEAD; code = STSD; body = b }) ++ b
-  unfolding table header
+  pub table-written : (t p : ℕ) → table (entriesFrom t (boxes (drop FRONT b)) p) ≡ boxBy Plain STSD b
+  unfolding table boxBy header
   table-written t p =
       let n : length (entriesFrom t (boxes (drop FRONT b)) p) ≡ word 4 b 4 = length-from t (boxes (drop FRONT b)) p ∙ sym (count-any (boxes (drop FRONT b))) ∙ g .counted in
       let s : 16 + length (drop FRONT b) ≡ 8 + length b = rw length-drop (omega (arith, g .room)) in
-      rw (bodies-from, list-written, n, s)
-      (append-assoc (bytes 4 (8 + length b) ++ bytes 4 STSD ++ bytes 4 0) (bytes 4 (word 4 b 4)) (drop 8 b) ∙ append-assoc (bytes 4 (8 + length b) ++ bytes 4 STSD) (bytes 4 0) (bytes 4 (word 4 b 4) ++ drop 8 b)
-      ∙ ap (λ (k : List ℕ). bytes 4 (8 + length b) ++ bytes 4 STSD ++ k) (sym (append-assoc (bytes 4 0) (bytes 4 (word 4 b 4)) (drop 8 b)) ∙ rw front-written (take-append-drop 8 b)))
+      let e : bytes 4 0 ++ (bytes 4 (word 4 b 4) ++ drop FRONT b) ≡ b = rw (← append-assoc, front-written) (take-append-drop FRONT b) in
+      rw (bodies-from, list-written, n, s) (simp append-assoc (rw e))

@@ -1,5 +1,6 @@
 -- Examples, by computation. Nothing is vacuous: a file with each kind of entry is accepted, the first as in the paper's printed
--- listing; M1 to M12 are answered as marked; each edit is done, gives the file that one sees, and leaves its one sample.
+-- listing, and that one with wide and open boxes too, but not with an open `trak`; M1 to M12 are answered as marked; each edit is
+-- done, gives the file that one sees, and leaves its one sample.
 use mathlib.Core.Path.{_≡_, refl}
 use mathlib.Core.Bool.{true}
 use mathlib.Core.List.{[], _∷_, map}
@@ -9,10 +10,10 @@ use Rattle.wire.specs.Numbers.{bytes, bytesOn, word}
 use Rattle.wire.specs.Sums.{allTo, sumTo}
 use Rattle.wire.specs.Tests.{ifEq, ifLe, ifLt}
 use Rattle.boxes.specs.Box.{header, write}
-use Rattle.boxes.specs.Boxes.{after, boxes, total, whole}
+use Rattle.boxes.specs.Boxes.{after, boxes, formOf, total, whole}
 use Rattle.boxes.specs.Containers.{kindIn, parent}
 use Rattle.boxes.specs.Rewrite.{editBox, editIn, overBoxes}
-use Rattle.boxes.specs.Seek.{count, meant, nth, placeBy, placeIn, startIn}
+use Rattle.boxes.specs.Seek.{allPlain, count, meant, nth, placeBy, placeIn, startIn}
 use Rattle.boxes.specs.Way.{around, boxBy, editWay, nthBy, overNth, overTurn}
 use Rattle.boxes.specs.Words.{eachWord, reword, rewordLeaf}
 use Rattle.clocks.specs.Clocks.{mayShift, shiftTime}
@@ -40,6 +41,7 @@ use Rattle.rule.specs.Results.{answerIn, asked, leftIn}
 use Rattle.rule.specs.Rule.{allBox, allIn, allList}
 use Rattle.rule.specs.Verdict.{sooner, unless}
 use Rattle.rule_shape.specs.Three.{besides, exactly, first, needed, shape}
+use Rattle.rule_shape.specs.Two.{mayHave}
 use Rattle.rule_shape.specs.TwentyThree.{barred}
 use Rattle.rule_headers.specs.Forms.{brandsForm, form, handlerForm, headForm, ifBox}
 use Rattle.rule_headers.specs.Four.{tracksIn}
@@ -59,13 +61,15 @@ use Rattle.edit_replace.specs.Replace.{kindAt, recordCode, recordReplaced, repl
 use Rattle.edit_move.specs.Moving.{just, moovSecond, moveOf, moveResult, others}
 use Rattle.promise_kept.specs.Samples.{samples}
 use Rattle.promises.specs.Example.{kinds, numbers}
+use Rattle.promises.specs.Forms.{otherForms}
 use Rattle.promises.specs.Marked.{markedCases, allMarked}
 use Rattle.promises.specs.Worked.{mediaFirst, edits, answers, files, expected}
 
 pub examples : (numbers kinds ≡ 0 ∷ 0 ∷ 0 ∷ 0 ∷ 0 ∷ 0 ∷ 0 ∷ 0 ∷ [])
+    × (numbers otherForms ≡ 0 ∷ 0 ∷ 0 ∷ 0 ∷ 2 ∷ [])
     × (allMarked markedCases ≡ true)
     × (answers edits mediaFirst ≡ Done 603 ∷ Done 603 ∷ Done 619 ∷ Done 603 ∷ [])
     × (files edits mediaFirst ≡ expected)
     × (map (λ xs. samples xs 0) (mediaFirst ∷ expected) ≡ map (λ xs. (60 ∷ []) ∷ []) (mediaFirst ∷ expected))
-unfolding either every isEq isLe isLt oneIf bytes bytesOn word allTo sumTo ifEq ifLe ifLt header write after boxes total whole kindIn parent editBox editIn overBoxes count meant nth placeBy placeIn startIn around boxBy editWay nthBy overNth overTurn eachWord reword rewordLeaf mayShift shiftTime entries entriesFrom entriesIn entriesOf handler references sampleTable scale track bytesAt spotIn stsds stsdsFrom follow placeAlong inBox past placeOf resolve relocate chunkIn chunksIn lies chunkSamples joinTo sampleIn samplesOf chunkAt descriptionOf extentOf firstSample samplesIn emptyTogether tablesAgree rises runAmong runFine runOf runsFine bytesFrom sizeAt sizesListed hasForm timedTo audioHead audioRule boxHeader commonHead commonRule headRule headSize nameRule visualHead visualRule visualStart handlerOf kindOf boxRule d263Rule damrRule framesRule modeMask modesRule periodRule ratedRule recordRule avcRule entryRule esdsRule handlerRule insideRule ruleAs scaleRule trackRule judgeBox judgeIn judgeList answerIn asked leftIn allBox allIn allList sooner unless besides exactly first needed shape barred brandsForm form handlerForm headForm ifBox tracksIn fresh freshTo identity tkhdPlace formIn listForm passing isUrl eightAt eightHolds sevenHolds sevenIn tableFine tableIn aroundOf entriesJudged meets stsdsJudged tenAt resultOn whenAccepted judged judgedFrom unlessBroken oneIn settled allTimes allTimesBy both hasTimes shiftOf shiftResult shiftable timesLeaf trackTimes kindAt recordCode recordReplaced replaceOf replaceResult takes just moovSecond moveOf moveResult others samples
-examples = (refl, refl, refl, refl, refl)
+unfolding either every isEq isLe isLt oneIf bytes bytesOn word allTo sumTo ifEq ifLe ifLt header write after boxes formOf total whole kindIn parent editBox editIn overBoxes allPlain count meant nth placeBy placeIn startIn around boxBy editWay nthBy overNth overTurn eachWord reword rewordLeaf mayShift shiftTime entries entriesFrom entriesIn entriesOf handler references sampleTable scale track bytesAt spotIn stsds stsdsFrom follow placeAlong inBox past placeOf resolve relocate chunkIn chunksIn lies chunkSamples joinTo sampleIn samplesOf chunkAt descriptionOf extentOf firstSample samplesIn emptyTogether tablesAgree rises runAmong runFine runOf runsFine bytesFrom sizeAt sizesListed hasForm timedTo audioHead audioRule boxHeader commonHead commonRule headRule headSize nameRule visualHead visualRule visualStart handlerOf kindOf boxRule d263Rule damrRule framesRule modeMask modesRule periodRule ratedRule recordRule avcRule entryRule esdsRule handlerRule insideRule ruleAs scaleRule trackRule judgeBox judgeIn judgeList answerIn asked leftIn allBox allIn allList sooner unless besides exactly first needed shape mayHave barred brandsForm form handlerForm headForm ifBox tracksIn fresh freshTo identity tkhdPlace formIn listForm passing isUrl eightAt eightHolds sevenHolds sevenIn tableFine tableIn aroundOf entriesJudged meets stsdsJudged tenAt resultOn whenAccepted judged judgedFrom unlessBroken oneIn settled allTimes allTimesBy both hasTimes shiftOf shiftResult shiftable timesLeaf trackTimes kindAt recordCode recordReplaced replaceOf replaceResult takes just moovSecond moveOf moveResult others samples
+examples = (refl, refl, refl, refl, refl, refl)

@@ -4,12 +4,13 @@ use mathlib.Core.List.{List, [], _∷_, _++_}
 use lib.ListN.{length}
 use Rattle.wire.specs.Numbers.{bytes}
 use Rattle.codes.specs.Codes.{FTYP, MOOV, MVHD, TRAK, TKHD, MDIA, MDHD, HDLR, MINF, DINF, DREF, URL, STBL, STSD, STTS, STSC, STSZ, STCO, MDAT, MP4V, MP4A, SAMR, SAWB, S263, AVC1, DAMR, D263, BITR, ESDS, AVCC, VIDE, SOUN, TEXT, ISOM, GP6, coded}
+use Rattle.boxes.specs.declared.walk.Form.the-variants.{Plain}
 use Rattle.boxes.specs.Box.{Box, write}
 use Rattle.entry_heads.specs.Heads.{audioHead, visualHead, commonHead}
 use Rattle.judge.specs.Judgement.{judgedNumber, judged}
 
 abbrev pub plainBox : ℕ → List ℕ → Box
-plainBox c b = record { head = 8; code = c; body = b }
+plainBox c b = record { form = Plain; code = c; body = b }
 
 abbrev pub zeros : ℕ → List ℕ
 zeros n = bytes n 0

@@ -1,4 +1,5 @@
 pub mod Example
+pub mod Forms
 pub mod Marked
 pub mod Runs
 pub mod Demand

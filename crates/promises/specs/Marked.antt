@@ -54,12 +54,12 @@ pub data Row : Type 0 where
   ofFile : List ℕ → ℕ → ℕ → Row
   ofShift : List ℕ → ℤ → ℕ → Row
 
--- M1 to M9 are entries. M10: length 0. M11: eight bytes, size 0. M12: time 3600, 60 minutes
+-- M1 to M9 are entries. M10: length 0. M11: eight bytes, size 0, an open box. M12: time 3600, 60 minutes
 abbrev pub markedCases : List Row
 markedCases =
     map ofEntry cases
     ++ ofFile [] 1 0
-    ∷ ofFile (bytes 4 0 ++ bytes 4 0x66726565) 2 0
+    ∷ ofFile (bytes 4 0 ++ bytes 4 0x66726565) 3 0
     ∷ ofShift (fileAt 3600 SOUN (speech SAMR)) (pos 60) 22
     ∷ []
 
