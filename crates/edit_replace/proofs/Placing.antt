@@ -2,16 +2,15 @@
 use Prim.Native.Nat.{ℕ, _-_, _≤_}
 use native.Mathlib.Omega.{arith}
 use mathlib.Core.Path.{_≡_, refl, sym, ap, subst, _∙_}
-use mathlib.Core.List.{List, _++_, append-assoc}
+use mathlib.Core.List.{List, _++_}
 use lib.ListN.{length}
 use Rattle.wire.specs.Tests.{ifEq}
 use Rattle.wire.specs.Clauses.{oneIf}
-use Rattle.wire.specs.Numbers.{Bytes, bytes, word}
+use Rattle.wire.specs.Numbers.{Bytes, word}
 use Rattle.wire.proofs.Tests.{eq-nay}
-use Rattle.wire.proofs.Numbers.{length-bytes, word-right, word-bytes}
 use Rattle.codes.specs.Codes.{MOOV, TRAK}
 use Rattle.boxes.specs.declared.walk.BoxAt.{BoxAt}
-use Rattle.boxes.specs.Box.{Box, fieldOf, moreOf, size, header}
+use Rattle.boxes.specs.Box.{Box, header}
 use Rattle.boxes.specs.Boxes.{HEAD, boxes}
 use Rattle.boxes.specs.Walk.{payload, boxAt}
 use Rattle.boxes.specs.Seek.{ANY, find, nth, startIn, Cut}
@@ -46,7 +45,7 @@ use Rattle.edit_replace.specs.Replace.{kindAt, recordCode, takes, record
 use Rattle.edit_replace.specs.Places.{PlaceIn, InTrackAs, PlaceOf, InMoovAs, Found, FoundAs, Within, wayIn, recordThere, placeText, placeResult}
 use Rattle.edit_replace.specs.Fitting.{entryResult}
 use Rattle.edit_replace.proofs.Shutting.{payload-is, around-is, cut-shut}
-use Rattle.edit_replace.proofs.Taking.{kind-none, takes-none}
+use Rattle.edit_replace.proofs.Taking.{code-told, kind-none, takes-none}
 
 -- ---- as code finds it
 
@@ -119,16 +118,9 @@ module _ (xs : List ℕ) (i : ℕ) (new : List ℕ) {b : BoxAt} (c : Cut xs MOOV
       good : Good x
       good = all-here (entry-cut .p) x (entry-cut .q) (rw (entry-cut .list) at (parts (listIn (track xs (f .t))) (bytes-list xs (f .t) v) .good))
 
-      code-is : word 4 (header x ++ x .body) 4 ≡ x .code
-      unfolding header
-      code-is =
-          let n : ℕ = fieldOf (x .form) (size x) in
-          let more : List ℕ = moreOf (x .form) (size x) ++ x .body in
-          rw (append-assoc, append-assoc) (word-right 4 (bytes 4 n) (bytes 4 (x .code) ++ more) 4 0 (length-bytes 4 n) ∙ word-bytes 4 (x .code) more (good .code))
-
       kind-is : kindOf (p .entry .code) ≡ kindAt xs i
       unfolding kindAt
-      kind-is = eq-nay _ _ _ _ _ z (ap kindOf (sym (ap (λ (ys : List ℕ). word 4 ys 4) bytes-are ∙ code-is)))
+      kind-is = eq-nay _ _ _ _ _ z (ap kindOf (sym (ap (λ (ys : List ℕ). word 4 ys 4) bytes-are ∙ code-told x good)))
 
       text-is : placeText xs b p (kindAt xs i) new ≡ replaceOf xs i new
       unfolding placeText replaceOf recordReplaced stsds

@@ -3,14 +3,16 @@ use Prim.Native.Nat.{ℕ, _-_, _≤_, _<_}
 use native.Mathlib.Omega.{arith}
 use mathlib.Core.Path.{_≡_, refl, sym, ap, _∙_}
 use mathlib.Core.Bool.{true}
-use mathlib.Core.List.{List, []}
+use mathlib.Core.List.{List, [], _++_, append-assoc}
 use lib.ListN.{length}
 use Rattle.wire.specs.Tests.{ifEq}
 use Rattle.wire.specs.Clauses.{oneIf}
-use Rattle.wire.specs.Numbers.{word}
+use Rattle.wire.specs.Numbers.{bytes, word}
 use Rattle.wire.proofs.Clauses.{is-eq, not-eq, is-lt, not-lt, fails, holds, done, yea, nay}
-use Rattle.wire.proofs.Numbers.{word-out}
+use Rattle.wire.proofs.Numbers.{length-bytes, word-out, word-right, word-bytes}
 use Rattle.wire.proofs.Tests.{eq-yea, eq-nay, lt-yea, lt-nay, eq-or}
+use Rattle.boxes.specs.Box.{Box, fieldOf, moreOf, size, header}
+use Rattle.boxes.proofs.Whole.{Good}
 use Rattle.movie.specs.Entries.{entries}
 use Rattle.movie.proofs.Spots.{bytes-none}
 use Rattle.entry_heads.specs.Kinds.{SamrKind, kindOf}
@@ -19,6 +21,14 @@ use Rattle.entry_rules.proofs.Kept.{recorded}
 use Rattle.edit_replace.specs.Replace.{kindAt, recordCode, takes}
 
 -- ---- the kind
+
+-- the bytes of a box tell its code
+pub code-told : (x : Box) → Good x → word 4 (header x ++ x .body) 4 ≡ x .code
+unfolding header
+code-told x g =
+    let n : ℕ = fieldOf (x .form) (size x) in
+    let more : List ℕ = moreOf (x .form) (size x) ++ x .body in
+    rw (append-assoc, append-assoc) (word-right 4 (bytes 4 n) (bytes 4 (x .code) ++ more) 4 0 (length-bytes 4 n) ∙ word-bytes 4 (x .code) more (g .code))
 
 none-known : 0 ≡ kindOf 0
 unfolding kindOf ifEq

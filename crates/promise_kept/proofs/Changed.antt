@@ -10,11 +10,15 @@ use Rattle.wire.specs.Numbers.{word}
 use Rattle.wire.proofs.Tests.{both}
 use Rattle.wire.proofs.Numbers.{word-left}
 use Rattle.wire.proofs.Clauses.{is-le, clause, holds, done}
+use Rattle.boxes.specs.declared.walk.Form.the-variants.{Plain}
 use Rattle.boxes.specs.Box.{Box, remade}
 use Rattle.boxes.specs.Boxes.{HEAD, boxes, after, FRONT}
-use Rattle.boxes.specs.Seek.{ANY, count}
+use Rattle.boxes.specs.Seek.{ANY, count, allPlain, plainTiles}
 use Rattle.boxes.specs.Way.{tailBy}
 use Rattle.boxes.proofs.Whole.{Good}
+use Rattle.boxes.proofs.Reading.{All}
+use Rattle.boxes.proofs.Reading.All.{some}
+use Rattle.boxes.proofs.Tallying.{PlainBox, each-plain, plain-each}
 use Rattle.boxes.proofs.Numbered.{count-append}
 use Rattle.entry_heads.specs.Kinds.{kindOf}
 use Rattle.entry_heads.specs.Heads.{headSize}
@@ -39,6 +43,7 @@ pub record Changed (new b b′ : List ℕ) : Type 0 where
   pub front : take FRONT b′ ≡ take FRONT b
   pub rest : after (drop FRONT b′) ≡ after (drop FRONT b)
   pub good : Good entry
+  pub plain : entry .form ≡ Plain
   pub is : kindOf (entry .code) ≡ kind
   pub meets : recordRule kind FRAMES new ≡ true
 
@@ -60,7 +65,7 @@ module _ (new b b′ : List ℕ) (c : Changed new b b′) where
   pub changed-fine : (a : Around) → entriesFine a (drop FRONT b) ≡ true → entriesFine a (drop FRONT b′) ≡ true
   unfolding entriesFine
   changed-fine a q =
-      rw (c .made) (all-swap (entryFine a) true (c .before) (c .entry) after-it (c .past) (entry-changed (c .entry) (c .good) a (c .kind) new (c .is) (c .meets)) (rw (c .old) at q))
+      rw (c .made) (all-swap (entryFine a) true (c .before) (c .entry) after-it (c .past) (entry-changed (c .entry) (c .good) (c .plain) a (c .kind) new (c .is) (c .meets)) (rw (c .old) at q))
 
   -- ---- rule 5
 
@@ -79,9 +84,19 @@ module _ (new b b′ : List ℕ) (c : Changed new b b′) where
   pub changed-stored : storedCount b ≡ storedCount b′
   changed-stored = sym (changed-word 4 (omega arith))
 
+  -- plain boxes
+  swapped : allPlain (boxes (drop FRONT b)) ≡ true → allPlain (boxes (drop FRONT b′)) ≡ true
+  swapped q = rw (c .made) (plain-each (all-swap-each (c .before) (each-plain (c .before ++ c .entry ∷ c .past) (rw (c .old) at q))))
+    where
+      all-swap-each : (p : List Box) → All PlainBox (p ++ c .entry ∷ c .past) → All PlainBox (p ++ after-it ∷ c .past)
+      all-swap-each [] (some h a) = some {x = after-it} h a
+      all-swap-each (z ∷ p) (some h a) = some h (all-swap-each p a)
+
   -- the form is kept
   pub changed-form : listForm b ≡ true → listForm b′ ≡ true
   unfolding listForm
   changed-form q =
-      rw (changed-word 0 (omega arith), changed-word 4 (omega arith), c .rest, changed-count)
-      (sym (holds _ _ (is-le _ _ long) (holds _ _ (clause 1 _ q) (holds _ _ (clause 2 _ q) (holds _ _ (clause 3 _ q) (holds _ _ (clause 4 _ q) done))))))
+      let p = clause 3 _ q in
+      let plain : plainTiles (drop FRONT b′) ≡ true = rw (c .rest) (sym (holds _ _ (clause 0 _ p) (holds _ _ (swapped (clause 1 _ p)) done))) in
+      rw (changed-word 0 (omega arith), changed-word 4 (omega arith), changed-count)
+      (sym (holds _ _ (is-le _ _ long) (holds _ _ (clause 1 _ q) (holds _ _ (clause 2 _ q) (holds _ _ plain (holds _ _ (clause 4 _ q) done))))))

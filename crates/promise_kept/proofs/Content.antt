@@ -36,13 +36,13 @@ pub record Content (xs ys : List ℕ) : Type 1 where
 plain-open : Plain ≡ Open → ⊥
 plain-open e = let z : _≡_ {A = ℕ} 0 1 = cc in omega arith
 
-stays-shut : {k : ℕ} {x y : Box} → Formed k (x .code) (x .form) (y .form) → x .code ≡ y .code → ShutMoov x → ShutMoov y
-stays-shut (inl e) c h o m = h (e ∙ o) (c ∙ m)
-stays-shut (inr (z, n, f, p)) c h o m = plain-open (sym p ∙ o)
+stays-shut : {k : ℕ} (x y : Box) → Formed k (x .code) (x .form) (y .form) → x .code ≡ y .code → ShutMoov x → ShutMoov y
+stays-shut x y (inl e) c h o m = h (e ∙ o) (c ∙ m)
+stays-shut x y (inr (z, n, f, p)) c h o m = plain-open (sym p ∙ o)
 
 pub kin-shut : {G : Leaf} {go : ℕ → List ℕ → List ℕ → Type 0} {k : ℕ} {l m : List Box} → All2 (KinBox G go k) l m → All ShutMoov l → All ShutMoov m
 kin-shut nil none = none
-kin-shut (cons {x} {y} r a) (some h b) = some {x = y} (stays-shut {x = x} {y = y} (r .form) (r .code) h) (kin-shut a b)
+kin-shut (cons {x} {y} r a) (some h b) = some {x = y} (stays-shut x y (r .form) (r .code) h) (kin-shut a b)
 
 -- ---- the file with its `moov` closed: no body changes
 

@@ -18,13 +18,14 @@ use Rattle.entry_heads.specs.Heads.{headSize}
 use Rattle.entry_rules.specs.Entries.{FRAMES}
 use Rattle.entry_rules.specs.Decoders.{recordRule}
 use Rattle.judge.specs.Acceptance.{Meets}
+use Rattle.edit_offsets.specs.Close.{closed}
 use Rattle.edit_offsets.specs.Settle.{settled}
 use Rattle.edit_offsets.proofs.Settled.{settled-length}
 use Rattle.edit_move.specs.Moving.{moveOf}
 use Rattle.edit_replace.specs.Replace.{kindAt, recordAt, recordReplaced, replaceOf}
 use Rattle.edit_shift.specs.Shift.{shiftOf}
 use Rattle.promise_kept.specs.Kept.{Keeps}
-use Rattle.promise_kept.proofs.Content.{content-same}
+use Rattle.promise_kept.proofs.Content.{content-closed, content-then}
 use Rattle.promise_kept.proofs.Second.{second}
 use Rattle.promise_kept.proofs.Times.{shift-content}
 use Rattle.promise_kept.proofs.Replacing.{record-content}
@@ -38,13 +39,15 @@ keeps-move xs w m = keeps second xs (closed xs) w m (content-closed xs w (m .mos
 -- "Shift times by z minutes"
 pub keeps-shift : (z : ℤ) (xs : List ℕ) → Bytes xs → Meets xs → Keeps xs (shiftOf z xs)
 unfolding shiftOf
-keeps-shift z xs w m = keeps-stay xs _ w m (shift-content (shiftTime z) xs w (m .most))
+keeps-shift z xs w m =
+    let c = content-closed xs w (m .most) in
+    keeps-stay xs _ w m (content-then c (shift-content (shiftTime z) (closed xs) (c .bytes) (c .small) (c .shut)))
 
 -- "Replace decoder record of entry i": one that meets its rule, where the result is not too long
 pub keeps-replace : (xs : List ℕ) (i : ℕ) (new : List ℕ) → Bytes xs → Bytes new → Meets xs → recordRule (kindAt xs i) FRAMES new ≡ true → length (replaceOf xs i new) ≤ LONGEST → Keeps xs (replaceOf xs i new)
 unfolding replaceOf recordReplaced
 keeps-replace xs i new w v m r h = go (spotIn (stsds xs) (i - 1)) refl (rw settled-length at h)
   where
-    go : (s : Spot) → spotIn (stsds xs) (i - 1) ≡ s → length (recordAt s (headSize (kindAt xs i) - HEAD) new xs) ≤ LONGEST → Keeps xs (settled xs (recordAt s (headSize (kindAt xs i) - HEAD) new xs))
-    go (In t n) e k = keeps-stay xs _ w m (record-content xs i new w (m .most) r t n e v k)
-    go Past e k = keeps-stay xs xs w m (content-same xs w (m .most))
+    go : (s : Spot) → spotIn (stsds xs) (i - 1) ≡ s → length (recordAt s (headSize (kindAt xs i) - HEAD) new (closed xs)) ≤ LONGEST → Keeps xs (settled xs (recordAt s (headSize (kindAt xs i) - HEAD) new (closed xs)))
+    go (In t n) e k = keeps-stay xs _ w m (record-content xs i new w m r t n e v k)
+    go Past e k = keeps-stay xs (closed xs) w m (content-closed xs w (m .most))

@@ -9,6 +9,7 @@ use Rattle.boxes.specs.Box.{Box, write}
 use Rattle.boxes.specs.Boxes.{boxes}
 use Rattle.boxes.specs.Kin.{All2}
 use Rattle.boxes.specs.Kin.All2.{nil, cons}
+use Rattle.boxes.proofs.Whole.{head-least}
 use Rattle.boxes.proofs.Reading.{lengths, length-cons}
 use Rattle.mdat.proofs.Keeping.{tiled}
 use Rattle.judge.specs.declared.Judgement.the-variants.{Accepted}
@@ -46,7 +47,7 @@ kept-then xs ys zs k h =
 
 least-kept : {R : Box → Box → Type 0} {l m : List Box} → All2 R l m → 8 ≤ length (write l) → 8 ≤ length (write m)
 least-kept nil h = h
-least-kept (cons {y = y} {m = m} r a) h = omega (arith, length-cons y m)
+least-kept (cons {y = y} {m = m} r a) h = omega (arith, length-cons y m, head-least (y .form))
 
 -- ---- the theorem
 

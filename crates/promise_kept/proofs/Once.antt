@@ -11,12 +11,14 @@ use Rattle.wire.specs.Numbers.{Bytes, word}
 use Rattle.codes.specs.Codes.{TRAK, TKHD, MDIA, MDHD, HDLR, DINF, DREF, STBL, STSD, STTS, STSC, STSZ, STCO, MDAT}
 use Rattle.boxes.specs.Containers.{FILE, DEPTH, LONGEST}
 use Rattle.boxes.specs.Kin.{Kin}
-use Rattle.boxes.specs.Boxes.{FRONT}
+use Rattle.boxes.specs.Boxes.{FRONT, boxes}
+use Rattle.boxes.proofs.Reading.{All}
 use Rattle.boxes.proofs.Down.{Once}
 use Rattle.entry_rules.specs.declared.entry.Around.{Around}
 use Rattle.rule_lists.specs.Five.{listForm}
 use Rattle.rule_headers.specs.Forms.{ifBox, form}
 use Rattle.rule_entries.specs.Ten.{entriesFine}
+use Rattle.edit_offsets.proofs.Closing.{ShutMoov}
 use Rattle.promise_kept.proofs.Sound.{Sound}
 use Rattle.promise_kept.proofs.Content.{Content, kin-shut}
 use Rattle.promise_kept.proofs.Changed.{Changed, changed-fine, changed-stored, changed-form}

@@ -5,7 +5,7 @@ use mathlib.Core.Path.{_≡_, refl, sym, ap, _∙_}
 use mathlib.Core.List.{List, _∷_}
 use lib.ListN.{length, drop}
 use Rattle.wire.proofs.Tests.{lt-yea, lt-nay, lt-or}
-use Rattle.boxes.specs.Boxes.{HEAD, FRONT, boxes}
+use Rattle.boxes.specs.Boxes.{FRONT, boxes}
 use Rattle.movie.specs.declared.entry.Spot.the-variants.{In}
 use Rattle.movie.specs.Movie.{tracks, track}
 use Rattle.movie.specs.Stsds.{Stsd, stsds}
@@ -32,7 +32,7 @@ module _ (xs : List ℕ) where
     split-here k e =
         let a : s .track - 1 ≡ t = cc in
         let b : i ≡ n = cc in
-        let f = split-from (s .track) (boxes (drop FRONT (s .body))) (s .place + HEAD + FRONT) i (entriesIn l) (omega (arith, length-stsd s)) in
+        let f = split-from (s .track) (boxes (drop FRONT (s .body))) (s .start + FRONT) i (entriesIn l) (omega (arith, length-stsd s)) in
         rw (← a, ← b, ← h) f
 
     -- past it
