@@ -25,6 +25,10 @@
      25  the room is shorter than the result
      30  the sheet is malformed
 
+   A box may have a 64-bit size (size field 1, 16 bytes of header), and the last box of the file may have size 0, which reaches to the
+   file's end; inside `stsd`, `dref` and entries only the 8-byte header is read. An edit keeps the form of every header, but
+   writes its true size into a `moov` of size 0.
+
    The library needs three symbols of the C library, memcpy, memmove and memset, and no heap. Stack is the most bytes that a call took when it was measured
    (docs/PERFORMANCE.md says on which files), and no bound; some 16,400 of it are touched only where a file has more than 16 boxes
    at its top. */
@@ -71,7 +75,7 @@ uint64_t threegp_offsets(const uint8_t *file, size_t length, uint64_t track, uin
    Refusals: 1 to 10, 25. Stack: 18408. */
 uint64_t threegp_sheet(const uint8_t *file, size_t length, uint8_t *out, size_t room);
 
-/* The `stsd` box of a track (from 1) of a sheet: 16 bytes, and then that track's entries. Value: its length. A room of the sheet's
+/* The `stsd` box of a track (from 1) of a sheet: 16 bytes, 8 of them its header, and then that track's entries. Value: its length. A room of the sheet's
    length suffices.
    Refusals: 30, 20, 24, 25. Stack: 1768. */
 uint64_t threegp_table(const uint8_t *sheet, size_t length, uint64_t track, uint8_t *out, size_t room);

@@ -27,8 +27,8 @@ def parsed(file):
     number, place = files.judge(file)
     if number != 0:
         raise Refusal(number, place)
-    top = files.Found(0, "", file, "")
-    files.tree(file, 0, "", top)
+    top = files.whole_file(file)
+    files.tree(top)
     return top
 
 
@@ -41,8 +41,8 @@ def entries_in(top):
     found = []
     for number, trak in enumerate(tracks_in(top), 1):
         stsd = trak.one("mdia/minf/stbl/stsd")
-        for at, code, payload in tiles(stsd.payload[8:])[0]:
-            found.append((number, code, stsd.at + 16 + at, w(8 + len(payload)) + code.encode("latin-1") + payload))
+        for at, _, code, payload in tiles(stsd.payload[8:])[0]:
+            found.append((number, code, stsd.start + 8 + at, w(8 + len(payload)) + code.encode("latin-1") + payload))
     return found
 
 
@@ -220,10 +220,25 @@ def put(data, at, n):
     data[at : at + 4] = w(n)
 
 
+def put_size(data, b, more):
+    """The size of a box that grows by so much, in the form of its header; an open one gets a plain header."""
+    if b.start - b.at == 16:
+        data[b.at + 8 : b.at + 16] = (b.end - b.at + more).to_bytes(8, "big")
+    else:
+        put(data, b.at, b.end - b.at + more)
+
+
+def closed(file, top):
+    """The file to be changed: its `moov` has its true size."""
+    out = bytearray(file)
+    put_size(out, top.one("moov"), 0)
+    return out
+
+
 def time_places(top):
     for b in files.in_order(top):
         if b.path in ("moov/mvhd", "moov/trak/tkhd", "moov/trak/mdia/mdhd"):
-            yield from (b.at + 8 + 4, b.at + 8 + 8)
+            yield from (b.start + 4, b.start + 8)
 
 
 def minutes_right(minutes):
@@ -233,7 +248,7 @@ def minutes_right(minutes):
 def shift(file, minutes):
     top = parsed(file)
     ask(minutes_right(minutes), 22)
-    out = bytearray(file)
+    out = closed(file, top)
     for at in time_places(top):
         time = num(file, at)
         if time != 0:
@@ -251,9 +266,9 @@ def chunks(top):
         for k, ((offset,), count) in enumerate(zip(files.rows(stco.payload, 1), files.per_chunk(stbl))):
             end = offset + sum(left[:count])
             left = left[count:]
-            homes = [b for b in top.all("mdat") if b.at + 8 <= offset and end <= b.at + 8 + len(b.payload)]
+            homes = [b for b in top.all("mdat") if b.start <= offset and end <= b.end]
             assert len(homes) == 1
-            yield stco.at + 16 + 4 * k, offset, homes[0]
+            yield stco.start + 8 + 4 * k, offset, homes[0]
 
 
 def move(file):
@@ -264,11 +279,11 @@ def move(file):
     places, at = {}, 0
     for b in order:
         places[b.at] = at
-        at += 8 + len(b.payload)
-    out = bytearray(file)
+        at += b.end - b.at
+    out = closed(file, top)
     for where, offset, mdat in chunks(top):
         put(out, where, offset + places[mdat.at] - mdat.at)
-    return b"".join(bytes(out[b.at : b.at + 8 + len(b.payload)]) for b in order)
+    return b"".join(bytes(out[b.at : b.end]) for b in order)
 
 
 def record_fits(code, record):
@@ -295,8 +310,9 @@ def replace(file, entry, record):
     more = len(record) - (len(body) - HEADS[code])
     ask(len(file) + more <= files.LONGEST, 24)
     out = bytearray(file)
-    for at in [b.at for b in around(top, track)] + [place]:
-        put(out, at, num(file, at) + more)
+    for b in around(top, track):
+        put_size(out, b, more)
+    put(out, place, len(body) + more)
     for where, offset, mdat in chunks(top):
         put(out, where, offset + (more if mdat.at > top.one("moov").at else 0))
     return bytes(out[: place + HEADS[code]] + record + out[place + len(body) :])

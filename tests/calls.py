@@ -7,6 +7,7 @@ import pathlib
 import answers
 import cases
 import files
+import forms
 from files import Box, audio, bitr, d263, damr, esds, h, num, patch, visual, w
 
 ROOT = pathlib.Path(__file__).resolve().parent.parent
@@ -165,7 +166,7 @@ class At(files.Offset):
 
     @property
     def n(self):
-        return (self.mdat.place or 0) + 8 + self.more
+        return (self.mdat.place or 0) + self.mdat.head + self.more
 
 
 def made(file):
@@ -861,6 +862,90 @@ def real_groups():
         yield file, calls
 
 
+# ---- Wide and open boxes
+
+
+def film_of(way):
+    return film(dict(films())["h263"], dict(layouts())[way])
+
+
+def formed_films():
+    """(name, file) of films with one box wide, with all of them wide, and with the last one open."""
+    for n, name in enumerate(forms.NAMES):
+        yield "wide-" + name, made(forms.widened(film_of("middle"), name, n % 2))
+    for way in ("front", "back", "middle", "among-free", "other-way"):
+        yield "wide-all-" + way, made(forms.all_wide(film_of(way)))
+    for what, way in (("mdat", "front"), ("moov", "back"), ("mdat", "middle"), ("udta", "among-free"), ("free", "back-and-more")):
+        yield "open-%s-%s" % (what, way), made(forms.opened(film_of(way)))
+    for what, way in (("moov", "back"), ("mdat", "middle")):
+        yield "wide-and-open-%s-%s" % (what, way), made(forms.opened(forms.all_wide(film_of(way))))
+
+
+def edit(what, label, file):
+    """A call that is accepted, and the file that it has to give."""
+    if what == "shift":
+        return shift(label, file, 60, len(file)), answers.shift(file, 60)
+    if what == "move":
+        return move(label, file, len(file)), answers.move(file)
+    record = dict(records())[what]
+    return replace(label, file, 1, what, record, len(file) + 16), answers.replace(file, 1, record)
+
+
+RUNS = [("d263-rates", "move", "d263"), ("move", "shift", "d263-rates"), ("shift", "d263-rates", "move")]
+
+
+def run_groups(label, file):
+    """Edits in turn, each on what the one before it has to give."""
+    for run in RUNS:
+        name, given = label, file
+        for what in run:
+            call, result = edit(what, name, given)
+            yield given, [call]
+            name, given = name + "-then-" + what, result
+
+
+def refused_edits(label, file):
+    """A shift by 0, edits with a byte of room too few, and what isn't taken in them."""
+    n, rates = len(file), dict(records())["d263-rates"]
+    yield from (shift(label, file, 0, n), shift(label, file, -60, n - 1), shift(label, file, 841, n), move(label, file, n - 1))
+    yield replace(label, file, 1, "d263-rates", rates, n + 15)
+    yield replace(label, file, 2, "wide-damr", one(Box("damr", *damr().body, wide=True)), n + 8)
+
+
+def form_groups():
+    found = dict(formed_films())
+    for label, file in found.items():
+        edits = [edit(what, label, file)[0] for what in ("shift", "move", "d263-rates")]
+        yield file, [listing(label, file, 400), sheet(label, file, 400), *edits]
+    for label in ("wide-tkhd", "wide-mdhd", "wide-stco", "wide-all-middle", "open-moov-back"):
+        file = found[label]
+        yield file, [call(label, file, n) for call in (track, offsets) for n in (1, 2)]
+    for label in ("wide-all-front", "wide-all-back", "wide-all-middle", "open-mdat-front", "open-moov-back", "wide-and-open-moov-back"):
+        yield from run_groups(label, found[label])
+    for label in ("wide-all-middle", "open-moov-back"):
+        file, second = found[label], dated(10**9)
+        yield file, refused_edits(label, file)
+        yield file + second, [call for y in (0, -1) for call in both(label + "-and-plain", file, y, second, 0, 1)]
+        yield second + file, both("plain-and-" + label, second, 0, file, 0, 2)
+    for code in ("meta", "moof"):
+        file = made([*forms.opened(film_of("back")), Box(code)])
+        label = "open-moov-over-" + code
+        yield file, [shift(label, file, 60, len(file)), move(label, file, len(file))]
+
+
+def form_table_groups():
+    """Sheets of files whose `stsd` is wide, and bodies that are wide or have such a box in them."""
+    found = dict(formed_films())
+    for label in ("wide-stsd", "wide-all-back"):
+        given = answers.sheet(found[label])
+        yield given, [table("of-" + label, given, n) for n in (1, 2)]
+    bodies = {what: entry for what, entry, _, _ in forms.entry_cases()}
+    bodies["wide-samr"] = Box("samr", *files.samr().body, wide=True)
+    for what, entry in bodies.items():
+        given = sheet_of((1, one(entry)))
+        yield given, [table("form-" + what, given, 1)]
+
+
 def short_groups():
     """(a file, the calls on it)."""
     yield from plain_groups()
@@ -874,6 +959,8 @@ def short_groups():
     yield from newest_groups()
     yield from field_groups()
     yield from real_groups()
+    yield from form_groups()
+    yield from form_table_groups()
 
 
 # ---- Files and sheets at the limits of length: a start, and zeros behind it
@@ -905,6 +992,23 @@ def long_edits(label, file):
     yield track(label, file, 2)
     yield offsets(label, file, 2)
     yield newest(label + "-and-nothing", file, 841, b"", 0, 0)
+
+
+def long_open_films(total):
+    """Films of that length whose last box is open: a `free`, and a `moov` that ends in a `free`."""
+    yield "free", made([*film_of("middle"), Box("free", size=0)])
+    file = forms.opened(film_of("back"))
+    length = len(made(file))
+    boxes_body(file).append(Box("free", size=total - length))
+    yield "moov", made(file)
+
+
+def long_open_groups():
+    for total in (files.LONGEST - 16, files.LONGEST - 15):
+        for what, start in long_open_films(total):
+            label, file = "open-%s-%d" % (what, total), start.ljust(total, b"\0")
+            calls = [move(label, file, total), shift(label, file, -60, total)]
+            yield start, total, [*calls, replace(label, file, 1, "d263-rates", dict(records())["d263-rates"], total + 16)]
 
 
 def long_groups():
@@ -947,11 +1051,13 @@ def packed(call):
 
 
 def all_groups():
-    for name, start, length in files.checked():
-        yield start, length, [judge(name, start.ljust(length, b"\0"))]
+    for group in (files, forms):
+        for name, start, length in files.checked(group.cases(), group.long_files()):
+            yield start, length, [judge(name, start.ljust(length, b"\0"))]
     for file, calls in short_groups():
         yield file, len(file), calls
     yield from long_groups()
+    yield from long_open_groups()
 
 
 def fresh(start, length, calls, seen):
@@ -975,10 +1081,11 @@ def split(start, length, calls):
 
 
 def check_reader():
+    files.check_builder()
     example = b"file 0\ntrack 1 soun 160/8000\nentry 1 track 1 samr place 397 size 53\n"
     example += b"brand 3gp4 no\nbrand 3gp5 no\nbrand 3gp6 yes\nbrand 3gr6 no\n"
     assert answers.listing(files.build(files.movie(files.trak()))) == example
-    for label, file in [*all_films(), *plain_files()]:
+    for label, file in [*all_films(), *plain_files(), *formed_films()]:
         assert files.judge(file) == (0, 0), label
         assert files.judge(answers.move(file)) == (0, 0), label
         assert answers.move(answers.move(file)) == answers.move(file), label

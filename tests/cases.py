@@ -12,23 +12,31 @@ def box(code, body=b"", size=None):
     return (8 + len(body) if size is None else size).to_bytes(4, "big") + code + body
 
 
-def walk(part):
-    """The boxes of a part as (place, size, code), and where rule 2 breaks, or None."""
+def wide(code, body=b"", size=None):
+    return be(1, 4) + code + be(16 + len(body) if size is None else size, 8) + body
+
+
+def walk(part, plain=False):
+    """The boxes of a part as (place, header's length, size, code), and where they stop tiling it, or None."""
     found, at = [], 0
     while at < len(part):
-        size = int.from_bytes(part[at : at + 4], "big")
-        if len(part) - at < 8 or size < 8 or at + size > len(part):
+        head, size = 8, number(part, at, 4)
+        if size == 1 and not plain:
+            head, size = 16, number(part, at + 8, 8)
+        elif size == 0 and not plain:
+            size = len(part) - at
+        if not head <= size <= len(part) - at:
             return found, at
-        found.append((at, size, part[at + 4 : at + 8]))
+        found.append((at, head, size, part[at + 4 : at + 8]))
         at += size
     return found, None
 
 
 def show(part):
     found, broken = walk(part)
-    lines = ["box %s place %d head 8 size %d" % (code.hex(), at, size) for at, size, code in found]
+    lines = ["box %s place %d head %d size %d" % (code.hex(), at, head, size) for at, head, size, code in found]
     lines.append("end" if broken is None else "broken %d" % broken)
-    free = [size - 8 for at, size, code in found if code == b"free"]
+    free = [size - head for at, head, size, code in found if code == b"free"]
     lengths = (free + [0, 0, 0])[:3]
     end = len(part) if broken is None else broken
     lines.append("tiled to %d free %d of %d %d %d %d" % (end, len(free), len(found), *lengths))
@@ -49,6 +57,12 @@ def parts():
     yield box(b"moov", box(b"free") + box(b"trak")) + box(b"free", b"12")
     yield box(bytes(4), b"any") + box(b"FREE", b"no")
     yield box(b"free", b"a") + box(b"free", size=7) + box(b"free", b"b")
+    for size in (*range(0, 17), 24, 25, 2**32, 2**32 + 24, 2**63 + 24, 2**64 - 24, 2**64 - 8, 2**64 - 1):
+        yield box(b"skip") + wide(b"free", b"12345678", size)
+    for n in range(8, 16):
+        yield wide(b"free")[:n]
+    yield wide(b"free", b"abc") + box(b"free", b"de") + wide(b"free") + box(b"free", b"f", 0) + box(b"free")
+    yield box(b"free", size=0) + bytes(3)
 
 
 # ---- sample entries: rule 10
@@ -124,8 +138,8 @@ def inside_rule(code, part, most=15):
         return d263_rule(part)
     if code in (b"mp4v", b"mp4a"):
         return one_box(part, b"esds") and len(part) >= 12 and part[8:12] == bytes(4)
-    found, broken = walk(part)
-    return broken is None and [c for at, size, c in found].count(b"avcC") == 1
+    found, broken = walk(part, plain=True)
+    return broken is None and [c for at, head, size, c in found].count(b"avcC") == 1
 
 
 def audio_head(e):
@@ -365,7 +379,7 @@ def marked():
 
 
 def payloads(part, code):
-    return [part[at + 8 : at + size] for at, size, c in walk(part)[0] if c == code]
+    return [part[at + head : at + size] for at, head, size, c in walk(part)[0] if c == code]
 
 
 def down(part, *codes):
@@ -386,7 +400,7 @@ def real_entries():
         scale, handler = number(down(mdia, b"mdhd"), 12, 4), down(mdia, b"hdlr")[8:12]
         references = number(down(mdia, b"minf", b"dinf", b"dref"), 4, 4)
         rest = down(mdia, b"minf", b"stbl", b"stsd")[8:]
-        for at, size, code in walk(rest)[0]:
+        for at, head, size, code in walk(rest, plain=True)[0]:
             yield name, (scale, handler, references), rest[at : at + size]
 
 
