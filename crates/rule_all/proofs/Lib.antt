@@ -7,4 +7,5 @@ pub mod Entries
 pub mod Judging
 pub mod Answers
 pub mod Running
+pub mod Steps
 pub mod Editing
