@@ -19,7 +19,7 @@ use Rattle.rule_all.specs.declared.SoFar.{SoFar}
 use Rattle.rule_all.specs.declared.SureTracks.{SureTracks}
 use Rattle.rule_all.specs.declared.TrackSays.{TrackSays}
 use Rattle.rule_all.specs.All.{SureBefore}
-use Rattle.rule_all.specs.Track.{Says}
+use Rattle.rule_all.specs.Track.{SaysOf}
 use Rattle.rule_all.specs.Tracks.{SureWith, Joined, Tracked, TracksTold}
 use Rattle.rule_all.proofs.All.{sure-before-none}
 use Rattle.rule_all.proofs.Judging.{judged}
@@ -30,7 +30,7 @@ module _ {xs : List ℕ} {m : Movie} (l : LaidOut xs m) {i : ℕ} (h : i < 4) {s
   track-lies = rw e (slot-at l i h .lies)
 
   module _ (n : i < tracks xs) {k : Track} (a : Laid xs (slotIn xs s) k) where
-    pub step : tracks xs ≤ 4 → {p : SoFar} → Run xs i p → {t : TrackSays} → Says xs k t → {r : SoFar} → Joined p i t r → 10 ≤ r .sure → Run xs (i + 1) r
+    pub step : tracks xs ≤ 4 → {p : SoFar} → Run xs i p → {t : TrackSays} → SaysOf xs k t → {r : SoFar} → Joined p i t r → 10 ≤ r .sure → Run xs (i + 1) r
     step four g u j q = run-more g n four (rw (e, slot-at l i h .is) at (judged a u)) j q
 
     pub step-told : Spread xs m → StsdPlaced xs s k → {v : ReadTrack} → v ≡ toldIn xs k → TrackAt xs i v

@@ -84,7 +84,7 @@ abbrev pub EntriesMeet : List ℕ → Type 0
 EntriesMeet b = entriesFine (aroundOf b) (drop FRONT (follow toStsd b)) ≡ true
 
 -- what is said of it, by where its boxes stand
-pub record Says (xs : List ℕ) (t : Track) (r : TrackSays) : Type 0 where
+pub record SaysOf (xs : List ℕ) (t : Track) (r : TrackSays) : Type 0 where
   pub fine : AllFine xs t (r .sure)
   pub identity : r .identity ≡ word 4 (slotIn xs (t .tkhd)) 12
   pub entries : r .entries ≡ word 4 (slotIn xs (t .stsd)) 4

@@ -24,7 +24,7 @@ ghost use Rattle.boxes.specs.Containers.{LONGEST};
 ghost use Rattle.layout.specs.Slots.{slotIn};
 ghost use Rattle.rule_lists.specs.Nine.{allUrls};
 ghost use Rattle.rule_entries.specs.Ten.{entriesFine};
-ghost use Rattle.rule_all.specs.Track.{Inside, headsFine, listsFine, formsFine, tablesFine, aroundIn, AllFine, Says};
+ghost use Rattle.rule_all.specs.Track.{Inside, headsFine, listsFine, formsFine, tablesFine, aroundIn, AllFine, SaysOf};
 
 // Rule 4: 1 or 0.
 fn heads_fine(file: &[u8], t: Track) -> usize
@@ -165,7 +165,7 @@ fn all_fine(file: &[u8], t: Track) -> usize
 // What a track says, by where its boxes stand.
 pub fn judge(file: &[u8], t: Track) -> TrackSays
     requires { ⌜ Inside (now file) t × (length (now file) ≤ LONGEST) ⌝ }
-    ensures { λ r. ⌜ Says (now (file .entry)) t r ⌝ }
+    ensures { λ r. ⌜ SaysOf (now (file .entry)) t r ⌝ }
 {
     let tkhd = t.tkhd;
     let stsd = t.stsd;
