@@ -1,9 +1,8 @@
 -- The tracks of a file, filled in one by one. Assumes nothing.
 use Prim.Native.Nat.{ℕ, _+_, _≤_, _<_}
 use native.Mathlib.Omega.{arith}
-use mathlib.Core.Path.{_≡_, refl, sym, subst}
+use mathlib.Core.Path.{_≡_, refl, sym, subst, _∙_}
 use mathlib.Core.List.{List}
-use borrow.Author.Tests.{ne-eqb}
 use Rattle.wire.specs.Tests.{ifEq}
 use Rattle.wire.proofs.Tests.{eq-or, lt-or}
 use Rattle.movie.specs.Movie.{tracks}
@@ -29,27 +28,31 @@ filled-none xs {n} q c =
 
 -- ---- one more
 
-module _ (e : Tracks) (k : ReadTrack) where
-  own : (i : ℕ) → i < 4 → trackOf (withTrack e i k) i ≡ k
-  unfolding trackOf withTrack ifEq
-  own i h =
-      eq-or i 0 (λ q. rw q) (λ n. eq-or i 1 (λ q. rw q) (λ m. eq-or i 2 (λ q. rw q) (λ o. let q : i ≡ 3 = omega arith in rw q)))
+one-of : {A : Type 0} (t : ℕ) → t < 4 → (t ≡ 0 → A) → (t ≡ 1 → A) → (t ≡ 2 → A) → (t ≡ 3 → A) → A
+one-of t h a b c d = eq-or t 0 a (λ n. eq-or t 1 b (λ m. eq-or t 2 c (λ o. d (omega arith))))
 
-  other : (i t : ℕ) → t < 4 → (i ≡ t → ⊥) → trackOf (withTrack e i k) t ≡ trackOf e t
-  unfolding trackOf withTrack ifEq
-  other i t h z =
-      eq-or t 0 (λ q. rw (q, ne-eqb i 0 (λ y. z (omega arith)))) (λ n. eq-or t 1 (λ q. rw (q, ne-eqb i 1 (λ y. z (omega arith))))
-      (λ m. eq-or t 2 (λ q. rw (q, ne-eqb i 2 (λ y. z (omega arith))))
-      (λ o. let q : t ≡ 3 = omega arith in rw (q, ne-eqb i 3 (λ y. z (omega arith))))))
+-- what track k in place of number i leaves and puts
+abbrev Put : Tracks → ReadTrack → ℕ → Tracks → Type 0
+Put e k i r =
+    (r .count ≡ e .count) × (trackOf r i ≡ k) × ((t : ℕ) → t < 4 → (i ≡ t → ⊥) → trackOf r t ≡ trackOf e t)
+
+put : (e : Tracks) (k : ReadTrack) (i : ℕ) → i < 4 → Put e k i (withTrack e i k)
+unfolding trackOf withTrack ifEq
+put e k i h =
+    by-four (Put e k)
+    (refl, refl, λ t l z. one-of t l (λ q. absurd (z (sym q))) (λ q. rw q) (λ q. rw q) (λ q. rw q))
+    (refl, refl, λ t l z. one-of t l (λ q. rw q) (λ q. absurd (z (sym q))) (λ q. rw q) (λ q. rw q))
+    (refl, refl, λ t l z. one-of t l (λ q. rw q) (λ q. rw q) (λ q. absurd (z (sym q))) (λ q. rw q))
+    (refl, refl, λ t l z. one-of t l (λ q. rw q) (λ q. rw q) (λ q. rw q) (λ q. absurd (z (sym q)))) i h
 
 module _ {xs : List ℕ} {i : ℕ} {e : Tracks} (f : Filled xs i e) where
   pub filled-more : i < tracks xs → i < 4 → {k : ReadTrack} {r : Tracks} → TrackAt xs i k → r ≡ withTrack e i k → Filled xs (i + 1) r
-  unfolding withTrack
   filled-more h m {k} a q =
+      let p = put e k i m in
       rw q (record {
-        count = f .count;
-        there = λ t n l. eq-or t i (λ d. rw d (subst (TrackAt xs i) (sym (own e k i m)) a)) (λ d. rw (other e k i t n (λ y. d (sym y))) (f .there t n (omega arith)));
-        past = λ t n l. rw (other e k i t n (λ d. omega arith)) (f .past t n l);
+        count = p .0 ∙ f .count;
+        there = λ t n l. eq-or t i (λ d. rw d (subst (TrackAt xs i) (sym (p .1)) a)) (λ d. rw (p .2 t n (λ y. d (sym y))) (f .there t n (omega arith)));
+        past = λ t n l. rw (p .2 t n (λ d. omega arith)) (f .past t n l);
       })
 
   at : tracks xs ≤ i → (t : ℕ) → t < 4 → TrackAt xs t (trackOf e t)

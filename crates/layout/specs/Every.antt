@@ -69,7 +69,10 @@ blanksOf n = record { count = n; one = blankOf; two = blankOf; three = blankOf; 
 -- with the track k in place of the one of number t
 unfoldable pub withTrack : Tracks → ℕ → ReadTrack → Tracks
 withTrack e t k =
-    record { count = e .count; one = ifEq t 0 k (e .one); two = ifEq t 1 k (e .two); three = ifEq t 2 k (e .three); four = ifEq t 3 k (e .four) }
+    ifEq t 0 (record { count = e .count; one = k; two = e .two; three = e .three; four = e .four })
+    (ifEq t 1 (record { count = e .count; one = e .one; two = k; three = e .three; four = e .four })
+    (ifEq t 2 (record { count = e .count; one = e .one; two = e .two; three = k; four = e .four })
+    (record { count = e .count; one = e .one; two = e .two; three = e .three; four = k })))
 
 pub record TracksAt (xs : List ℕ) (e : Tracks) : Type 0 where
   pub count : e .count ≡ tracks xs

@@ -6,7 +6,6 @@ use crate::track::Track;
 use crate::tracks;
 use wire::number;
 ghost use mathlib.Core.Path.{_≡_};
-ghost use Rattle.wire.specs.Tests.{ifEq};
 ghost use Rattle.movie.specs.Movie.{tracks as tracksOf};
 ghost use Rattle.layout.specs.Slots.{Lies};
 ghost use Rattle.layout.specs.Every.{blankOf, blanksOf, toldIn, trackOf, withTrack, TrakAt, TrackAt, TracksAt};
@@ -122,25 +121,47 @@ pub fn blanks(count: usize) -> Tracks
     }
 }
 
-// The first of two where two numbers are the same, else the second.
-fn chosen(m: usize, n: usize, a: ReadTrack, b: ReadTrack) -> ReadTrack
-    ensures { λ r. ⌜ r ≡ ifEq m n a b ⌝ }
-{
-    if m == n {
-        return a;
-    }
-    b
-}
-
 // With a track in place of the one of a number, of four.
 pub fn with_track(e: Tracks, t: usize, k: ReadTrack) -> Tracks
     ensures { λ r. ⌜ r ≡ withTrack e t k ⌝ }
 {
+    let count = e.count;
+    let one = e.one;
+    let two = e.two;
+    let three = e.three;
+    let four = e.four;
+    if t == 0 {
+        return Tracks {
+            count,
+            one: k,
+            two,
+            three,
+            four,
+        };
+    }
+    if t == 1 {
+        return Tracks {
+            count,
+            one,
+            two: k,
+            three,
+            four,
+        };
+    }
+    if t == 2 {
+        return Tracks {
+            count,
+            one,
+            two,
+            three: k,
+            four,
+        };
+    }
     Tracks {
-        count: e.count,
-        one: chosen(t, 0, k, e.one),
-        two: chosen(t, 1, k, e.two),
-        three: chosen(t, 2, k, e.three),
-        four: chosen(t, 3, k, e.four),
+        count,
+        one,
+        two,
+        three,
+        four: k,
     }
 }

@@ -1,5 +1,6 @@
 -- A track meets all rules where the tests of its boxes, by where they stand, all hold. Assumes nothing.
 use Prim.Native.Nat.{ℕ, _≤_}
+use mathlib.Core.Path.{_∙_}
 use mathlib.Core.List.{List}
 use Rattle.wire.proofs.Clauses.{clause}
 use Rattle.boxes.specs.Boxes.{boxes}
@@ -8,7 +9,8 @@ use Rattle.movie.specs.Movie.{scale, handler, references}
 use Rattle.layout.specs.declared.track.Track.{Track}
 use Rattle.layout.specs.Track.{Laid}
 use Rattle.rule_entries.specs.Ten.{aroundOf}
-use Rattle.rule_all.specs.Track.{Inside, headsFine, listsFine, formsFine, tablesFine, AllFine, Good, EntriesMeet}
+use Rattle.rule_all.specs.declared.TrackSays.{TrackSays}
+use Rattle.rule_all.specs.Track.{Inside, headsFine, listsFine, formsFine, tablesFine, AllFine, Good, EntriesMeet, SaysOf, Judged}
 use Rattle.rule_all.proofs.Containers.{dinf-all, stbl-all, minf-all, mdia-all, trak-all}
 
 module _ {xs b : List ℕ} {t : Track} (h : Laid xs b t) where
@@ -48,3 +50,8 @@ module _ {xs b : List ℕ} {t : Track} (h : Laid xs b t) where
     pub listed : 11 ≤ r → EntriesMeet b
     unfolding aroundOf scale handler references
     listed z = rw (h .mdhd .is, h .hdlr .is, h .dref .is, h .stsd .is) at (f .entries z)
+
+  pub judged : {r : TrackSays} → SaysOf xs t r → Judged (boxes xs) b r
+  judged s =
+      let f = s .fine in
+      record { most = f .most; good = good f; listed = listed f; identity = s .identity ∙ rw (h .tkhd .is); entries = s .entries ∙ rw (h .stsd .is) }

@@ -8,4 +8,5 @@ pub mod Judging
 pub mod Answers
 pub mod Hint
 pub mod Running
+pub mod Steps
 pub mod Editing

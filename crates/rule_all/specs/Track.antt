@@ -83,11 +83,17 @@ Good l b = allIn (allRules l) 4 TRAK b ≡ true
 abbrev pub EntriesMeet : List ℕ → Type 0
 EntriesMeet b = entriesFine (aroundOf b) (drop FRONT (follow toStsd b)) ≡ true
 
--- what an answer says of it
+-- what is said of it, by where its boxes stand
+pub record SaysOf (xs : List ℕ) (t : Track) (r : TrackSays) : Type 0 where
+  pub fine : AllFine xs t (r .sure)
+  pub identity : r .identity ≡ word 4 (slotIn xs (t .tkhd)) 12
+  pub entries : r .entries ≡ word 4 (slotIn xs (t .stsd)) 4
+  pub small : r .entries < 2 ^ 32
+
+-- and by its payload
 pub record Judged (l : List Box) (b : List ℕ) (t : TrackSays) : Type 0 where
   pub most : t .sure ≤ 11
   pub good : 10 ≤ t .sure → Good l b
   pub listed : 11 ≤ t .sure → EntriesMeet b
   pub identity : t .identity ≡ word 4 (find TKHD (boxes b)) 12
   pub entries : t .entries ≡ storedCount (follow toStsd b)
-  pub small : t .entries < 2 ^ 32

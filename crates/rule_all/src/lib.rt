@@ -4,7 +4,6 @@ mod track;
 
 use boxes::containers;
 use layout::every;
-use layout::every::ReadTrack;
 use layout::every::Tracks;
 use layout::gather;
 use layout::tracks;
@@ -14,7 +13,7 @@ use rule_lists::total;
 use wire::number;
 ghost use mathlib.Core.Path.{_≡_};
 ghost use mathlib.Core.List.{[], _∷_};
-ghost use Prim.Native.Nat.{_≤_};
+ghost use Prim.Native.Nat.{_^_, _≤_, _<_};
 ghost use lib.ListN.{length};
 ghost use Rattle.wire.specs.Clauses.{every, oneIf};
 ghost use Rattle.codes.specs.Codes.{FTYP, MOOV, MVHD};
@@ -23,15 +22,24 @@ ghost use Rattle.movie.specs.Movie.{tracks};
 ghost use Rattle.layout.specs.Slots.{slotIn, Lies};
 ghost use Rattle.layout.specs.Tracks.{LaidOut, Spread};
 ghost use Rattle.rule_headers.specs.Forms.{form};
+ghost use Rattle.rule_lists.specs.Five.{MOST};
 ghost use Rattle.rule_all.specs.All.{SureBefore};
-ghost use Rattle.rule_all.specs.Tracks.{Again, Tracked, TracksTold};
+ghost use Rattle.rule_all.specs.Tracks.{Again, SureWith, Joined, Tracked, TracksTold};
 
-// What a track says: before which rule it is sure to be fine, its ID, how many sample entries it has, and what the reads ask for.
+// What a track says: before which rule it is sure to be fine, its ID, and how many sample entries it has.
 pub struct TrackSays {
     pub sure: usize,
     pub identity: usize,
     pub entries: usize,
-    pub read: ReadTrack,
+}
+
+// The same of the tracks so far: before which rule, how many sample entries, and the last three IDs.
+pub struct SoFar {
+    pub sure: usize,
+    pub total: usize,
+    pub one: usize,
+    pub two: usize,
+    pub three: usize,
 }
 
 // Before which rule a file is sure to be fine, and its tracks.
@@ -88,45 +96,108 @@ fn again(identity: usize, i: usize, one: usize, two: usize, three: usize) -> usi
     0
 }
 
+// Before which rule the tracks are sure to be fine with track i, from 0: 2 where it isn't good, has an ID again or too many entries.
+fn sure_with(p: SoFar, i: usize, t: TrackSays) -> usize
+    requires { ⌜ (p .total ≤ MOST) × (t .entries < 2 ^ 32) ⌝ }
+    ensures { λ r. ⌜ SureWith p i t r ⌝ }
+{
+    if t.sure < 10 {
+        return 2;
+    }
+    if again(t.identity, i, p.one, p.two, p.three) != 0 {
+        return 2;
+    }
+    if total::MOST < p.total + t.entries {
+        return 2;
+    }
+    number::least(p.sure, t.sure)
+}
+
+// The tracks so far, and track i.
+fn joined(p: SoFar, i: usize, t: TrackSays) -> SoFar
+    requires { ⌜ (p .total ≤ MOST) × (t .entries < 2 ^ 32) ⌝ }
+    ensures { λ r. ⌜ Joined p i t r ⌝ }
+{
+    SoFar {
+        sure: sure_with(p, i, t),
+        total: p.total + t.entries,
+        one: t.identity,
+        two: p.one,
+        three: p.two,
+    }
+}
+
 // 2; or 10, where each track is good, their IDs differ, and they have at most 8 sample entries; or 11, where these are fine too.
-fn tracks_fine(file: &[u8], m: Movie) -> SureTracks
+fn tracks_fine(file: &[u8], m: Movie) -> usize
+    requires { ⌜ LaidOut (now file) m × (tracks (now file) ≤ 4) × (length (now file) ≤ LONGEST) ⌝ }
+    ensures { λ r. ⌜ Tracked (now (file .entry)) r ⌝ }
+{
+    let n = m.tracks;
+    let mut i = 0;
+    let mut p = SoFar {
+        sure: 11,
+        total: 0,
+        one: 0,
+        two: 0,
+        three: 0,
+    };
+    while i < n {
+        let k = layout::track::lay(file, tracks::track_slot(m, i));
+        p = joined(p, i, track::judge(file, k, m.mdat));
+        if p.sure < 10 {
+            return 2;
+        }
+        i += 1;
+    }
+    p.sure
+}
+
+// The same, with what the tracks say.
+fn tracks_told(file: &[u8], m: Movie) -> SureTracks
     requires { ⌜ LaidOut (now file) m × Spread (now file) m × (tracks (now file) ≤ 4) × (length (now file) ≤ LONGEST) ⌝ }
     ensures { λ r. ⌜ Tracked (now (file .entry)) (r .sure) × TracksTold (now (file .entry)) r ⌝ }
 {
     let n = m.tracks;
     let mut i = 0;
-    let mut total = 0;
-    let mut one = 0;
-    let mut two = 0;
-    let mut three = 0;
-    let mut sure = 11;
+    let mut p = SoFar {
+        sure: 11,
+        total: 0,
+        one: 0,
+        two: 0,
+        three: 0,
+    };
     let mut found = every::blanks(n);
     while i < n {
-        let t = track::judge(file, tracks::track_slot(m, i), m.mdat);
-        if t.sure < 10 {
+        let k = layout::track::lay(file, tracks::track_slot(m, i));
+        p = joined(p, i, track::judge(file, k, m.mdat));
+        if p.sure < 10 {
             return doubted();
         }
-        if again(t.identity, i, one, two, three) != 0 {
-            return doubted();
-        }
-        total += t.entries;
-        if total::MOST < total {
-            return doubted();
-        }
-        sure = number::least(sure, t.sure);
-        found = every::with_track(found, i, t.read);
-        three = two;
-        two = one;
-        one = t.identity;
+        found = every::with_track(found, i, every::told(file, k));
         i += 1;
     }
     SureTracks {
-        sure,
+        sure: p.sure,
         tracks: found,
     }
 }
 
-// A number of 2, 10 or 11: the rules from 2 on and before it hold of a file. Its tracks are told where it is 10 or 11.
+// A number of 2, 10 or 11: the rules from 2 on and before it hold of a file.
+pub fn sure_before(file: &[u8]) -> usize
+    requires { ⌜ length (now file) ≤ LONGEST ⌝ }
+    ensures { λ r. ⌜ SureBefore (now (file .entry)) r ⌝ }
+{
+    let m = tracks::lay(file);
+    if m.shaped == 0 {
+        return 2;
+    }
+    if heads_fine(file, m) == 0 {
+        return 2;
+    }
+    tracks_fine(file, m)
+}
+
+// The same, and where it is 10 or 11 what the tracks say.
 pub fn sure_tracks(file: &[u8]) -> SureTracks
     requires { ⌜ length (now file) ≤ LONGEST ⌝ }
     ensures { λ r. ⌜ SureBefore (now (file .entry)) (r .sure) × TracksTold (now (file .entry)) r ⌝ }
@@ -138,14 +209,5 @@ pub fn sure_tracks(file: &[u8]) -> SureTracks
     if heads_fine(file, m) == 0 {
         return doubted();
     }
-    tracks_fine(file, m)
-}
-
-// The number alone.
-pub fn sure_before(file: &[u8]) -> usize
-    requires { ⌜ length (now file) ≤ LONGEST ⌝ }
-    ensures { λ r. ⌜ SureBefore (now (file .entry)) r ⌝ }
-{
-    let s = sure_tracks(file);
-    s.sure
+    tracks_told(file, m)
 }

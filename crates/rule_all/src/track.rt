@@ -2,10 +2,8 @@
 use crate::TrackSays;
 use boxes::walk;
 use entry_rules::entry::Around;
-use layout::every;
 use layout::gather;
 use layout::gather::Slot;
-use layout::track;
 use layout::track::Track;
 use mdat::chunks;
 use mdat::payload;
@@ -25,12 +23,11 @@ ghost use lib.ListN.{length, drop};
 ghost use Rattle.wire.specs.Clauses.{oneIf};
 ghost use Rattle.boxes.specs.Boxes.{FRONT, boxes};
 ghost use Rattle.boxes.specs.Containers.{LONGEST};
-ghost use Rattle.layout.specs.Slots.{slotIn, Lies};
-ghost use Rattle.layout.specs.Every.{ReadAt};
+ghost use Rattle.layout.specs.Slots.{slotIn};
 ghost use Rattle.layout.specs.Tracks.{FirstMdat};
 ghost use Rattle.rule_lists.specs.Nine.{allUrls};
 ghost use Rattle.rule_entries.specs.Ten.{entriesFine};
-ghost use Rattle.rule_all.specs.Track.{Inside, headsFine, listsFine, formsFine, tablesFine, aroundIn, AllFine, Judged};
+ghost use Rattle.rule_all.specs.Track.{Inside, headsFine, listsFine, formsFine, tablesFine, aroundIn, AllFine, SaysOf};
 
 // Rule 4: 1 or 0.
 fn heads_fine(file: &[u8], t: Track) -> usize
@@ -174,18 +171,16 @@ fn all_fine(file: &[u8], t: Track, mdat: Slot) -> usize
     11
 }
 
-// The track whose payload is a slot of the file, in a file with that first `mdat`.
-pub fn judge(file: &[u8], trak: Slot, mdat: Slot) -> TrackSays
-    requires { ⌜ Lies (now file) trak × (length (now file) ≤ LONGEST) × FirstMdat (now file) mdat ⌝ }
-    ensures { λ r. ⌜ Judged (boxes (now (file .entry))) (slotIn (now (file .entry)) trak) r × ReadAt (now (file .entry)) trak (r .read) ⌝ }
+// What a track says, by where its boxes stand, in a file with that first `mdat`.
+pub fn judge(file: &[u8], t: Track, mdat: Slot) -> TrackSays
+    requires { ⌜ Inside (now file) t × (length (now file) ≤ LONGEST) × FirstMdat (now file) mdat ⌝ }
+    ensures { λ r. ⌜ SaysOf (now (file .entry)) t r ⌝ }
 {
-    let t = track::lay(file, trak);
     let tkhd = t.tkhd;
     let stsd = t.stsd;
     TrackSays {
         sure: all_fine(file, t, mdat),
         identity: number::word32(gather::bytes(file, tkhd), 12),
         entries: number::word32(gather::bytes(file, stsd), 4),
-        read: every::told(file, t),
     }
 }

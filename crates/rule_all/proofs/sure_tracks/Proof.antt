@@ -3,7 +3,7 @@ use borrow.Author.Needs.{needs}
 use native.Mathlib.Omega.{arith}
 use Rattle.wire.proofs.Clauses.{clause, was-yea}
 use Rattle.rule_shape.proofs.Needs.{shape-tracks}
-use Rattle.rule_all.proofs.Running.{unsure}
+use Rattle.rule_all.proofs.Steps.{unsure}
 use Rattle.rule_all.proofs.Whole.{file-nine}
 use Rattle.rule_all.proofs.Entries.{file-ten}
 use Rattle.rule_all.proofs.sure_tracks.Statement.{statement}
@@ -21,7 +21,7 @@ sure-tracks-spec = tie.close (tie.spec
     (λ c κs. let l = c .before .before .before .before .lay .ensures in
     (l .0, l .1, shape-tracks _ (l .0 .shaped (c .before .before .if1 .left) .moov .three) .1, c .before .before .before .before .before .before .pre))
     (λ c. let l = c .before .before .before .before .before .lay .ensures .0 in
-    let t = c .tracks-fine .ensures .0 in
+    let t = c .tracks-told .ensures .0 in
     let h = was-yea _ _ (c .before .if2 .left) (c .before .before .heads-fine .ensures) in
     let f = l .shaped (c .before .before .before .if1 .left) in (
       record {
@@ -30,5 +30,5 @@ sure-tracks-spec = tie.close (tie.spec
         nine = λ z. file-nine _ _ f (rw (l .ftyp .is) at (clause 0 _ h)) (rw (l .mvhd .is) at (clause 1 _ h)) (t .each z) (t .differ z) (t .few z);
         ten = λ z. file-ten _ _ f (t .each (omega arith)) (t .listed z);
       },
-      c .tracks-fine .ensures .1,
+      c .tracks-told .ensures .1,
     )))

@@ -1,5 +1,7 @@
--- Each of the four is the one chosen.
-use borrow.Author.Needs.{needs}
+-- Each number by its test.
+use mathlib.Core.Path.{refl}
+use native.Mathlib.Omega.{arith}
+use Rattle.wire.proofs.Tests.{eq-yea, eq-nay}
 use Rattle.layout.specs.Every.{withTrack}
 use Rattle.layout.proofs.every.with_track.Statement.{statement}
 use Rattle.layout.proofs.every.with_track.Tie as tie
@@ -7,8 +9,7 @@ use Rattle.layout.proofs.every.with_track.Tie as tie
 pub with-track-spec : {M : Type 1} → statement M
 unfolding withTrack
 with-track-spec = tie.close (tie.spec
-    (λ c κs. search needs)
-    (λ c κs. search needs)
-    (λ c κs. search needs)
-    (λ c κs. search needs)
-    (λ c. rw (← c .before .before .before .chosen .ensures, ← c .before .before .chosen2 .ensures, ← c .before .chosen3 .ensures, ← c .chosen4 .ensures)))
+    (λ c. eq-yea _ _ _ _ _ (omega arith) refl)
+    (λ c. eq-nay _ _ _ _ _ (omega arith) (eq-yea _ _ _ _ _ (omega arith) refl))
+    (λ c. eq-nay _ _ _ _ _ (omega arith) (eq-nay _ _ _ _ _ (omega arith) (eq-yea _ _ _ _ _ (omega arith) refl)))
+    (λ c. eq-nay _ _ _ _ _ (omega arith) (eq-nay _ _ _ _ _ (omega arith) (eq-nay _ _ _ _ _ (omega arith) refl))))
