@@ -18,13 +18,16 @@ use Rattle.movie.specs.Named.{spotIn}
 use Rattle.entry_rules.specs.Entries.{FRAMES}
 use Rattle.entry_rules.specs.Decoders.{recordRule}
 use Rattle.judge.specs.Acceptance.{Meets}
+use Rattle.edit_offsets.specs.Close.{closed}
 use Rattle.edit_offsets.specs.Settle.{settled}
+use Rattle.edit_offsets.proofs.Closing.{bytes-closed}
 use Rattle.edit_offsets.proofs.Settled.{settled-length}
 use Rattle.edit_replace.specs.Replace.{kindAt, recordAt, recordReplaced, replaceOf}
 use Rattle.edit_replace.proofs.Taking.{record-first}
 use Rattle.edit_replace.proofs.Written.{past-none}
+use Rattle.promise_kept.proofs.Closed.{closed-track, closed-kin}
 use Rattle.promise_kept.proofs.Named.{entry-in}
-use Rattle.promise_differs.specs.Differs.{keptOf, Replaces, EntryReplaced}
+use Rattle.promise_differs.specs.Differs.{OnlyRecord, keptOf, Replaces, EntryReplaced}
 use Rattle.promise_differs.proofs.Replacing.{record-differs}
 use Rattle.promise_differs.proofs.OneTrack.{record-there, record-elsewhere}
 use Rattle.promise_differs.proofs.OneEntry.{replaces-one}
@@ -47,17 +50,21 @@ pub replace-differs : (xs : List ℕ) (i : ℕ) (new : List ℕ) → Bytes xs �
 unfolding replaceOf recordReplaced entries
 replace-differs xs i new w v m r h = go (spotIn (stsds xs) (i - 1)) refl (rw settled-length at h)
   where
-    go : (s : Spot) → spotIn (stsds xs) (i - 1) ≡ s → length (recordAt s (keptOf xs i) new xs) ≤ LONGEST → Replaces xs i new (settled xs (recordAt s (keptOf xs i) new xs))
+    few : length xs < 4294967296
+    few = omega (arith, m .most)
+
+    go : (s : Spot) → spotIn (stsds xs) (i - 1) ≡ s → length (recordAt s (keptOf xs i) new (closed xs)) ≤ LONGEST → Replaces xs i new (settled xs (recordAt s (keptOf xs i) new (closed xs)))
     go (In t n) e k =
-        let s : length (recordAt (In t n) (keptOf xs i) new xs) < 4294967296 = omega arith in
-        let q = entry-in xs i w (record-first xs i FRAMES (kindAt xs i) new refl r) t n e in
+        let s : length (recordAt (In t n) (keptOf xs i) new (closed xs)) < 4294967296 = omega arith in
+        let q = entry-in xs i w m (record-first xs i FRAMES (kindAt xs i) new refl r) t n e in
+        let shut = bytes-closed xs w few in
         record {
           t = t;
           n = n;
           spot = e;
-          differs = record-differs t n (keptOf xs i) new xs v w s;
-          there = record-there t n (keptOf xs i) new xs v w s (omega (arith, q .room));
-          elsewhere = record-elsewhere t n (keptOf xs i) new xs v w s;
+          differs = closed-kin xs w few (OnlyRecord n (keptOf xs i) new) _ (record-differs xs t n (keptOf xs i) new (closed xs) v shut s);
+          there = rw (closed-track xs w few t) at (record-there xs t n (keptOf xs i) new (closed xs) v shut s (rw (closed-track xs w few t) (omega (arith, q .room))));
+          elsewhere = λ u z. rw (closed-track xs w few u) at (record-elsewhere xs t n (keptOf xs i) new (closed xs) v shut s u z);
         }
     go Past e k = absurd (past-none xs i new (nowhere-past (stsds xs) (i - 1) e) refl r)
 
@@ -66,4 +73,4 @@ pub replace-entry : (xs : List ℕ) (i : ℕ) (new : List ℕ) → Bytes xs → 
     → EntryReplaced xs i new (replaceOf xs i new)
 replace-entry xs i new w v m r h =
     let d = replace-differs xs i new w v m r h in
-    record { differs = d; entry = replaces-one xs i new (replaceOf xs i new) w (record-first xs i FRAMES (kindAt xs i) new refl r) (omega arith) d }
+    record { differs = d; entry = replaces-one xs i new (replaceOf xs i new) w m (record-first xs i FRAMES (kindAt xs i) new refl r) (omega arith) d }

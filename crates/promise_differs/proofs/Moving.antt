@@ -1,14 +1,14 @@
--- Where chunk offsets follow, only they differ; and so it is of a move, next to the file's boxes in their new order. Assumes nothing.
+-- Where chunk offsets follow, only they differ; and so it is of a move, next to the closed file's boxes in their new order. Assumes nothing.
 use Prim.Native.Nat.{ℕ, _<_}
 use native.Mathlib.Omega.{arith}
 use mathlib.Core.Path.{_≡_, refl, sym, _∙_}
-use mathlib.Core.List.{List}
+use mathlib.Core.List.{List, []}
 use lib.ListN.{length}
 use Rattle.codes.specs.Codes.{STBL}
 use Rattle.wire.specs.Numbers.{Bytes}
 use Rattle.wire.proofs.Tests.{eq-or}
 use Rattle.boxes.specs.Box.{write}
-use Rattle.boxes.specs.Boxes.{boxes}
+use Rattle.boxes.specs.Boxes.{boxes, after}
 use Rattle.boxes.specs.Containers.{FILE, DEPTH, LONGEST}
 use Rattle.boxes.specs.Words.{rewordLeaf}
 use Rattle.boxes.specs.Kin.{Kin}
@@ -16,11 +16,13 @@ use Rattle.boxes.proofs.Kin.{Made, kin-edit, kin-less}
 use Rattle.boxes.proofs.Wording.{leaf-hit, leaf-code, leaf-kind}
 use Rattle.mdat.specs.Relocate.{relocate}
 use Rattle.judge.specs.Acceptance.{Meets}
+use Rattle.edit_offsets.specs.Close.{closed}
 use Rattle.edit_offsets.specs.Settle.{offsets, settled}
 use Rattle.edit_offsets.proofs.Accepted.{file-tiled}
 use Rattle.edit_offsets.proofs.Settled.{settled-length}
 use Rattle.edit_move.specs.Moving.{moovSecond, moveOf}
 use Rattle.promise_kept.proofs.Arranging.{arranged-boxes, arranged-bytes, arranged-length}
+use Rattle.promise_kept.proofs.Content.{Content, content-closed}
 use Rattle.promise_kept.proofs.Second.{second}
 use Rattle.promise_differs.specs.Differs.{HasOffsets, OnlyOffsets}
 use Rattle.promise_differs.proofs.Bodies.{but-tail}
@@ -48,14 +50,22 @@ settled-differs xs zs w n =
 -- ---- a move
 
 module _ (xs : List ℕ) (w : Bytes xs) (m : Meets xs) where
-  small : length xs < 4294967296
-  small = omega (arith, m .most)
+  abbrev shut : Content xs (closed xs)
+  shut = content-closed xs w (m .most)
 
-  -- the file's boxes in their new order, each with its bytes
-  pub move-order : boxes (write (moovSecond (boxes xs))) ≡ moovSecond (boxes xs)
-  move-order = arranged-boxes second xs w (file-tiled xs m) small
+  tiled : after (closed xs) ≡ []
+  tiled = sym (shut .kin .1) ∙ file-tiled xs m
+
+  small : length (closed xs) < 4294967296
+  small = omega (arith, shut .small)
+
+  -- the boxes of the closed file in their new order, each with its bytes
+  pub move-order : boxes (write (moovSecond (boxes (closed xs)))) ≡ moovSecond (boxes (closed xs))
+  move-order = arranged-boxes second (closed xs) (shut .bytes) tiled small (shut .shut)
 
   -- and then only chunk offsets differ
-  pub move-differs : Kin OnlyOffsets DEPTH FILE (write (moovSecond (boxes xs))) (moveOf xs)
+  pub move-differs : Kin OnlyOffsets DEPTH FILE (write (moovSecond (boxes (closed xs)))) (moveOf xs)
   unfolding moveOf
-  move-differs = settled-differs xs (write (moovSecond (boxes xs))) (arranged-bytes second xs w (file-tiled xs m) small) (omega (arith, arranged-length second xs w (file-tiled xs m) small))
+  move-differs =
+      settled-differs xs (write (moovSecond (boxes (closed xs)))) (arranged-bytes second (closed xs) (shut .bytes) tiled small (shut .shut))
+      (omega (arith, arranged-length second (closed xs) (shut .bytes) tiled small (shut .shut), small))

@@ -15,6 +15,7 @@ use Rattle.movie.specs.Named.{spotIn}
 use Rattle.movie.proofs.Stsds.{Each, each-stsd, Pairs}
 use Rattle.movie.proofs.Stsds.Each.{none, more}
 use Rattle.movie.proofs.Stsds.Pairs.{nil, cons}
+use Rattle.judge.specs.Acceptance.{Meets}
 use Rattle.edit_replace.specs.Replace.{kindAt}
 use Rattle.promise_kept.proofs.Named.{entry-in}
 use Rattle.promise_differs.specs.Differs.{Replaces}
@@ -42,7 +43,7 @@ spot-past (more {s = s} q h a) j t n e =
     (λ k. let f : In (s .track - 1) j ≡ In t n = lt-yea _ _ _ _ _ k refl ∙ e in let g : s .track - 1 ≡ t = cc in omega arith)
     (λ k. omega (arith, spot-past a (j - length (entriesOf s)) t n (lt-nay _ _ _ _ _ k refl ∙ e)))
 
-module _ (xs : List ℕ) (i : ℕ) (new ys : List ℕ) (w : Bytes xs) (first : 1 ≤ i) (small : length ys < 4294967296) (h : Replaces xs i new ys) where
+module _ (xs : List ℕ) (i : ℕ) (new ys : List ℕ) (w : Bytes xs) (met : Meets xs) (first : 1 ≤ i) (small : length ys < 4294967296) (h : Replaces xs i new ys) where
   -- entry j of those `stsd`s has another record
   abbrev OneIn : ℕ → List Stsd → List Stsd → Type 0
   OneIn j l m = OneOf (entryWith (kindAt xs i) new) j (entriesIn l) (entriesIn m)
@@ -55,7 +56,7 @@ module _ (xs : List ℕ) (i : ℕ) (new ys : List ℕ) (w : Bytes xs) (first : 1
 
     its-track : u ≡ h .t → OneOf (entryWith (kindAt xs i) new) (h .n) (entriesOf s) (entriesOf r)
     its-track z =
-        let k = entry-in xs i w first (h .t) (h .n) (h .spot) in
+        let k = entry-in xs i w met first (h .t) (h .n) (h .spot) in
         let b = q (h .t) (omega arith) in
         stsd-one xs i new (h .t) (h .n) k s r (omega arith) (p (h .t) (omega arith)) (b ∙ h .there) (rw b (omega (arith, stsd-short ys (h .t))))
 

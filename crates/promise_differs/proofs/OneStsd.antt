@@ -7,7 +7,9 @@ use lib.ListN.{length, take, drop, length-append, length-map}
 use lib.Seq.{drop-at, length-take-le}
 use Rattle.codes.specs.Codes.{STSD}
 use Rattle.wire.specs.Numbers.{Bytes}
-use Rattle.boxes.specs.Box.{Box, size, header, remade}
+use Rattle.boxes.specs.declared.walk.Form.{Form}
+use Rattle.boxes.specs.declared.walk.Form.the-variants.{Plain}
+use Rattle.boxes.specs.Box.{Box, headOf, size, header, remade}
 use Rattle.boxes.specs.Boxes.{HEAD, FRONT, boxes}
 use Rattle.boxes.specs.Seek.{ANY}
 use Rattle.boxes.specs.Way.{nthBy, overNth, overTurn, tailBy, boxBy}
@@ -23,7 +25,7 @@ use Rattle.movie.specs.Entries.{Entry, entriesFrom, entriesOf}
 use Rattle.movie.proofs.Finding.{track-is, table-is}
 use Rattle.entry_heads.specs.Heads.{headSize}
 use Rattle.edit_replace.specs.Replace.{kindAt}
-use Rattle.promise_kept.proofs.Entry.{code-is}
+use Rattle.edit_replace.proofs.Taking.{code-told}
 use Rattle.promise_kept.proofs.Named.{EntryIn}
 use Rattle.promise_differs.specs.Differs.{withRecord, keptOf}
 use Rattle.promise_differs.specs.OneEntry.{entryWith}
@@ -52,14 +54,14 @@ stsd-same s r e f = rw (bare-of s, bare-of r, e, f)
 
 -- ---- another record
 
--- an entry is a box, and with another record it is that box with another body
-with-body : (x : Box) → Good x → (kind : ℕ) (new : List ℕ)
+-- an entry is a plain box, and with another record it is that box with another body
+with-body : (x : Box) → Good x → x .form ≡ Plain → (kind : ℕ) (new : List ℕ)
     → header (remade x (tailBy (headSize kind - HEAD) new (x .body))) ++ tailBy (headSize kind - HEAD) new (x .body) ≡ entryWith kind new (header x ++ x .body)
 unfolding boxBy
-with-body x g kind new =
+with-body x g p kind new =
     let b = tailBy (headSize kind - HEAD) new (x .body) in
-    rw (code-is x g, drop-at (header x) (x .body) HEAD (length-header x))
-    (ap (λ (n : ℕ). header (record { head = n; code = x .code; body = b }) ++ b) (g .head))
+    rw (code-told x g, drop-at (header x) (x .body) HEAD (length-header x ∙ ap headOf p))
+    (ap (λ (f : Form). header (record { form = f; code = x .code; body = b }) ++ b) p)
 
 -- the boxes past the front
 with-boxes : (n keep : ℕ) (new b : List ℕ) → FRONT ≤ length b → Bytes (drop FRONT b) → length (withRecord n keep new b) < 4294967296
@@ -81,7 +83,7 @@ stsd-one xs i new t n k s r e f g small =
     rw (g, with-boxes n (keptOf xs i) new (sampleTable STSD (track xs t)) (k .room) (k .filled) (rw g at small), k .list)
     (nth-by ANY by n (k .before) (k .box) (k .past) (k .nth) (sym (meant-any ANY (k .box .code) refl))) in
     let entryOf : List ℕ → Entry = λ b. record { track = s .track; place = 0; bytes = b } in
-    let body = with-body (k .box) (k .good) (kindAt xs i) new in
+    let body = with-body (k .box) (k .good) (k .plain) (kindAt xs i) new in
     record {
       before = them (k .before);
       one = boxed (s .track) (k .box);

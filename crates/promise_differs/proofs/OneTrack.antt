@@ -27,17 +27,18 @@ use Rattle.promise_differs.specs.Differs.{TRACK, OnlyOffsets, withRecord
 use Rattle.promise_differs.proofs.Replacing.{follows}
 use Rattle.promise_differs.proofs.Tracking.{track-kin, same-stsd}
 
-module _ (t n keep : ℕ) (new xs : List ℕ) (w : Bytes new) (v : Bytes xs) (s : length (recordAt (In t n) keep new xs) < 4294967296) where
+-- of a file xs, whose chunk offsets were those of the file `from`
+module _ (from : List ℕ) (t n keep : ℕ) (new xs : List ℕ) (w : Bytes new) (v : Bytes xs) (s : length (recordAt (In t n) keep new xs) < 4294967296) where
   abbrev zs : List ℕ
   zs = recordAt (In t n) keep new xs
 
-  abbrev settles : Kin OnlyOffsets DEPTH FILE zs (settled xs zs)
-  settles = follows t n keep new xs w v s
+  abbrev settles : Kin OnlyOffsets DEPTH FILE zs (settled from zs)
+  settles = follows from t n keep new xs w v s
 
   -- ---- the track of the entry
 
   -- its `stsd` has the record
-  pub record-there : 1 ≤ length (sampleTable STSD (track xs t)) → sampleTable STSD (track (settled xs (recordAt (In t n) keep new xs)) t) ≡ withRecord n keep new (sampleTable STSD (track xs t))
+  pub record-there : 1 ≤ length (sampleTable STSD (track xs t)) → sampleTable STSD (track (settled from (recordAt (In t n) keep new xs)) t) ≡ withRecord n keep new (sampleTable STSD (track xs t))
   unfolding editWay
   record-there l =
       let q = by-stsd t n keep new xs in
@@ -69,5 +70,5 @@ module _ (t n keep : ℕ) (new xs : List ℕ) (w : Bytes new) (v : Bytes xs) (s 
       (λ p. ap (λ (ys : List ℕ). nth TRAK u (boxes (find MOOV (boxes ys)))) (nth-missing MOOV 0 inMoov xs v p ∙ sym by-moov))
 
   -- has no other record
-  pub record-elsewhere : (u : ℕ) → (u ≡ t → ⊥) → Kin OnlyOffsets TRACK TRAK (track xs u) (track (settled xs (recordAt (In t n) keep new xs)) u)
+  pub record-elsewhere : (u : ℕ) → (u ≡ t → ⊥) → Kin OnlyOffsets TRACK TRAK (track xs u) (track (settled from (recordAt (In t n) keep new xs)) u)
   record-elsewhere u z = rw (track-same u z) (track-kin OnlyOffsets zs _ settles u)

@@ -31,7 +31,8 @@ only-record n keep new b₀ k c b b″ r =
       rest = λ o d. ⊎-elim (λ e. e) (λ q. absurd (d (q .0, q .1))) (r .1) ∙ s .rest o;
     }
 
-module _ (t n keep : ℕ) (new xs : List ℕ) (w : Bytes new) (v : Bytes xs) (s : length (recordAt (In t n) keep new xs) < 4294967296) where
+-- of a file xs, whose chunk offsets were those of the file `from`
+module _ (from : List ℕ) (t n keep : ℕ) (new xs : List ℕ) (w : Bytes new) (v : Bytes xs) (s : length (recordAt (In t n) keep new xs) < 4294967296) where
   abbrev zs : List ℕ
   zs = recordAt (In t n) keep new xs
 
@@ -41,11 +42,11 @@ module _ (t n keep : ℕ) (new xs : List ℕ) (w : Bytes new) (v : Bytes xs) (s 
   changed = record-kin t n keep new xs w v s
 
   -- whose chunk offsets follow
-  pub follows : Kin OnlyOffsets DEPTH FILE (recordAt (In t n) keep new xs) (settled xs (recordAt (In t n) keep new xs))
-  follows = settled-differs xs zs (record-bytes t n keep new xs w v) s
+  pub follows : Kin OnlyOffsets DEPTH FILE (recordAt (In t n) keep new xs) (settled from (recordAt (In t n) keep new xs))
+  follows = settled-differs from zs (record-bytes t n keep new xs w v) s
 
   -- the whole file
-  pub record-differs : Kin (OnlyRecord n keep new) DEPTH FILE xs (settled xs (recordAt (In t n) keep new xs))
+  pub record-differs : Kin (OnlyRecord n keep new) DEPTH FILE xs (settled from (recordAt (In t n) keep new xs))
   record-differs =
       let b = endOf (stsdWay t) xs in
       let G = Once STBL STSD b (withRecord n keep new b) in

@@ -14,9 +14,12 @@ use Rattle.boxes.specs.Kin.{Kin}
 use Rattle.boxes.proofs.Kin.{Made, kin-edit, kin-less}
 use Rattle.clocks.specs.Clocks.{shiftTime}
 use Rattle.judge.specs.Acceptance.{Meets}
+use Rattle.edit_offsets.specs.Close.{closed}
+use Rattle.edit_offsets.proofs.Closing.{length-closed, bytes-closed, alike-then}
 use Rattle.edit_offsets.proofs.Settled.{settled-same}
 use Rattle.edit_shift.specs.Shift.{hasTimes, timesLeaf, allTimesBy, shiftOf}
 use Rattle.edit_shift.proofs.Passing.{all-length, all-bytes, all-alike}
+use Rattle.promise_kept.proofs.Closed.{closed-kin}
 use Rattle.promise_differs.specs.Differs.{OnlyTimes}
 use Rattle.promise_differs.proofs.Bodies.{but-refl, but-reword}
 
@@ -30,16 +33,25 @@ only-times f k c b b′ r = subst (OnlyTimes k c b) (sym (r .0)) (go (hasTimes k
     go false e = record { times = λ t. but-refl 4 12 b; rest = λ n. refl }
 
 module _ (z : ℤ) (xs : List ℕ) (w : Bytes xs) (m : Meets xs) where
+  abbrev f : ℕ → ℕ
+  f = shiftTime z
+
+  few : length xs < 4294967296
+  few = omega (arith, m .most)
+
+  shut : Bytes (closed xs)
+  shut = bytes-closed xs w few
+
   -- nothing moves, so no chunk offset follows
-  stays : shiftOf z xs ≡ allTimesBy (shiftTime z) xs
+  stays : shiftOf z xs ≡ allTimesBy (shiftTime z) (closed xs)
   unfolding shiftOf
-  stays = settled-same xs (allTimesBy (shiftTime z) xs) (all-alike (shiftTime z) xs w (omega (arith, m .most))) (all-bytes (shiftTime z) xs w)
+  stays = settled-same xs (allTimesBy f (closed xs)) (alike-then xs w few (all-alike f (closed xs) shut (omega (arith, few, length-closed xs)))) (all-bytes f (closed xs) shut)
 
   -- box by box, the times of headers by the shift
   pub shift-kin : Kin (Made (timesLeaf (shiftTime z))) DEPTH FILE xs (shiftOf z xs)
   unfolding allTimesBy
-  shift-kin = rw stays (kin-edit (timesLeaf (shiftTime z)) DEPTH FILE xs w (omega (arith, m .most, all-length (shiftTime z) xs)))
+  shift-kin = rw stays (closed-kin xs w few (Made (timesLeaf f)) _ (kin-edit (timesLeaf f) DEPTH FILE (closed xs) shut (omega (arith, few, length-closed xs, all-length f (closed xs)))))
 
   -- "Shift times by z minutes"
   pub shift-differs : Kin OnlyTimes DEPTH FILE xs (shiftOf z xs)
-  shift-differs = kin-less (Made (timesLeaf (shiftTime z))) OnlyTimes (only-times (shiftTime z)) DEPTH FILE xs _ shift-kin
+  shift-differs = kin-less (Made (timesLeaf f)) OnlyTimes (only-times f) DEPTH FILE xs _ shift-kin

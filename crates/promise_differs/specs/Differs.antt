@@ -1,5 +1,5 @@
 -- "only the named fields, enclosing sizes, chunk offsets and, for a move, the box order differ". Files that `Kin` relates have the
--- same boxes in the same order, of the sizes that their bodies give; these say what differs in the body of an opaque box.
+-- same boxes in the same order and forms, of the sizes that their bodies give, but that a `moov` of size 0 has its true size; these say what differs in the body of an opaque box.
 use Prim.Native.Nat.{ℕ, _+_, _-_}
 use mathlib.Core.Path.{_≡_}
 use mathlib.Core.Bool.{true, false}
@@ -18,6 +18,7 @@ use Rattle.movie.specs.Movie.{track, sampleTable}
 use Rattle.movie.specs.Stsds.{stsds}
 use Rattle.movie.specs.Named.{spotIn}
 use Rattle.entry_heads.specs.Heads.{headSize}
+use Rattle.edit_offsets.specs.Close.{closed}
 use Rattle.edit_move.specs.Moving.{moovSecond}
 use Rattle.edit_replace.specs.Replace.{kindAt}
 use Rattle.edit_shift.specs.Shift.{CREATION, hasTimes}
@@ -56,10 +57,10 @@ pub record OnlyOffsets (k c : ℕ) (b b′ : List ℕ) : Type 0 where
   pub offsets : HasOffsets k c → ButOffsets b b′
   pub rest : (HasOffsets k c → ⊥) → b ≡ b′
 
--- ys is xs with its boxes in their new order, and then chunk offsets differ
+-- ys is xs closed, with its boxes in their new order, and then chunk offsets differ
 pub record Moves (xs ys : List ℕ) : Type 0 where
   pub mid : List ℕ
-  pub order : boxes mid ≡ moovSecond (boxes xs)
+  pub order : boxes mid ≡ moovSecond (boxes (closed xs))
   pub offsets : Kin OnlyOffsets DEPTH FILE mid ys
 
 -- ---- a shift

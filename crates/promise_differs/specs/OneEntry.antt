@@ -5,6 +5,7 @@ use mathlib.Core.Path.{_≡_}
 use mathlib.Core.List.{List, map}
 use lib.ListN.{length, drop}
 use Rattle.wire.specs.Numbers.{word}
+use Rattle.boxes.specs.declared.walk.Form.the-variants.{Plain}
 use Rattle.boxes.specs.Boxes.{HEAD}
 use Rattle.boxes.specs.Way.{tailBy, boxBy}
 use Rattle.movie.specs.Entries.{entries}
@@ -12,9 +13,9 @@ use Rattle.movie.specs.Named.{bytesAt}
 use Rattle.entry_heads.specs.Heads.{headSize}
 use Rattle.edit_replace.specs.Replace.{kindAt}
 
--- the bytes e of an entry of a kind with another record behind its head: its code stays, its size follows
+-- the bytes e of an entry of a kind with another record behind its head: a plain box, whose code stays and whose size follows
 abbrev pub entryWith : (kind : ℕ) (new e : List ℕ) → List ℕ
-entryWith kind new e = boxBy (word 4 e 4) (tailBy (headSize kind - HEAD) new (drop HEAD e))
+entryWith kind new e = boxBy Plain (word 4 e 4) (tailBy (headSize kind - HEAD) new (drop HEAD e))
 
 -- entry i of ys, from 1, is entry i of xs with another record; every other entry has the same bytes, and each is of the same track
 pub record OneEntry (xs : List ℕ) (i : ℕ) (new ys : List ℕ) : Type 0 where

@@ -1,5 +1,6 @@
 pub mod Sound
 pub mod Content
+pub mod Closed
 pub mod Words
 pub mod Knowing
 pub mod Forms

@@ -3,15 +3,14 @@ use Prim.Native.Nat.{ℕ, _-_, _≤_, _<_}
 use native.Mathlib.Omega.{arith}
 use mathlib.Core.Path.{_≡_, refl, sym, ap, subst, _∙_}
 use mathlib.Core.Bool.{true}
-use mathlib.Core.List.{List, [], _∷_, _++_, map}
+use mathlib.Core.List.{List, _++_}
 use lib.ListN.{length, take, drop, length-append}
 use lib.Seq.{take-at, drop-at, length-take-le}
-use Rattle.codes.specs.Codes.{MOOV, TRAK, STBL, STSD}
+use Rattle.codes.specs.Codes.{STBL, STSD}
 use Rattle.wire.specs.Numbers.{Bytes}
-use Rattle.boxes.specs.Box.{Box}
-use Rattle.boxes.specs.Boxes.{HEAD, FRONT, boxes}
+use Rattle.boxes.specs.Boxes.{HEAD, FRONT}
 use Rattle.boxes.specs.Containers.{FILE, DEPTH, LONGEST}
-use Rattle.boxes.specs.Seek.{ANY, nth, find}
+use Rattle.boxes.specs.Seek.{ANY}
 use Rattle.boxes.specs.Kin.{Kin}
 use Rattle.boxes.specs.Way.{overNth, overTurn, editWay, tailBy}
 use Rattle.boxes.proofs.Turning.{way-length}
@@ -27,21 +26,15 @@ use Rattle.entry_heads.specs.Heads.{headSize}
 use Rattle.entry_rules.specs.Entries.{FRAMES}
 use Rattle.entry_rules.specs.Decoders.{recordRule}
 use Rattle.judge.specs.Acceptance.{Meets}
-use Rattle.edit_offsets.specs.Close.{shutBox, closed}
-use Rattle.edit_offsets.proofs.Closing.{boxes-closed}
+use Rattle.edit_offsets.specs.Close.{closed}
 use Rattle.edit_replace.specs.Replace.{kindAt, recordAt}
 use Rattle.edit_replace.proofs.Changing.{stsd-end, toEntry, record-bytes, record-kin}
 use Rattle.edit_replace.proofs.Taking.{record-short, record-first}
 use Rattle.promise_kept.proofs.Changed.{Changed}
 use Rattle.promise_kept.proofs.Content.{Content, content-closed, content-then}
+use Rattle.promise_kept.proofs.Closed.{closed-track}
 use Rattle.promise_kept.proofs.Once.{once-content}
 use Rattle.promise_kept.proofs.Named.{EntryIn, entry-in}
-
--- a closed box has the same payload
-shut-find : (c : ℕ) (l : List Box) → find c (map shutBox l) ≡ find c l
-unfolding nth
-shut-find c [] = refl
-shut-find c (x ∷ l) = rw (shut-find c l)
 
 module _ (xs : List ℕ) (i : ℕ) (new : List ℕ) (w : Bytes xs) (m : Meets xs) (r : recordRule (kindAt xs i) FRAMES new ≡ true) (t n : ℕ) (e : spotIn (stsds xs) (i - 1) ≡ In t n) where
   abbrev keep : ℕ
@@ -94,14 +87,10 @@ module _ (xs : List ℕ) (i : ℕ) (new : List ℕ) (w : Bytes xs) (m : Meets xs
 
   -- ---- the file, closed
 
-  same-stsd : sampleTable STSD (track (closed xs) t) ≡ sampleTable STSD (track xs t)
-  unfolding track
-  same-stsd = ap (λ (b : List ℕ). sampleTable STSD (nth TRAK t (boxes b))) (ap (find MOOV) (boxes-closed xs w (omega (arith, m .most))) ∙ shut-find MOOV (boxes xs))
-
   -- one entry of the file has another decoder record
   pub record-content : Bytes new → length (recordAt (In t n) (headSize (kindAt xs i) - HEAD) new (closed xs)) ≤ LONGEST → Content xs (recordAt (In t n) (headSize (kindAt xs i) - HEAD) new (closed xs))
   record-content v h =
       let c = content-closed xs w (m .most) in
       content-then c (once-content (sampleTable STSD (track xs t)) changedStsd new stsd-changed (closed xs) _
-      (subst (λ (b : List ℕ). Kin (Once STBL STSD b (editWay (toEntry n) by b)) DEPTH FILE (closed xs) (recordAt (In t n) keep new (closed xs))) (stsd-end t (closed xs) ∙ same-stsd) (record-kin t n keep new (closed xs) v (c .bytes) (omega arith)))
+      (subst (λ (b : List ℕ). Kin (Once STBL STSD b (editWay (toEntry n) by b)) DEPTH FILE (closed xs) (recordAt (In t n) keep new (closed xs))) (stsd-end t (closed xs) ∙ ap (sampleTable STSD) (closed-track xs w (omega (arith, m .most)) t)) (record-kin t n keep new (closed xs) v (c .bytes) (omega arith)))
       (record-bytes t n keep new (closed xs) v (c .bytes)) h (c .shut))

@@ -55,6 +55,7 @@ use Rattle.rule_entries.specs.Ten.{aroundOf, entriesJudged, meets, stsdsJudged,
 use Rattle.judge.specs.Calls.{resultOn, whenAccepted}
 use Rattle.judge.specs.Judgement.{judged, judgedFrom, unlessBroken}
 use Rattle.judge.specs.One.{oneIn}
+use Rattle.edit_offsets.specs.Close.{closed, formAfter}
 use Rattle.edit_offsets.specs.Settle.{settled}
 use Rattle.edit_shift.specs.Shift.{allTimes, allTimesBy, both, hasTimes, shiftOf, shiftResult, shiftable, timesLeaf, trackTimes}
 use Rattle.edit_replace.specs.Replace.{kindAt, recordCode, recordReplaced, replaceOf, replaceResult, takes}
@@ -71,5 +72,5 @@ pub examples : (numbers kinds ≡ 0 ∷ 0 ∷ 0 ∷ 0 ∷ 0 ∷ 0 ∷ 0 ∷ 0 �
     × (answers edits mediaFirst ≡ Done 603 ∷ Done 603 ∷ Done 619 ∷ Done 603 ∷ [])
     × (files edits mediaFirst ≡ expected)
     × (map (λ xs. samples xs 0) (mediaFirst ∷ expected) ≡ map (λ xs. (60 ∷ []) ∷ []) (mediaFirst ∷ expected))
-unfolding either every isEq isLe isLt oneIf bytes bytesOn word allTo sumTo ifEq ifLe ifLt header write after boxes formOf total whole kindIn parent editBox editIn overBoxes allPlain count meant nth placeBy placeIn startIn around boxBy editWay nthBy overNth overTurn eachWord reword rewordLeaf mayShift shiftTime entries entriesFrom entriesIn entriesOf handler references sampleTable scale track bytesAt spotIn stsds stsdsFrom follow placeAlong inBox past placeOf resolve relocate chunkIn chunksIn lies chunkSamples joinTo sampleIn samplesOf chunkAt descriptionOf extentOf firstSample samplesIn emptyTogether tablesAgree rises runAmong runFine runOf runsFine bytesFrom sizeAt sizesListed hasForm timedTo audioHead audioRule boxHeader commonHead commonRule headRule headSize nameRule visualHead visualRule visualStart handlerOf kindOf boxRule d263Rule damrRule framesRule modeMask modesRule periodRule ratedRule recordRule avcRule entryRule esdsRule handlerRule insideRule ruleAs scaleRule trackRule judgeBox judgeIn judgeList answerIn asked leftIn allBox allIn allList sooner unless besides exactly first needed shape mayHave barred brandsForm form handlerForm headForm ifBox tracksIn fresh freshTo identity tkhdPlace formIn listForm passing isUrl eightAt eightHolds sevenHolds sevenIn tableFine tableIn aroundOf entriesJudged meets stsdsJudged tenAt resultOn whenAccepted judged judgedFrom unlessBroken oneIn settled allTimes allTimesBy both hasTimes shiftOf shiftResult shiftable timesLeaf trackTimes kindAt recordCode recordReplaced replaceOf replaceResult takes just moovSecond moveOf moveResult others samples
+unfolding either every isEq isLe isLt oneIf bytes bytesOn word allTo sumTo ifEq ifLe ifLt header write after boxes formOf total whole kindIn parent editBox editIn overBoxes allPlain count meant nth placeBy placeIn startIn around boxBy editWay nthBy overNth overTurn eachWord reword rewordLeaf mayShift shiftTime entries entriesFrom entriesIn entriesOf handler references sampleTable scale track bytesAt spotIn stsds stsdsFrom follow placeAlong inBox past placeOf resolve relocate chunkIn chunksIn lies chunkSamples joinTo sampleIn samplesOf chunkAt descriptionOf extentOf firstSample samplesIn emptyTogether tablesAgree rises runAmong runFine runOf runsFine bytesFrom sizeAt sizesListed hasForm timedTo audioHead audioRule boxHeader commonHead commonRule headRule headSize nameRule visualHead visualRule visualStart handlerOf kindOf boxRule d263Rule damrRule framesRule modeMask modesRule periodRule ratedRule recordRule avcRule entryRule esdsRule handlerRule insideRule ruleAs scaleRule trackRule judgeBox judgeIn judgeList answerIn asked leftIn allBox allIn allList sooner unless besides exactly first needed shape mayHave barred brandsForm form handlerForm headForm ifBox tracksIn fresh freshTo identity tkhdPlace formIn listForm passing isUrl eightAt eightHolds sevenHolds sevenIn tableFine tableIn aroundOf entriesJudged meets stsdsJudged tenAt resultOn whenAccepted judged judgedFrom unlessBroken oneIn closed formAfter settled allTimes allTimesBy both hasTimes shiftOf shiftResult shiftable timesLeaf trackTimes kindAt recordCode recordReplaced replaceOf replaceResult takes just moovSecond moveOf moveResult others samples
 examples = (refl, refl, refl, refl, refl, refl)
