@@ -1,8 +1,8 @@
 -- How long a file with another record is, by the length of the entry. Assumes nothing.
-use Prim.Native.Nat.{ℕ, suc, _+_, _-_, _≤_, _<_, min}
+use Prim.Native.Nat.{ℕ, _+_, _-_, _≤_, _<_, min}
 use native.Mathlib.Omega.{arith}
-use mathlib.Core.Path.{_≡_, refl, sym, ap, _∙_}
-use mathlib.Core.List.{List, [], _∷_, _++_, map}
+use mathlib.Core.Path.{_≡_, refl, ap, _∙_}
+use mathlib.Core.List.{List, [], _∷_, map}
 use lib.ListN.{length, take, drop, length-append, length-take, length-drop}
 use lib.Seq.{drop-nil}
 use Rattle.codes.specs.Codes.{MDIA, MINF, STBL, STSD}
@@ -117,4 +117,6 @@ module _ (xs : List ℕ) (b : BoxAt) (p : Place) (i : Within xs b p) where
   length-in keep new =
       let made : List ℕ = editWay (wayIn (p .nth)) (tailBy keep new) trak in
       let z : List ℕ = around moov (p .trak) made in
-      omega (arith, around-grows xs (shutAt b) z (shut-inside (cut-inside (i .moov))), around-grows moov (p .trak) made (cut-inside (i .place .trak)), track-grows (p .nth) keep new trak (i .place .entry), entry-fits .1, i .place .entry .least)
+      let o = around-grows xs (shutAt b) z (shut-inside (cut-inside (i .moov))) in
+      let k = around-grows moov (p .trak) made (cut-inside (i .place .trak)) in
+      omega (arith, o, k, track-grows (p .nth) keep new trak (i .place .entry), entry-fits .1, i .place .entry .least)

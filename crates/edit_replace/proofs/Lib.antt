@@ -5,6 +5,7 @@ pub mod Changing
 pub mod Lengths
 pub mod Settling
 pub mod Taking
+pub mod Finding
 pub mod Placing
 pub mod Written
 pub mod Answering

@@ -17,20 +17,19 @@ use Rattle.boxes.specs.Way.{nthBy, overNth, overTurn, editWay, tailBy}
 use Rattle.boxes.specs.Rewrite.{editIn}
 use Rattle.boxes.proofs.OneOfList.{nth-by}
 use Rattle.boxes.proofs.OneOfPart.{boxes-nth, after-nth}
-use Rattle.boxes.proofs.Kin.{Then, kin-then}
 use Rattle.boxes.proofs.Down.{Once}
 use Rattle.boxes.proofs.InMoov.{OneMoov}
 use Rattle.movie.specs.declared.entry.Spot.the-variants.{In}
 use Rattle.judge.specs.Acceptance.{Meets}
 use Rattle.edit_offsets.specs.Close.{shutAt, closed}
 use Rattle.edit_offsets.specs.Settle.{offsets, settled}
-use Rattle.edit_offsets.proofs.Closing.{Equal, after-closed, bytes-closed, kin-closed}
+use Rattle.edit_offsets.proofs.Closing.{after-closed, bytes-closed}
 use Rattle.edit_offsets.proofs.Settled.{settled-kin, settled-same}
 use Rattle.edit_replace.specs.Replace.{turn, recordAt}
 use Rattle.edit_replace.specs.Fitting.{grown, grownBox}
 use Rattle.edit_replace.proofs.Shutting.{boxes-shut}
 use Rattle.edit_replace.proofs.Standing.{made, moov-moves, moov-alike, moov-stands, moov-inside}
-use Rattle.edit_replace.proofs.Changing.{toEntry, record-bytes, record-kin}
+use Rattle.edit_replace.proofs.Changing.{toEntry, record-bytes, closed-kin}
 
 module _ (t n keep : ℕ) (new xs : List ℕ) (w : Bytes new) (v : Bytes xs) (m : Meets xs) (s : length (recordAt (In t n) keep new (closed xs)) < 4294967296)
     {b : BoxAt} (c : Cut xs MOOV 0 b) where
@@ -69,9 +68,8 @@ module _ (t n keep : ℕ) (new xs : List ℕ) (w : Bytes new) (v : Bytes xs) (m 
   -- every offset as far into the same payload as it was
   pub record-settled : editIn (rewordLeaf offsets (moved (grown b (length zs) (length xs)))) DEPTH FILE zs ≡ settled xs zs
   record-settled =
-      settled-kin xs zs (moved (grown b (length zs) (length xs))) m (moov-moves xs zs body v m c boxes-are end-is) (Then Equal (Once STBL STSD _ _))
-      (λ d e r. r .1 ∙ ⊎-elim (λ q. q) (λ q. absurd (omega (arith, q .1))) (r .2))
-      (kin-then Equal _ DEPTH FILE xs (closed xs) zs (kin-closed xs v few) (record-kin t n keep new (closed xs) w bytes-shut s))
+      settled-kin xs zs (moved (grown b (length zs) (length xs))) m (moov-moves xs zs body v m c boxes-are end-is) (Once STBL STSD _ _)
+      (λ d e r. ⊎-elim (λ q. q) (λ q. absurd (omega (arith, q .1))) r) (closed-kin t n keep new xs w v few s)
 
   -- a record of the same length moves nothing
   pub still : length zs ≡ length xs → settled xs zs ≡ zs

@@ -49,9 +49,6 @@ module _ (xs zs ys : List ℕ) (v : Bytes xs) (m : Meets xs) {b : BoxAt} (c : Cu
   abbrev pub made : Box
   made = remade (boxAt xs (shutAt b)) ys
 
-  same-head : head old ≡ head made
-  same-head = sym (shut-head (b .form))
-
   module _ (list : boxes zs ≡ c .p ++ made ∷ c .q) (end : after zs ≡ after xs) where
     around : (x : Box) → length (write (c .p ++ x ∷ c .q)) ≡ length (write (c .p)) + (head x + (length (x .body) + length (write (c .q))))
     around x = rw (write-append (c .p) (x ∷ c .q), length-append, length-cons)
@@ -75,7 +72,7 @@ module _ (xs zs ys : List ℕ) (v : Bytes xs) (m : Meets xs) {b : BoxAt} (c : Cu
 
     -- where it grew by nothing
     pub moov-alike : length zs ≡ length xs → All2 Alike (boxes xs) (boxes zs)
-    moov-alike e = rw (list, c .list) (alike-among (c .p) old made (c .q) (record { head = same-head; code = refl; long = omega (arith, grows, e, same-head) }))
+    moov-alike e = rw (list, c .list) (alike-among (c .p) old made (c .q) (record { head = sym (shut-head (b .form)); code = refl; long = omega (arith, grows, e, shut-head (b .form)) }))
 
     -- where it then stands
     abbrev there : BoxAt
@@ -95,9 +92,9 @@ module _ (xs zs ys : List ℕ) (v : Bytes xs) (m : Meets xs) {b : BoxAt} (c : Cu
           before = c .nth;
           behind = none-behind xs v m c;
           at = sym (total-before v c);
-          head = c .head ∙ same-head;
+          head = c .head ∙ sym (shut-head (b .form));
           span = there-span;
         }
 
     pub moov-inside : (there .head ≤ there .span) × (there .at + there .span ≤ length zs) × (length xs ≤ b .span + length zs)
-    moov-inside = (omega (arith, there-span, c .head, same-head), omega (arith, grows, there-span, cut-size v c, c .inside), omega (arith, grows, cut-size v c))
+    moov-inside = (omega (arith, there-span, c .head, shut-head (b .form)), omega (arith, grows, there-span, cut-size v c, c .inside), omega (arith, grows, cut-size v c))

@@ -1,9 +1,8 @@
 -- No entry 0, an entry at its place, or none past the last.
 use borrow.Author.Needs.{needs}
-use mathlib.Core.Path.{_∙_, subst}
-use Rattle.boxes.specs.Walk.{payload}
 use Rattle.edit_replace.proofs.Taking.{kind-zero}
-use Rattle.edit_replace.proofs.Placing.{found-at, within, place-exact, none-exact, nowhere-exact}
+use Rattle.edit_replace.proofs.Finding.{found-at}
+use Rattle.edit_replace.proofs.Placing.{within, place-exact, none-exact, nowhere-exact}
 use native.Mathlib.Omega.{arith}
 use Rattle.edit_replace.proofs.replace_in.Statement.{statement}
 use Rattle.edit_replace.proofs.replace_in.Tie as tie

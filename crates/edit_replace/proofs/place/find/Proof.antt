@@ -1,9 +1,7 @@
 -- The spot that is found in `moov` is a place, and there is none past the last entry.
 use borrow.Author.Needs.{needs}
-use mathlib.Core.Path.{sym, _∙_, subst}
-use Rattle.movie.specs.Named.{SpotAs, InTrack}
-use Rattle.edit_replace.proofs.Placing.{spot-within, found-as, found-past}
-use native.Mathlib.Omega.{arith}
+use mathlib.Core.Path.{sym, _∙_}
+use Rattle.edit_replace.proofs.Finding.{spot-within, found-as, found-past}
 use Rattle.edit_replace.proofs.place.find.Statement.{statement}
 use Rattle.edit_replace.proofs.place.find.Tie as tie
 

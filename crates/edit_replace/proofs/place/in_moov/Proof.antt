@@ -2,7 +2,7 @@
 use borrow.Author.Needs.{needs}
 use Rattle.boxes.proofs.Cutting.{cut-as, none-as, cut-payload}
 use Rattle.codes.specs.Codes.{TRAK}
-use Rattle.edit_replace.proofs.Placing.{moov-as}
+use Rattle.edit_replace.proofs.Finding.{moov-as}
 use native.Mathlib.Omega.{arith}
 use Rattle.edit_replace.proofs.place.in_moov.Statement.{statement}
 use Rattle.edit_replace.proofs.place.in_moov.Tie as tie

@@ -2,9 +2,7 @@
 use borrow.Author.Needs.{needs}
 use Rattle.boxes.proofs.Cutting.{cut-as, none-as}
 use Rattle.boxes.specs.Seek.{ANY}
-use Rattle.edit_replace.proofs.Placing.{track-at}
-use mathlib.Core.Path.{_∙_, ap}
-use Rattle.movie.specs.Named.{listIn}
+use Rattle.edit_replace.proofs.Finding.{track-at}
 use native.Mathlib.Omega.{arith}
 use Rattle.edit_replace.proofs.place.in_track.Statement.{statement}
 use Rattle.edit_replace.proofs.place.in_track.Tie as tie
