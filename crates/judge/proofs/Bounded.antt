@@ -23,7 +23,7 @@ use Rattle.rule.specs.declared.Verdict.the-variants.{Fine}
 use Rattle.rule.specs.Verdict.{unless}
 use Rattle.rule.specs.Judge.{judgeList}
 use Rattle.rule.proofs.Bounds.{named, Bounded, sooner-most, unless-most, if-most, list-most}
-use Rattle.rule_lists.specs.Five.{formIn, MOST, passing, five}
+use Rattle.rule_lists.specs.Five.{listFormIn, MOST, passing, five}
 use Rattle.rule_lists.specs.Nine.{isUrl, urlAt, nine}
 use Rattle.rule_entries.specs.Ten.{aroundOf, entryFine, entriesJudged, stsdsJudged, tenAt, ten}
 
@@ -79,7 +79,7 @@ passing-most m most n (more {s = s} {l = l} e w a) =
 pub five-bounded : Bounded five
 five-bounded =
     record {
-      leaf = λ k c b p q h. unless-most _ (formIn k c b) p (omega arith);
+      leaf = λ k c b p q h. unless-most _ (listFormIn k c b) p (omega arith);
       node = λ k xs home p h. if-most _ k MOOV _ (passing-most _ MOST 0 (within-each _ 0 (boxes xs) p (omega (arith, total-is xs))));
       end = λ xs p. omega arith;
     }

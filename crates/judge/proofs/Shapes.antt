@@ -24,7 +24,7 @@ use Rattle.rule.proofs.Places.{sooner-right}
 use Rattle.rule.proofs.Bounds.{named, sooner-most, unless-most, each-bounded, judge-most}
 use Rattle.rule.proofs.Traverse.{Found, found-none, found-more, found-over}
 use Rattle.rule.proofs.Firsts.{sooner-settled, boxFirst, first-start, judge-from, first-node, first-box}
-use Rattle.judge.specs.Asked.{shapedBy, tiledBy, shapeBy, formedBy, firstBy, boxBy, ruleBy, judgeBy, verdictOf}
+use Rattle.judge.specs.Asked.{shapedBy, tiledBy, shapeBy, formedBy, firstBy, formFirst, ruleBy, judgeBy, verdictOf}
 
 -- ---- a box that is broken, where none before it is
 
@@ -45,18 +45,18 @@ module _ (t : ℕ → Box → Bool) (r : Rule) (d k : ℕ) where
       first-box t r d k (found-more f _ xs base i s (sym e ∙ q) (sooner-right Fine (Bad p) refl))
       (omega (arith, ap named (sym e ∙ q), box-most (boxAt xs b) (base + b .at), ran-next s base, s .start))
 
-pub first-broken : (n d k : ℕ) {xs : List ℕ} {base p at : ℕ} {whole v : Verdict} {b : BoxAt} {w : Walk} → Found (boxBy n d k) (firstBy n .end (after xs)) xs base whole Fine at → Ran xs at b w
-    → v ≡ boxBy n d k (boxAt xs b) (base + b .at) → v ≡ Bad p → Bad p ≡ whole
+pub first-broken : (n d k : ℕ) {xs : List ℕ} {base p at : ℕ} {whole v : Verdict} {b : BoxAt} {w : Walk} → Found (formFirst n d k) (firstBy n .end (after xs)) xs base whole Fine at → Ran xs at b w
+    → v ≡ formFirst n d k (boxAt xs b) (base + b .at) → v ≡ Bad p → Bad p ≡ whole
 first-broken n d k = broken (λ i y. formedBy n i (y .form)) (shapeBy n) d k
 
 -- ---- one box: its form, and what it is
 
 module _ (n d k : ℕ) (x : Box) (p : ℕ) where
-  pub box-unformed : formedBy n k (x .form) ≡ false → Bad p ≡ boxBy n d k x p
+  pub box-unformed : formedBy n k (x .form) ≡ false → Bad p ≡ formFirst n d k x p
   unfolding unless
   box-unformed e = rw e (sooner-settled p p _ (omega arith) (judge-from (λ i y. formedBy n i (y .form)) (shapeBy n) d k x p))
 
-  pub box-formed : {v : Verdict} → formedBy n k (x .form) ≡ true → v ≡ judgeBox (firstBy n) (judgeIn (firstBy n) d) k x p → v ≡ boxBy n d k x p
+  pub box-formed : {v : Verdict} → formedBy n k (x .form) ≡ true → v ≡ judgeBox (firstBy n) (judgeIn (firstBy n) d) k x p → v ≡ formFirst n d k x p
   unfolding unless sooner
   box-formed e q = rw e q
 
@@ -66,12 +66,12 @@ pub first-unshaped : (n d k : ℕ) (xs : List ℕ) (home p : ℕ) → (d ≡ 0 �
 first-unshaped n = first-node (λ i y. formedBy n i (y .form)) (shapeBy n)
 
 pub first-begins : (n d k : ℕ) (xs : List ℕ) (home p : ℕ) → (d ≡ 0 → ⊥) → shapedBy n k xs ≡ true
-    → Found (boxBy n (d - 1) k) (firstBy n .end (after xs)) xs p (judgeIn (firstBy n) d k xs home p) Fine 0
+    → Found (formFirst n (d - 1) k) (firstBy n .end (after xs)) xs p (judgeIn (firstBy n) d k xs home p) Fine 0
 unfolding unless
 first-begins n zero k xs home p z e = absurd (z refl)
 first-begins n (suc d) k xs home p z e =
     let q : suc d - 1 ≡ d = omega arith in
-    rw (q, first-start (λ i y. formedBy n i (y .form)) (shapeBy n) d k xs home p, e) (found-none (boxBy n d k) (firstBy n .end (after xs)) xs p Fine)
+    rw (q, first-start (λ i y. formedBy n i (y .form)) (shapeBy n) d k xs home p, e) (found-none (formFirst n d k) (firstBy n .end (after xs)) xs p Fine)
 
 -- ---- the end
 

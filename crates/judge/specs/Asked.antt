@@ -41,8 +41,8 @@ abbrev pub firstBy : ℕ → Judge
 firstBy n = placedBy (λ k x. formedBy n k (x .form)) (shapeBy n)
 
 -- of a box, its form first
-abbrev pub boxBy : ℕ → ℕ → ℕ → Box → ℕ → Verdict
-boxBy n d k x p = sooner (unless (formedBy n k (x .form)) p) (judgeBox (firstBy n) (judgeIn (firstBy n) d) k x p)
+abbrev pub formFirst : ℕ → ℕ → ℕ → Box → ℕ → Verdict
+formFirst n d k x p = sooner (unless (formedBy n k (x .form)) p) (judgeBox (firstBy n) (judgeIn (firstBy n) d) k x p)
 
 -- ---- rules 4 to 10
 

@@ -13,7 +13,7 @@ ghost use Rattle.wire.specs.Clauses.{oneIf};
 ghost use Rattle.boxes.specs.Box.{headOf};
 ghost use Rattle.boxes.specs.Walk.{boxAt};
 ghost use Rattle.rule.specs.Judge.{judgeIn};
-ghost use Rattle.judge.specs.Asked.{shapedBy, shapeBy, formedBy, firstBy, boxBy};
+ghost use Rattle.judge.specs.Asked.{shapedBy, shapeBy, formedBy, firstBy, formFirst};
 
 // Whether a container of kind k has the boxes that rule n wants: 1 or 0.
 fn shaped(n: usize, k: usize, part: &[u8]) -> usize
@@ -60,7 +60,7 @@ fn formed(n: usize, k: usize, form: Form) -> usize
 // A box of a container of kind k: an opaque one is asked for its form alone.
 fn first_box(n: usize, part: &[u8], b: BoxAt, base: usize, k: usize, depth: usize) -> Verdict
     requires { ⌜ (b .head ≡ headOf (b .form)) × (b .head ≤ b .span) × (b .at + b .span ≤ length (now part)) × (base + length (now part) < 2 ^ 60) × (0 < depth) ⌝ }
-    ensures { λ r. ⌜ r ≡ boxBy n (depth - 1) k (boxAt (now (part .entry)) b) (base + b .at) ⌝ }
+    ensures { λ r. ⌜ r ≡ formFirst n (depth - 1) k (boxAt (now (part .entry)) b) (base + b .at) ⌝ }
 {
     let place = base + b.at;
     let form = b.form;

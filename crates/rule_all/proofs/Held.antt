@@ -10,7 +10,7 @@ use Rattle.codes.specs.Codes.{FTYP, MOOV, MVHD, TRAK, TKHD, MDIA, MDHD, HDLR, M
 use Rattle.boxes.specs.Box.{Box}
 use Rattle.boxes.specs.Containers.{FILE, parent, kindIn}
 use Rattle.rule_headers.specs.Forms.{ifBox, form}
-use Rattle.rule_lists.specs.Five.{listForm, formIn}
+use Rattle.rule_lists.specs.Five.{listForm, listFormIn}
 use Rattle.rule_lists.specs.Nine.{allUrls, allUrlsIn}
 use Rattle.rule_tracks.specs.Six.{tableFine, tableIn}
 use Rattle.sample_tables.specs.Tables.{tableForm}
@@ -78,32 +78,32 @@ inside-dinf c = parent-any (λ c p. ifEq p DINF c 0 ≡ 0) refl refl refl refl r
 
 module _ (l : List Box) (c : ℕ) (b : List ℕ) where
   pub leaf-file : (c ≡ FTYP → form FILE FTYP b ≡ true) → rulesToNine l .leaf FILE c b ≡ true
-  unfolding form ifBox formIn tableIn allUrlsIn ifEq
+  unfolding form ifBox listFormIn tableIn allUrlsIn ifEq
   leaf-file f = eq-or c FTYP (λ e. rw (e, f e)) (λ n. rw (ne-eqb c FTYP n))
 
   pub leaf-moov : (c ≡ MVHD → form MOOV MVHD b ≡ true) → rulesToNine l .leaf MOOV c b ≡ true
-  unfolding form ifBox formIn tableIn allUrlsIn ifEq
+  unfolding form ifBox listFormIn tableIn allUrlsIn ifEq
   leaf-moov f = eq-or c MVHD (λ e. rw (e, f e)) (λ n. rw (ne-eqb c MVHD n))
 
   pub leaf-trak : (c ≡ TKHD → form TRAK TKHD b ≡ true) → allRules l .leaf TRAK c b ≡ true
-  unfolding form ifBox formIn tableIn allUrlsIn ifEq
+  unfolding form ifBox listFormIn tableIn allUrlsIn ifEq
   leaf-trak f = eq-or c TKHD (λ e. rw (e, f e)) (λ n. rw (ne-eqb c TKHD n))
 
   pub leaf-mdia : (c ≡ MDHD → form MDIA MDHD b ≡ true) → (c ≡ HDLR → form MDIA HDLR b ≡ true) → allRules l .leaf MDIA c b ≡ true
-  unfolding form ifBox formIn tableIn allUrlsIn ifEq
+  unfolding form ifBox listFormIn tableIn allUrlsIn ifEq
   leaf-mdia f g = eq-or c MDHD (λ e. rw (e, f e)) (λ n. eq-or c HDLR (λ e. rw (e, g e)) (λ m. rw (ne-eqb c MDHD n, ne-eqb c HDLR m)))
 
   pub leaf-minf : allRules l .leaf MINF c b ≡ true
-  unfolding form ifBox formIn tableIn allUrlsIn ifEq
+  unfolding form ifBox listFormIn tableIn allUrlsIn ifEq
   leaf-minf = refl
 
   pub leaf-dinf : (c ≡ DREF → (listForm b ≡ true) × (allUrls b ≡ true)) → allRules l .leaf DINF c b ≡ true
-  unfolding form ifBox formIn tableIn allUrlsIn ifEq
+  unfolding form ifBox listFormIn tableIn allUrlsIn ifEq
   leaf-dinf f = eq-or c DREF (λ e. rw (e, f e .0, f e .1)) (λ n. rw (ne-eqb c DREF n))
 
   pub leaf-stbl : (c ≡ STSD → listForm b ≡ true) → (c ≡ STTS → tableForm 8 b ≡ true) → (c ≡ STSC → tableForm 12 b ≡ true) → (c ≡ STSZ → sizesForm b ≡ true)
       → (c ≡ STCO → tableForm 4 b ≡ true) → allRules l .leaf STBL c b ≡ true
-  unfolding form ifBox formIn tableIn tableFine allUrlsIn ifEq
+  unfolding form ifBox listFormIn tableIn tableFine allUrlsIn ifEq
   leaf-stbl f g h i j =
       eq-or c STSD (λ e. rw (e, f e)) (λ n. eq-or c STTS (λ e. rw (e, g e)) (λ m. eq-or c STSC (λ e. rw (e, h e))
       (λ k. eq-or c STSZ (λ e. rw (e, i e)) (λ l. eq-or c STCO (λ e. rw (e, j e))

@@ -14,7 +14,7 @@ use Rattle.movie.proofs.Stsds.Pairs.{nil, cons}
 use Rattle.movie.proofs.Kept.{kin-stsd}
 use Rattle.rule.specs.Rule.{allIn}
 use Rattle.rule.proofs.Keeping.{keep}
-use Rattle.rule_lists.specs.Five.{listForm, formIn, countedIn, fiveRule}
+use Rattle.rule_lists.specs.Five.{listForm, listFormIn, countedIn, fiveRule}
 use Rattle.rule_lists.specs.Nine.{allUrls, allUrlsIn, nineRule}
 
 -- ---- the same total
@@ -31,8 +31,8 @@ module _ (G : Leaf)
     (stsd : (b b′ : List ℕ) → G STBL STSD b b′ → listForm b ≡ true → listForm b′ ≡ true)
     (counts : (b b′ : List ℕ) → G STBL STSD b b′ → storedCount b ≡ storedCount b′)
     (dref : (b b′ : List ℕ) → G DINF DREF b b′ → listForm b ≡ true → listForm b′ ≡ true) where
-  form-keep : (k c : ℕ) (b b′ : List ℕ) → G k c b b′ → formIn k c b ≡ true → formIn k c b′ ≡ true
-  unfolding formIn
+  form-keep : (k c : ℕ) (b b′ : List ℕ) → G k c b b′ → listFormIn k c b ≡ true → listFormIn k c b′ ≡ true
+  unfolding listFormIn
   form-keep k c b b′ g =
       eq-kept k STBL _ _ _ _ (λ e. eq-kept c STSD _ _ _ _ (λ f. stsd b b′ (rw (e, f) at g)) (λ t. t))
       (eq-kept k DINF _ _ _ _ (λ e. eq-kept c DREF _ _ _ _ (λ f. dref b b′ (rw (e, f) at g)) (λ t. t)) (λ t. t))

@@ -23,7 +23,7 @@ use Rattle.rule.specs.Verdict.{isFine}
 use Rattle.rule.specs.Rule.{Says}
 use Rattle.rule.proofs.Places.{unless-fine}
 use Rattle.rule.proofs.Acceptance.{list-fine}
-use Rattle.rule_lists.specs.Five.{MOST, formIn, countedIn, passing, five, fiveRule}
+use Rattle.rule_lists.specs.Five.{MOST, listFormIn, countedIn, passing, five, fiveRule}
 use Rattle.rule_lists.specs.Nine.{isUrl, urlAt, urlsOf, urlsIn, allUrls, allUrlsIn, nine, nineRule}
 
 -- ---- the total
@@ -53,7 +53,7 @@ counted-anywhere (x ∷ l) t u p q =
 pub five-says : Says five fiveRule
 five-says =
     record {
-      leaf = λ k c b p q. unless-fine (formIn k c b) p;
+      leaf = λ k c b p q. unless-fine (listFormIn k c b) p;
       node = λ k xs home p. through isFine k MOOV (passing MOST 0 (stsdsFrom 0 (boxes xs) p)) Fine ∙ rw (passing-fine MOST 0 (stsdsFrom 0 (boxes xs) p) (omega arith), zero-add, counted-anywhere (boxes xs) 0 0 p 0);
       end = λ xs p. refl;
     }

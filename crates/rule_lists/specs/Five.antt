@@ -42,8 +42,8 @@ pub record Listed (b : List ℕ) : Type 0 where
   pub counted : count ANY (boxes (drop FRONT b)) ≡ storedCount b
 
 -- asked of an `stsd` in `stbl` and of a `dref` in `dinf` alone, of a box of code c in a container of kind k
-unfoldable pub formIn : ℕ → ℕ → List ℕ → Bool
-formIn k c b = ifEq k STBL (ifEq c STSD (listForm b) true) (ifEq k DINF (ifEq c DREF (listForm b) true) true)
+unfoldable pub listFormIn : ℕ → ℕ → List ℕ → Bool
+listFormIn k c b = ifEq k STBL (ifEq c STSD (listForm b) true) (ifEq k DINF (ifEq c DREF (listForm b) true) true)
 
 -- ---- all `stsd`s
 
@@ -66,12 +66,12 @@ abbrev pub mostIn : ℕ → List ℕ → ℕ → Verdict
 mostIn k xs p = ifEq k MOOV (passing MOST 0 (stsdsFrom 0 (boxes xs) p)) Fine
 
 abbrev pub five : Judge
-five = record { leaf = λ k c b p q. unless (formIn k c b) p; node = λ k xs home p. mostIn k xs p; end = λ xs p. Fine }
+five = record { leaf = λ k c b p q. unless (listFormIn k c b) p; node = λ k xs home p. mostIn k xs p; end = λ xs p. Fine }
 
 abbrev pub fiveRule : Rule
 fiveRule =
     record {
-      leaf = λ k c b. formIn k c b;
+      leaf = λ k c b. listFormIn k c b;
       node = λ k xs. ifEq k MOOV (isLe (countedIn (stsdsFrom 0 (boxes xs) 0)) MOST) true;
       end = λ xs. true;
     }

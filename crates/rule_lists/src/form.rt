@@ -5,7 +5,7 @@ use wire::lend;
 use wire::number;
 ghost use mathlib.Core.Path.{_≡_};
 ghost use Rattle.wire.specs.Clauses.{oneIf};
-ghost use Rattle.rule_lists.specs.Five.{listForm, formIn};
+ghost use Rattle.rule_lists.specs.Five.{listForm, listFormIn};
 
 // Whether a payload has the form of rule 5: 1 or 0.
 pub fn list_form(body: &[u8]) -> usize
@@ -29,7 +29,7 @@ pub fn list_form(body: &[u8]) -> usize
 
 // The same of a box in a container of kind k, where it is an `stsd` or a `dref`: 1 or 0.
 pub fn form_in(k: usize, c: usize, body: &[u8]) -> usize
-    ensures { λ r. ⌜ r ≡ oneIf (formIn k c (now (body .entry))) ⌝ }
+    ensures { λ r. ⌜ r ≡ oneIf (listFormIn k c (now (body .entry))) ⌝ }
 {
     if k == codes::STBL {
         if c == codes::STSD {

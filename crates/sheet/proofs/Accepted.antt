@@ -20,7 +20,7 @@ use Rattle.movie.proofs.Stsds.{Each, each-stsd}
 use Rattle.movie.proofs.Stsds.Each.{none, more}
 use Rattle.rule_shape.specs.Three.{needed}
 use Rattle.rule_shape.proofs.Descent.{Met, node-met, needed-leaf, in-moov, in-track, in-stbl, tracks-few}
-use Rattle.rule_lists.specs.Five.{Listed, formIn, MOST, countedIn, fiveRule}
+use Rattle.rule_lists.specs.Five.{Listed, listFormIn, MOST, countedIn, fiveRule}
 use Rattle.rule_lists.proofs.Forms.{form-is}
 use Rattle.rule_lists.proofs.Rules.{counted-anywhere}
 use Rattle.judge.specs.Acceptance.{Meets}
@@ -29,7 +29,7 @@ use Rattle.sheet.specs.Fits.{SheetFits}
 
 -- rule 5: each `stsd` lists as many boxes as it counts
 listed : {b : List ℕ} → Met fiveRule 4 TRAK b → Listed (follow toStsd b)
-unfolding follow formIn needed kindIn parent ifEq
+unfolding follow listFormIn needed kindIn parent ifEq
 listed m = form-is _ (needed-leaf (in-stbl m) STSD refl refl)
 
 pub listed-at : (xs : List ℕ) → Meets xs → (n : ℕ) → n < tracks xs → Listed (stsdAt xs n .body)

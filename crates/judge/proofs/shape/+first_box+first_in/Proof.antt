@@ -7,7 +7,7 @@ use Rattle.boxes.specs.Walk.{boxAt}
 use Rattle.judge.proofs.Answers.{box-leaf, box-node, judge-shallow}
 use Rattle.judge.proofs.Empty.{empty-fine}
 use Rattle.judge.proofs.Shapes.{first-broken, box-unformed, box-formed, first-unshaped, first-begins, end-tiled, end-other, end-torn}
-use Rattle.judge.specs.Asked.{firstBy, boxBy}
+use Rattle.judge.specs.Asked.{firstBy, formFirst}
 use Rattle.rule.proofs.Places.{sooner-none, unless-yea}
 use Rattle.rule.proofs.Traverse.{Found, found-more}
 use Rattle.rule.specs.declared.Verdict.the-variants.{Fine}
@@ -55,7 +55,7 @@ first-in-below t =
 
 abbrev first-in-Inv-loop : first-in-lts.InvT-loop
 first-in-Inv-loop n part home base k depth w₀ w =
-    Found (boxBy n (depth - 1) k) (firstBy n .end (after part)) part base (judgeIn (firstBy n) depth k part home base) Fine (w .at)
+    Found (formFirst n (depth - 1) k) (firstBy n .end (after part)) part base (judgeIn (firstBy n) depth k part home base) Fine (w .at)
     × (after part ≡ after (drop (w .at) part))
 
 abbrev first-in-μ-loop : first-in-lts.MeasureT-loop
