@@ -18,7 +18,7 @@ use Rattle.boxes.proofs.Reading.{lengths}
 use Rattle.judge.specs.Acceptance.{Meets}
 use Rattle.edit_offsets.specs.Close.{closed, closedAt}
 use Rattle.edit_offsets.specs.Settle.{offsets}
-use Rattle.edit_offsets.proofs.Closing.{length-closed, after-closed}
+use Rattle.edit_offsets.proofs.ClosedFile.{length-closed, after-closed}
 use Rattle.edit_offsets.proofs.Settled.{settled-length}
 use Rattle.edit_offsets.proofs.Accepted.{file-tiled, one-moov}
 use Rattle.edit_move.specs.Moving.{moovSecond, moveOf}

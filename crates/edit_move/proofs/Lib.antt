@@ -4,6 +4,7 @@ pub mod Mapping
 pub mod Order
 pub mod Pieces
 pub mod Parted
+pub mod Arranged
 pub mod Moved
 pub mod Calls
 pub mod Staying

@@ -3,26 +3,23 @@ use Prim.Native.Nat.{ℕ, _+_, _≤_}
 use native.Mathlib.Omega.{arith}
 use mathlib.Core.Path.{_≡_, refl, sym, ap, _∙_}
 use mathlib.Core.Bool.{true}
-use mathlib.Core.List.{List, [], _∷_, _++_, append-nil, map}
+use mathlib.Core.List.{List, [], _∷_, _++_}
 use lib.ListN.{length, drop}
 use Rattle.codes.specs.Codes.{MOOV}
 use Rattle.wire.specs.Numbers.{Bytes}
 use Rattle.wire.specs.Writing.{Wrote, Put}
 use Rattle.wire.proofs.Writing.{pen-front}
 use Rattle.boxes.specs.declared.walk.BoxAt.{BoxAt}
-use Rattle.boxes.specs.Box.{Box, size, write}
+use Rattle.boxes.specs.Box.{size, write}
 use Rattle.boxes.specs.Boxes.{boxes, total, after}
-use Rattle.boxes.specs.Seek.{count}
 use Rattle.boxes.specs.Rewrite.{editIn, inBody}
 use Rattle.boxes.specs.Walk.{payload, boxAt}
 use Rattle.boxes.specs.Words.{rewordLeaf, moved}
 use Rattle.boxes.proofs.Whole.{head-least}
 use Rattle.boxes.proofs.Written.{boxes-all}
-use Rattle.boxes.proofs.Reading.{Shut, parts, lengths, write-append, write-boxes}
+use Rattle.boxes.proofs.Reading.{Shut, parts}
 use Rattle.boxes.specs.Kin.{All2}
 use Rattle.boxes.specs.Kin.All2.{cons}
-use Rattle.boxes.proofs.Placing.{length-write}
-use Rattle.boxes.proofs.Numbered.{count-append}
 use Rattle.boxes.proofs.Rewriting.{bytes-write}
 use Rattle.boxes.proofs.InMoov.{OneMoov}
 use Rattle.mdat.specs.Payloads.{mdats, inAt}
@@ -35,73 +32,20 @@ use Rattle.edit_offsets.specs.Close.{shutBox, closed, closedAt}
 use Rattle.edit_offsets.specs.Settle.{offsets}
 use Rattle.edit_offsets.proofs.Settled.{settled-length, settled-list}
 use Rattle.edit_offsets.proofs.InMoov.{settle-file}
-use Rattle.edit_offsets.proofs.Closing.{form-head, shut-size, shut-each, moovs-shut, length-closed, boxes-closed, after-closed, bytes-closed}
-use Rattle.edit_offsets.proofs.ClosingHere.{shut-one, closed-here}
+use Rattle.edit_offsets.proofs.Closing.{form-head, shut-size, shut-each, moovs-shut}
+use Rattle.edit_offsets.proofs.ClosedFile.{after-closed, bytes-closed}
 use Rattle.edit_offsets.proofs.Accepted.{file-tiled}
 use Rattle.edit_move.specs.Moving.{moovSecond, moveOf}
 use Rattle.edit_move.specs.Arrange.{arranged, up, moovAt}
 use Rattle.edit_move.proofs.Sifting.{each-second}
 use Rattle.edit_move.proofs.Shutting.{shut-second}
-use Rattle.edit_move.proofs.Order.{second-length, second-is}
-use Rattle.edit_move.proofs.Pieces.{pieces-are, pieces-length}
+use Rattle.edit_move.proofs.Pieces.{pieces-length}
 use Rattle.edit_move.proofs.Parted.{Parted}
+use Rattle.edit_move.proofs.Arranged.{others-none, shut-is, second-shut, closed-is, second-long}
 
 module _ (xs : List ℕ) (v : Bytes xs) (m : Meets xs) {b : BoxAt} (p : Parted xs b) where
-  -- ---- the bytes
-
-  -- one box takes its size
-  takes : (x : Box) → length (write (x ∷ [])) ≡ size x
-  unfolding total
-  takes x = length-write (x ∷ []) ∙ omega arith
-
-  file-is : xs ≡ write (p .ftyp ∷ []) ++ (write (p .mid) ++ (write (boxAt xs b ∷ []) ++ write (p .end)))
-  file-is =
-      sym (write-boxes xs v) ∙ rw (file-tiled xs m, append-nil, p .list)
-      (write-append (p .ftyp ∷ []) (p .mid ++ boxAt xs b ∷ p .end) ∙ rw (write-append (p .mid) (boxAt xs b ∷ p .end)) (ap (λ (l : List ℕ). write (p .ftyp ∷ []) ++ (write (p .mid) ++ l)) (write-append (boxAt xs b ∷ []) (p .end))))
-
-  order-is : write (p .ftyp ∷ (boxAt xs b ∷ (p .mid ++ p .end))) ≡ write (p .ftyp ∷ []) ++ (write (boxAt xs b ∷ []) ++ (write (p .mid) ++ write (p .end)))
-  order-is =
-      write-append (p .ftyp ∷ []) (boxAt xs b ∷ (p .mid ++ p .end)) ∙ ap (λ (l : List ℕ). write (p .ftyp ∷ []) ++ l) (write-append (boxAt xs b ∷ []) (p .mid ++ p .end))
-      ∙ ap (λ (l : List ℕ). write (p .ftyp ∷ []) ++ (write (boxAt xs b ∷ []) ++ l)) (write-append (p .mid) (p .end))
-
-  arranged-is : arranged (size (p .ftyp)) b xs ≡ write (p .ftyp ∷ (boxAt xs b ∷ (p .mid ++ p .end)))
-  arranged-is =
-      ap (arranged (size (p .ftyp)) b) file-is
-      ∙ pieces-are (write (p .ftyp ∷ [])) (write (p .mid)) (write (boxAt xs b ∷ [])) (write (p .end)) (size (p .ftyp)) b
-      (takes (p .ftyp)) (p .at ∙ ap (λ (n : ℕ). size (p .ftyp) + n) (sym (length-write (p .mid)))) (p .span ∙ sym (takes (boxAt xs b)))
-      ∙ sym order-is
-
-  -- ---- `moov` closed where it then stands
-
-  others-none : (count MOOV (p .ftyp ∷ []) ≡ 0) × (count MOOV (p .mid ++ p .end) ≡ 0)
-  unfolding count
-  others-none = (omega (arith, p .before), omega (arith, p .before, p .behind, count-append MOOV (p .mid) (p .end)))
-
   abbrev zs : List ℕ
   zs = write (moovSecond (boxes (closed xs)))
-
-  shut-is : boxes (closed xs) ≡ map shutBox (boxes xs)
-  shut-is = boxes-closed xs v (omega (arith, m .most))
-
-  second-shut : moovSecond (boxes (closed xs)) ≡ p .ftyp ∷ (shutBox (boxAt xs b) ∷ (p .mid ++ p .end))
-  unfolding count
-  second-shut =
-      ap moovSecond (shut-is ∙ ap (map shutBox) (p .list) ∙ shut-one (p .ftyp ∷ p .mid) (boxAt xs b) (p .end) (p .before) (p .behind))
-      ∙ second-is (shutBox (boxAt xs b)) (p .end) (p .moov) (p .behind) (p .ftyp) (p .mid) (omega (arith, p .before))
-
-  closed-is : (rest : List ℕ) → closedAt (moovAt (size (p .ftyp)) b) (arranged (size (p .ftyp)) b xs ++ rest) ≡ zs ++ rest
-  unfolding total
-  closed-is rest =
-      let q : List Box = p .mid ++ p .end in
-      ap (λ (ys : List ℕ). closedAt (moovAt (size (p .ftyp)) b) (ys ++ rest)) arranged-is
-      ∙ closed-here (p .ftyp ∷ []) (boxAt xs b) q rest (moovAt (size (p .ftyp)) b) (p .moov) (others-none .0) (others-none .1) (omega arith) refl (p .span)
-      ∙ ap (λ (l : List Box). write l ++ rest) (shut-one (p .ftyp ∷ []) (boxAt xs b) q (others-none .0) (others-none .1) ∙ sym second-shut)
-
-  zs-long : length zs ≡ length xs
-  zs-long = omega (arith, second-length (boxes (closed xs)), lengths (closed xs), length-closed xs, ap length nothing-after)
-    where
-      nothing-after : after (closed xs) ≡ []
-      nothing-after = after-closed xs v (omega (arith, m .most)) ∙ file-tiled xs m
 
   -- ---- the chunk offsets
 
@@ -111,7 +55,7 @@ module _ (xs : List ℕ) (v : Bytes xs) (m : Meets xs) {b : BoxAt} (p : Parted x
   new-boxes : boxes zs ≡ moovSecond (boxes (closed xs))
   new-boxes =
       boxes-all (each-second (parts (closed xs) (bytes-closed xs v (omega (arith, m .most))) .good))
-      (shut-second (rw shut-is (moovs-shut (boxes xs))) shut-all) (omega (arith, zs-long, m .most))
+      (shut-second (rw (shut-is xs v m p) (moovs-shut (boxes xs))) shut-all) (omega (arith, (second-long xs v m p), m .most))
 
   fronts : Fronts (p .ftyp ∷ []) (p .mid) (boxAt xs b) (up b)
   unfolding total
@@ -123,7 +67,7 @@ module _ (xs : List ℕ) (v : Bytes xs) (m : Meets xs) {b : BoxAt} (p : Parted x
   relocates : (o n : ℕ) → inAt (boxes xs) o n ≡ true → moved (up b) o ≡ relocate (boxes xs) (boxes zs) o
   unfolding mdats
   relocates o n h =
-      rw (new-boxes, second-shut, p .list)
+      rw (new-boxes, (second-shut xs v m p), p .list)
       (moved-front (p .ftyp ∷ []) (p .mid) (p .end) (boxAt xs b) (λ e. omega (arith, p .moov)) (mdats-miss (p .ftyp) (λ e. omega (arith, p .name)) []) (omega (arith, head-least (b .form))) (up b) fronts o n (rw (p .list) at h)
       ∙ relocate-like (p .ftyp ∷ (p .mid ++ boxAt xs b ∷ p .end)) second-alike o)
 
@@ -134,10 +78,10 @@ module _ (xs : List ℕ) (v : Bytes xs) (m : Meets xs) {b : BoxAt} (p : Parted x
         p = p .ftyp ∷ [];
         x = shutBox (boxAt xs b);
         q = p .mid ++ p .end;
-        list = new-boxes ∙ second-shut;
+        list = new-boxes ∙ (second-shut xs v m p);
         code = p .moov;
-        before = others-none .0;
-        behind = others-none .1;
+        before = (others-none xs v m p) .0;
+        behind = (others-none xs v m p) .1;
         at = omega arith;
         head = p .head ∙ sym (form-head (b .code) (b .form));
         span = p .span ∙ sym (shut-size (boxAt xs b));
@@ -150,10 +94,10 @@ module _ (xs : List ℕ) (v : Bytes xs) (m : Meets xs) {b : BoxAt} (p : Parted x
   unfolding moveOf
   moved-wrote {out = out} {n = n} s l e q =
       let w = pen-front s l in
-      let c = e ∙ ap (closedAt (moovAt (size (p .ftyp)) b)) (w .is) ∙ closed-is (drop n out) in
+      let c = e ∙ ap (closedAt (moovAt (size (p .ftyp)) b)) (w .is) ∙ closed-is xs v m p (drop n out) in
       let k = settle-file (moved (up b)) zs (drop n out) (bytes-write (each-second (parts (closed xs) (bytes-closed xs v (omega (arith, m .most))) .filled))) only c q in
-      let z = settled-list xs zs (moved (up b)) m relocates (λ P a. rw (new-boxes, shut-is) (each-second (shut-each (λ x h. h) a))) in
-      record { span = w .span ∙ pieces-length _ b xs from (p .inside) ∙ sym zs-long ∙ sym (settled-length xs zs); is = k ∙ ap (λ (ys : List ℕ). ys ++ drop n out) z }
+      let z = settled-list xs zs (moved (up b)) m relocates (λ P a. rw (new-boxes, (shut-is xs v m p)) (each-second (shut-each (λ x h. h) a))) in
+      record { span = w .span ∙ pieces-length _ b xs from (p .inside) ∙ sym (second-long xs v m p) ∙ sym (settled-length xs zs); is = k ∙ ap (λ (ys : List ℕ). ys ++ drop n out) z }
     where
       from : size (p .ftyp) ≤ b .at
       from = omega (arith, p .at)

@@ -12,7 +12,8 @@ use Rattle.boxes.proofs.Meaning.{meant-yes}
 use Rattle.judge.specs.Acceptance.{Meets}
 use Rattle.edit_offsets.specs.Close.{shutBox, closed}
 use Rattle.edit_offsets.specs.Settle.{settled}
-use Rattle.edit_offsets.proofs.Closing.{boxes-closed, bytes-closed, alike-closed, shut-count}
+use Rattle.edit_offsets.proofs.Closing.{shut-count}
+use Rattle.edit_offsets.proofs.ClosedFile.{boxes-closed, bytes-closed, alike-closed}
 use Rattle.edit_offsets.proofs.Accepted.{file-tiled, one-moov}
 use Rattle.edit_offsets.proofs.Settled.{settled-same}
 use Rattle.edit_move.specs.Moving.{moovSecond, moveOf}

@@ -1,32 +1,26 @@
--- The file with its `moov` closed has the same boxes, lengths and bytes, and no open `moov`. Assumes nothing.
-use Prim.Native.Nat.{ℕ, _+_, _<_}
+-- A form closed, and a list of boxes of which each `moov` is: the same sizes, bodies and layout, and no open `moov`. Assumes nothing.
+use Prim.Native.Nat.{ℕ}
 use native.Mathlib.Omega.{arith}
 use mathlib.Core.Path.{_≡_, refl, sym, ap, _∙_}
-use mathlib.Core.List.{List, [], _∷_, _++_, map}
+use mathlib.Core.List.{List, [], _∷_, map}
 use mathlib.Core.Logic.{inl, inr}
-use lib.ListN.{length, length-append}
-use Rattle.wire.specs.Numbers.{Bytes}
+use lib.ListN.{length}
 use Rattle.wire.proofs.Tests.{eq-yea, eq-nay, eq-or}
-use Rattle.wire.proofs.Numbers.{bytes-append}
 use Rattle.codes.specs.Codes.{MOOV}
 use Rattle.boxes.specs.declared.walk.Form.{Form}
 use Rattle.boxes.specs.declared.walk.Form.the-variants.{Plain, Wide, Open}
 use Rattle.boxes.specs.Box.{Box, headOf, head, size, write}
-use Rattle.boxes.specs.Boxes.{boxes, total, after}
-use Rattle.boxes.specs.Containers.{FILE, DEPTH, kindIn}
+use Rattle.boxes.specs.Boxes.{boxes, total}
+use Rattle.boxes.specs.Containers.{FILE, kindIn}
 use Rattle.boxes.specs.Seek.{count}
 use Rattle.boxes.specs.Kin.{All2, Leaf, Formed, KinBox, Kin}
 use Rattle.boxes.specs.Kin.All2.{nil, cons}
-use Rattle.boxes.proofs.Whole.{Good}
-use Rattle.boxes.proofs.Reading.{All, Shut, Filled, parts, lengths, length-cons, bytes-after}
+use Rattle.boxes.proofs.Reading.{All, Shut, length-cons}
 use Rattle.boxes.proofs.Reading.All.{none, some}
 use Rattle.boxes.proofs.Reading.Shut.{end, next}
-use Rattle.boxes.proofs.Written.{boxes-write, after-write}
-use Rattle.boxes.proofs.Rewriting.{bytes-write}
 use Rattle.boxes.proofs.Kin.{kin-refl}
-use Rattle.boxes.proofs.Pairs.{all2-then}
 use Rattle.mdat.specs.Relocate.{Alike}
-use Rattle.edit_offsets.specs.Close.{shutForm, formAfter, shutBox, closed}
+use Rattle.edit_offsets.specs.Close.{shutForm, formAfter, shutBox}
 
 -- ---- a form
 
@@ -87,7 +81,7 @@ pub shut-each : {P : Box → Type 0} → ((x : Box) → P x → P (shutBox x)) �
 shut-each h none = none
 shut-each h (some {x} p a) = some {x = shutBox x} (h x p) (shut-each h a)
 
-shut-shut : {r : List ℕ} {l : List Box} → Shut r l → Shut r (map shutBox l)
+pub shut-shut : {r : List ℕ} {l : List Box} → Shut r l → Shut r (map shutBox l)
 shut-shut end = end
 shut-shut (next {x} {l} o z) = next {x = shutBox x} {l = map shutBox l} (λ e. let w = o (form-open (x .code) (x .form) e .0) in (ap (map shutBox) (w .0), w .1)) (shut-shut z)
 
@@ -99,7 +93,7 @@ pub moovs-shut : (l : List Box) → All ShutMoov (map shutBox l)
 moovs-shut [] = none
 moovs-shut (x ∷ l) = some {x = shutBox x} (λ e. form-open (x .code) (x .form) e .1) (moovs-shut l)
 
-shut-alike : (l : List Box) → All2 Alike l (map shutBox l)
+pub shut-alike : (l : List Box) → All2 Alike l (map shutBox l)
 shut-alike [] = nil
 shut-alike (x ∷ l) = cons (record { head = sym (form-head (x .code) (x .form)); code = refl; long = refl }) (shut-alike l)
 
@@ -107,7 +101,7 @@ shut-alike (x ∷ l) = cons (record { head = sym (form-head (x .code) (x .form))
 abbrev pub Equal : Leaf
 Equal k c b b′ = b ≡ b′
 
-shut-kin : (d : ℕ) (l : List Box) → All2 (KinBox Equal (λ j us vs. Kin Equal d j us vs) FILE) l (map shutBox l)
+pub shut-kin : (d : ℕ) (l : List Box) → All2 (KinBox Equal (λ j us vs. Kin Equal d j us vs) FILE) l (map shutBox l)
 shut-kin d [] = nil
 shut-kin d (x ∷ l) =
     cons (record {
@@ -116,36 +110,3 @@ shut-kin d (x ∷ l) =
       leaf = λ z. refl;
       node = λ z. kin-refl Equal (λ k c b. refl) d (kindIn FILE (x .code)) (x .body);
     }) (shut-kin d l)
-
--- ---- a file
-
-module _ (xs : List ℕ) where
-  pub length-closed : length (closed xs) ≡ length xs
-  unfolding closed
-  length-closed = rw (length-append, shut-length (boxes xs)) (lengths xs)
-
-  module _ (v : Bytes xs) (s : length xs < 4294967296) where
-    few : length (write (map shutBox (boxes xs))) < 4294967296
-    few = omega (arith, shut-length (boxes xs), lengths xs)
-
-    pub boxes-closed : boxes (closed xs) ≡ map shutBox (boxes xs)
-    unfolding closed
-    boxes-closed = boxes-write (after xs) (parts xs v .rest) (shut-each (λ x g. record { code = g .code }) (parts xs v .good)) (shut-shut (parts xs v .shut)) few
-
-    pub after-closed : after (closed xs) ≡ after xs
-    unfolding closed
-    after-closed = after-write (after xs) (parts xs v .rest) (shut-each (λ x g. record { code = g .code }) (parts xs v .good)) (shut-shut (parts xs v .shut)) few
-
-    pub bytes-closed : Bytes (closed xs)
-    unfolding closed
-    bytes-closed = bytes-append (write (map shutBox (boxes xs))) (after xs) (bytes-write (shut-each (λ x p. p) (parts xs v .filled))) (bytes-after xs v)
-
-    pub kin-closed : Kin Equal DEPTH FILE xs (closed xs)
-    kin-closed = (rw boxes-closed (shut-kin 5 (boxes xs)), sym after-closed)
-
-    pub alike-closed : All2 Alike (boxes xs) (boxes (closed xs))
-    alike-closed = rw boxes-closed (shut-alike (boxes xs))
-
-    -- what has the layout of the closed file has that of the file
-    pub alike-then : {m : List Box} → All2 Alike (boxes (closed xs)) m → All2 Alike (boxes xs) m
-    alike-then a = all2-then (λ x y z r s. record { head = r .head ∙ s .head; code = r .code ∙ s .code; long = r .long ∙ s .long }) alike-closed a

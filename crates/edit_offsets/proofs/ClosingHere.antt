@@ -26,7 +26,8 @@ use Rattle.boxes.proofs.Placing.{length-write, total-before}
 use Rattle.boxes.proofs.Cutting.{cut-size}
 use Rattle.boxes.proofs.InMoov.{OneMoov}
 use Rattle.edit_offsets.specs.Close.{shutForm, formAfter, shutBox, closed, closedAt}
-use Rattle.edit_offsets.proofs.Closing.{form-moov, form-other, form-head, shut-size, shut-total, shut-count, boxes-closed}
+use Rattle.edit_offsets.proofs.Closing.{form-moov, form-other, form-head, shut-size, shut-total, shut-count}
+use Rattle.edit_offsets.proofs.ClosedFile.{boxes-closed}
 
 -- as many bytes in the place of others
 put-there : (a u v w : List ℕ) (n : ℕ) → length a ≡ n → length u ≡ length v → put (a ++ (u ++ w)) n v ≡ a ++ (v ++ w)

@@ -4,6 +4,7 @@ pub mod Placed
 pub mod Agreement
 pub mod Settled
 pub mod Closing
+pub mod ClosedFile
 pub mod ClosingHere
 pub mod InMoov
 pub mod Accepted

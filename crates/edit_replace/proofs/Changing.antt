@@ -12,15 +12,12 @@ use Rattle.boxes.specs.declared.way.Turn.{Turn}
 use Rattle.boxes.specs.Containers.{FILE, DEPTH, parent, kindIn}
 use Rattle.boxes.specs.Seek.{ANY}
 use Rattle.boxes.specs.Way.{editWay, tailBy}
-use Rattle.boxes.specs.Kin.{Leaf, Kin}
+use Rattle.boxes.specs.Kin.{Kin}
 use Rattle.boxes.specs.Boxes.{FRONT}
-use Rattle.boxes.proofs.Kin.{Then, kin-then, kin-less}
 use Rattle.boxes.proofs.Down.{Down, last, into, Once, endOf, way-bytes, kin-way}
 use Rattle.movie.specs.declared.entry.Spot.the-variants.{In}
 use Rattle.movie.specs.Ways.{toStsd, follow}
 use Rattle.movie.specs.Movie.{track, sampleTable}
-use Rattle.edit_offsets.specs.Close.{closed}
-use Rattle.edit_offsets.proofs.Closing.{Equal, bytes-closed, kin-closed}
 use Rattle.edit_replace.specs.Replace.{turn, wayTo, recordAt}
 
 -- ---- the way
@@ -70,20 +67,3 @@ module _ (t n keep : ℕ) (new xs : List ℕ) (w : Bytes new) (v : Bytes xs) whe
     -- every opaque box but one `stsd` is as it was
     pub record-kin : Kin (Once STBL STSD (endOf (stsdWay t) xs) (entryBy (endOf (stsdWay t) xs))) DEPTH FILE xs (recordAt (In t n) keep new xs)
     record-kin = let q = by-stsd t n keep new xs in rw q (kin-way entryBy entry-bytes (down-stsd t) xs v (rw q at s))
-
--- ---- the file whose `moov` is closed first
-
-module _ (t n keep : ℕ) (new xs : List ℕ) (w : Bytes new) (v : Bytes xs) (l : length xs < 4294967296) where
-  abbrev made : List ℕ
-  made = recordAt (In t n) keep new (closed xs)
-
-  abbrev stsd : List ℕ
-  stsd = endOf (stsdWay t) (closed xs)
-
-  abbrev Leaves : Leaf
-  Leaves k c b b′ = Once STBL STSD stsd (editWay (toEntry n) (tailBy keep new) stsd) k c b b′
-
-  pub closed-kin : length made < 4294967296 → Kin Leaves DEPTH FILE xs made
-  closed-kin s =
-      kin-less (Then Equal Leaves) Leaves (λ k c b b′ r. rw (r .1) (r .2)) DEPTH FILE xs made
-      (kin-then Equal Leaves DEPTH FILE xs (closed xs) made (kin-closed xs v l) (record-kin t n keep new (closed xs) w (bytes-closed xs v l) s))

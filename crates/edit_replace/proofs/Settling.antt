@@ -23,7 +23,7 @@ use Rattle.movie.specs.declared.entry.Spot.the-variants.{In}
 use Rattle.judge.specs.Acceptance.{Meets}
 use Rattle.edit_offsets.specs.Close.{shutAt, closed}
 use Rattle.edit_offsets.specs.Settle.{offsets, settled}
-use Rattle.edit_offsets.proofs.Closing.{after-closed, bytes-closed}
+use Rattle.edit_offsets.proofs.ClosedFile.{after-closed, bytes-closed}
 use Rattle.edit_offsets.proofs.Settled.{settled-kin, settled-same}
 use Rattle.edit_replace.specs.Replace.{turn, recordAt}
 use Rattle.edit_replace.specs.Fitting.{grown, grownBox}

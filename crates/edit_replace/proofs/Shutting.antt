@@ -18,7 +18,8 @@ use Rattle.boxes.proofs.Numbered.{count-append}
 use Rattle.judge.specs.Acceptance.{Meets}
 use Rattle.edit_offsets.specs.Close.{shutBox, shutAt, closed, closedAt}
 use Rattle.edit_offsets.proofs.Accepted.{one-moov}
-use Rattle.edit_offsets.proofs.Closing.{shut-head, form-moov, length-closed, boxes-closed, after-closed}
+use Rattle.edit_offsets.proofs.Closing.{shut-head, form-moov}
+use Rattle.edit_offsets.proofs.ClosedFile.{length-closed, boxes-closed, after-closed}
 use Rattle.edit_offsets.proofs.ClosingHere.{closed-file, shut-one}
 use Rattle.edit_replace.proofs.Sized.{before-size, behind-size}
 

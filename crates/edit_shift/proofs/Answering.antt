@@ -28,7 +28,7 @@ use Rattle.judge.specs.declared.Judgement.the-variants.{Accepted}
 use Rattle.judge.specs.Judgement.{judged}
 use Rattle.judge.proofs.Calls.{met, result-accepted}
 use Rattle.edit_offsets.specs.Close.{closed}
-use Rattle.edit_offsets.proofs.Closing.{length-closed}
+use Rattle.edit_offsets.proofs.ClosedFile.{length-closed}
 use Rattle.edit_shift.specs.Shift.{shiftOf, allTimes, shiftable, shiftResult}
 use Rattle.edit_shift.specs.Amount.{byZone, zoneText, zoneResult}
 use Rattle.edit_shift.proofs.Passing.{all-length}

@@ -18,7 +18,7 @@ use Rattle.clocks.specs.Zones.{leaves}
 use Rattle.clocks.proofs.Whole.{shift-is, may-is}
 use Rattle.edit_offsets.proofs.Settled.{settled-same}
 use Rattle.edit_offsets.specs.Close.{closed}
-use Rattle.edit_offsets.proofs.Closing.{length-closed, bytes-closed, alike-then}
+use Rattle.edit_offsets.proofs.ClosedFile.{length-closed, bytes-closed, alike-then}
 use Rattle.edit_shift.specs.Shift.{allTimesBy, shiftOf}
 use Rattle.edit_shift.specs.Amount.{byZone, zoneText}
 use Rattle.edit_shift.proofs.Passing.{all-bytes, all-alike}

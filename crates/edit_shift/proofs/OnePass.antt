@@ -26,7 +26,7 @@ use Rattle.boxes.proofs.Meaning.{meant-is}
 use Rattle.judge.specs.Acceptance.{Meets}
 use Rattle.edit_offsets.specs.Close.{closed, closedAt}
 use Rattle.edit_offsets.proofs.Accepted.{one-moov}
-use Rattle.edit_offsets.proofs.Closing.{bytes-closed}
+use Rattle.edit_offsets.proofs.ClosedFile.{bytes-closed}
 use Rattle.edit_offsets.proofs.ClosingHere.{closed-file, only-closed}
 use Rattle.edit_shift.specs.Shift.{hasTimes, timesLeaf, allTimesBy}
 use Rattle.edit_shift.specs.Amount.{headersOf}

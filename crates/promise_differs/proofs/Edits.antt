@@ -20,7 +20,7 @@ use Rattle.entry_rules.specs.Decoders.{recordRule}
 use Rattle.judge.specs.Acceptance.{Meets}
 use Rattle.edit_offsets.specs.Close.{closed}
 use Rattle.edit_offsets.specs.Settle.{settled}
-use Rattle.edit_offsets.proofs.Closing.{bytes-closed}
+use Rattle.edit_offsets.proofs.ClosedFile.{bytes-closed}
 use Rattle.edit_offsets.proofs.Settled.{settled-length}
 use Rattle.edit_replace.specs.Replace.{kindAt, recordAt, recordReplaced, replaceOf}
 use Rattle.edit_replace.proofs.Taking.{record-first}

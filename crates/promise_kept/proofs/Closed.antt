@@ -13,7 +13,8 @@ use Rattle.boxes.specs.Kin.{Leaf, Kin}
 use Rattle.boxes.proofs.Kin.{Then, kin-then, kin-less}
 use Rattle.movie.specs.Movie.{track}
 use Rattle.edit_offsets.specs.Close.{shutBox, closed}
-use Rattle.edit_offsets.proofs.Closing.{Equal, boxes-closed, kin-closed}
+use Rattle.edit_offsets.proofs.Closing.{Equal}
+use Rattle.edit_offsets.proofs.ClosedFile.{boxes-closed, kin-closed}
 
 -- a closed box has its payload
 shut-find : (c : ℕ) (l : List Box) → find c (map shutBox l) ≡ find c l

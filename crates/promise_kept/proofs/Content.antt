@@ -18,7 +18,8 @@ use Rattle.boxes.proofs.Reading.{All}
 use Rattle.boxes.proofs.Reading.All.{none, some}
 use Rattle.boxes.proofs.Kin.{Then, kin-then}
 use Rattle.edit_offsets.specs.Close.{closed}
-use Rattle.edit_offsets.proofs.Closing.{Equal, ShutMoov, moovs-shut, length-closed, boxes-closed, bytes-closed, kin-closed}
+use Rattle.edit_offsets.proofs.Closing.{Equal, ShutMoov, moovs-shut}
+use Rattle.edit_offsets.proofs.ClosedFile.{length-closed, boxes-closed, bytes-closed, kin-closed}
 use Rattle.promise_kept.proofs.Sound.{Sound, sound-then}
 
 -- the content of xs was edited to ys
