@@ -9,10 +9,11 @@ use Rattle.wire.proofs.Numbers.{bytes-append}
 use Rattle.boxes.specs.Box.{Box, write}
 use Rattle.boxes.specs.Boxes.{boxes, after}
 use Rattle.boxes.specs.Containers.{FILE, DEPTH}
-use Rattle.boxes.specs.Kin.{All2, Kin}
+use Rattle.boxes.specs.Kin.{All2, Leaf, Kin}
 use Rattle.boxes.proofs.Reading.{parts, lengths, bytes-after}
 use Rattle.boxes.proofs.Written.{boxes-write, after-write}
 use Rattle.boxes.proofs.Rewriting.{bytes-write}
+use Rattle.boxes.proofs.Kin.{Then, kin-then, kin-less}
 use Rattle.boxes.proofs.Pairs.{all2-then}
 use Rattle.mdat.specs.Relocate.{Alike}
 use Rattle.edit_offsets.specs.Close.{shutBox, closed}
@@ -44,6 +45,10 @@ module _ (xs : List ℕ) where
 
     pub alike-closed : All2 Alike (boxes xs) (boxes (closed xs))
     alike-closed = rw boxes-closed (shut-alike (boxes xs))
+
+    -- what differs from the closed file differs so from the file
+    pub closed-kin : (G : Leaf) (ys : List ℕ) → Kin G DEPTH FILE (closed xs) ys → Kin G DEPTH FILE xs ys
+    closed-kin G ys a = kin-less (Then Equal G) G (λ k c b b″ r. rw (r .1) (r .2)) DEPTH FILE xs ys (kin-then Equal G DEPTH FILE xs (closed xs) ys kin-closed a)
 
     -- what has the layout of the closed file has that of the file
     pub alike-then : {m : List Box} → All2 Alike (boxes (closed xs)) m → All2 Alike (boxes xs) m

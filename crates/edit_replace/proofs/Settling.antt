@@ -23,13 +23,13 @@ use Rattle.movie.specs.declared.entry.Spot.the-variants.{In}
 use Rattle.judge.specs.Acceptance.{Meets}
 use Rattle.edit_offsets.specs.Close.{shutAt, closed}
 use Rattle.edit_offsets.specs.Settle.{offsets, settled}
-use Rattle.edit_offsets.proofs.ClosedFile.{after-closed, bytes-closed}
+use Rattle.edit_offsets.proofs.ClosedFile.{after-closed, bytes-closed, closed-kin}
 use Rattle.edit_offsets.proofs.Settled.{settled-kin, settled-same}
 use Rattle.edit_replace.specs.Replace.{turn, recordAt}
 use Rattle.edit_replace.specs.Fitting.{grown, grownBox}
 use Rattle.edit_replace.proofs.Shutting.{boxes-shut}
 use Rattle.edit_replace.proofs.Standing.{made, moov-moves, moov-alike, moov-stands, moov-inside}
-use Rattle.edit_replace.proofs.Changing.{toEntry, record-bytes, closed-kin}
+use Rattle.edit_replace.proofs.Changing.{toEntry, record-bytes, record-kin}
 
 module _ (t n keep : ℕ) (new xs : List ℕ) (w : Bytes new) (v : Bytes xs) (m : Meets xs) (s : length (recordAt (In t n) keep new (closed xs)) < 4294967296)
     {b : BoxAt} (c : Cut xs MOOV 0 b) where
@@ -69,7 +69,7 @@ module _ (t n keep : ℕ) (new xs : List ℕ) (w : Bytes new) (v : Bytes xs) (m 
   pub record-settled : editIn (rewordLeaf offsets (moved (grown b (length zs) (length xs)))) DEPTH FILE zs ≡ settled xs zs
   record-settled =
       settled-kin xs zs (moved (grown b (length zs) (length xs))) m (moov-moves xs zs body v m c boxes-are end-is) (Once STBL STSD _ _)
-      (λ d e r. ⊎-elim (λ q. q) (λ q. absurd (omega (arith, q .1))) r) (closed-kin t n keep new xs w v few s)
+      (λ d e r. ⊎-elim (λ q. q) (λ q. absurd (omega (arith, q .1))) r) (closed-kin xs v few (Once STBL STSD _ _) zs (record-kin t n keep new (closed xs) w bytes-shut s))
 
   -- a record of the same length moves nothing
   pub still : length zs ≡ length xs → settled xs zs ≡ zs

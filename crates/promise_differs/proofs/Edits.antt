@@ -20,12 +20,12 @@ use Rattle.entry_rules.specs.Decoders.{recordRule}
 use Rattle.judge.specs.Acceptance.{Meets}
 use Rattle.edit_offsets.specs.Close.{closed}
 use Rattle.edit_offsets.specs.Settle.{settled}
-use Rattle.edit_offsets.proofs.ClosedFile.{bytes-closed}
+use Rattle.edit_offsets.proofs.ClosedFile.{closed-kin, bytes-closed}
 use Rattle.edit_offsets.proofs.Settled.{settled-length}
 use Rattle.edit_replace.specs.Replace.{kindAt, recordAt, recordReplaced, replaceOf}
 use Rattle.edit_replace.proofs.Taking.{record-first}
 use Rattle.edit_replace.proofs.Written.{past-none}
-use Rattle.promise_kept.proofs.Closed.{closed-track, closed-kin}
+use Rattle.promise_kept.proofs.Closed.{closed-track}
 use Rattle.promise_kept.proofs.Named.{entry-in}
 use Rattle.promise_differs.specs.Differs.{OnlyRecord, keptOf, Replaces, EntryReplaced}
 use Rattle.promise_differs.proofs.Replacing.{record-differs}

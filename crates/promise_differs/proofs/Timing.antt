@@ -15,11 +15,10 @@ use Rattle.boxes.proofs.Kin.{Made, kin-edit, kin-less}
 use Rattle.clocks.specs.Clocks.{shiftTime}
 use Rattle.judge.specs.Acceptance.{Meets}
 use Rattle.edit_offsets.specs.Close.{closed}
-use Rattle.edit_offsets.proofs.ClosedFile.{length-closed, bytes-closed, alike-then}
+use Rattle.edit_offsets.proofs.ClosedFile.{closed-kin, length-closed, bytes-closed, alike-then}
 use Rattle.edit_offsets.proofs.Settled.{settled-same}
 use Rattle.edit_shift.specs.Shift.{hasTimes, timesLeaf, allTimesBy, shiftOf}
 use Rattle.edit_shift.proofs.Passing.{all-length, all-bytes, all-alike}
-use Rattle.promise_kept.proofs.Closed.{closed-kin}
 use Rattle.promise_differs.specs.Differs.{OnlyTimes}
 use Rattle.promise_differs.proofs.Bodies.{but-refl, but-reword}
 
