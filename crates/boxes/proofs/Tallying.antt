@@ -1,7 +1,7 @@
 -- Plain boxes alone: counted by one walk, which ends at a box of another form. Assumes nothing.
 use Prim.Native.Nat.{ℕ, _+_, _≤_, _<_}
 use native.Mathlib.Omega.{arith}
-use mathlib.Core.Path.{_≡_, refl, ap, _∙_}
+use mathlib.Core.Path.{_≡_, refl, sym, ap, _∙_}
 use mathlib.Core.Bool.{Bool, true, false}
 use mathlib.Core.List.{List, [], _∷_}
 use lib.ListN.{length, drop, length-drop, drop-of-length-le}
@@ -12,12 +12,15 @@ use Rattle.wire.proofs.Tests.{both}
 use Rattle.wire.proofs.Clauses.{is-eq, not-eq, fails, holds, done}
 use Rattle.boxes.specs.declared.walk.Walk.{Walk}
 use Rattle.boxes.specs.declared.walk.BoxAt.{BoxAt}
+use Rattle.boxes.specs.declared.walk.Step.{Step}
+use Rattle.boxes.specs.declared.walk.Step.the-variants.{Found, End, Broken}
 use Rattle.boxes.specs.declared.walk.Form.{Form}
 use Rattle.boxes.specs.declared.walk.Form.the-variants.{Plain, Wide, Open}
 use Rattle.boxes.specs.Box.{Box, isPlain}
 use Rattle.boxes.specs.Boxes.{boxes, after, tiles}
-use Rattle.boxes.specs.Walk.{boxAt, Ran, Over}
+use Rattle.boxes.specs.Walk.{stepAt, plainly, boxAt, Ran, Over, Stepped}
 use Rattle.boxes.specs.Seek.{meant, count, allPlain, plainTiles, Tallied}
+use Rattle.boxes.proofs.Walking.{stepped}
 use Rattle.boxes.proofs.Reading.{All}
 use Rattle.boxes.proofs.Reading.All.{none, some}
 use Rattle.boxes.proofs.Seeking.{passed-none, passed-more, passed-all}
@@ -43,6 +46,11 @@ plain-each none = refl
 plain-each (some {x} {l} e a) = rw (e, plain-each a)
 
 -- ---- by one walk
+
+abbrev torn : Step → ℕ
+torn (Found b w) = 0
+torn End = 0
+torn (Broken p) = 1
 
 pub tallied-none : (xs : List ℕ) (c : ℕ) → Tallied xs c 0 0
 tallied-none xs c = record { passed = passed-none xs c; plain = refl }
@@ -76,6 +84,19 @@ module _ {xs : List ℕ} {c n at : ℕ} (t : Tallied xs c n at) where
     tallied-torn h =
         let e : tiles xs ≡ false = not-eq (length (after xs)) 0 (λ z. omega (arith, ap length (t .passed .rest ∙ o .rest), length-drop at xs)) in
         rw (← fails 0 (tiles xs ∷ allPlain (boxes xs) ∷ []) e)
+
+  -- where no plain box is found, there is none or one of another form
+  pub tallied-stopped : (s : Step) (p : ℕ) → s ≡ plainly at (stepAt xs at) → s ≡ Broken p → 0 ≡ told
+  tallied-stopped s p e f = go (stepAt xs at) (stepped xs at) (sym f ∙ e)
+    where
+      by : (u : Bool) (b : BoxAt) (w : Walk) → isPlain (b .form) ≡ u → Ran xs at b w → Broken p ≡ pick u (Found b w) (Broken at) → 0 ≡ told
+      by true b w q r z = let k : _≡_ {A = ℕ} 1 0 = ap torn z in absurd (omega arith)
+      by false b w q r z = tallied-not r q
+
+      go : (v : Step) → Stepped xs at v → Broken p ≡ plainly at v → 0 ≡ told
+      go (Found b w) r z = by (isPlain (b .form)) b w refl r z
+      go End o z = let k : _≡_ {A = ℕ} 1 0 = ap torn z in absurd (omega arith)
+      go (Broken q) o z = tallied-torn (o .0) (o .2)
 
 -- ---- what the count says: plain boxes tile the part, and n of them are meant
 

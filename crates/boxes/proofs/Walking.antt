@@ -15,13 +15,14 @@ use Rattle.wire.proofs.Numbers.{word-drop}
 use Rattle.boxes.specs.declared.walk.Form.{Form}
 use Rattle.boxes.specs.declared.walk.Form.the-variants.{Plain, Wide, Open}
 use Rattle.boxes.specs.declared.walk.Walk.{Walk}
+use Rattle.boxes.specs.declared.walk.Says.{Says}
 use Rattle.boxes.specs.declared.walk.BoxAt.{BoxAt}
 use Rattle.boxes.specs.declared.walk.Step.{Step}
 use Rattle.boxes.specs.declared.walk.Step.the-variants.{Found, End, Broken}
-use Rattle.boxes.specs.Box.{headOf}
+use Rattle.boxes.specs.Box.{headOf, isPlain}
 use Rattle.boxes.specs.Boxes.{formOf, sizeBy, headFront, sizeOf, whole}
-use Rattle.boxes.specs.Walk.{foundAt, stepAt, Ran, Over, Stepped}
-use Rattle.boxes.proofs.Whole.{head-least, whole-true, whole-of, not-whole, short-not}
+use Rattle.boxes.specs.Walk.{saidBy, foundAt, stepAt, plainly, Ran, Over, Stepped, PlainlyStepped}
+use Rattle.boxes.proofs.Whole.{head-least, form-by, whole-true, whole-of, not-whole, short-not}
 use Rattle.boxes.proofs.Reading.{boxes-next, boxes-stop, after-next, after-stop}
 
 module _ (xs : List ℕ) (at : ℕ) where
@@ -86,51 +87,107 @@ module _ (xs : List ℕ) (at : ℕ) where
   pub step-rest : at < length xs → length xs < at + 8 → Broken at ≡ stepAt xs at
   step-rest h k = step-broken h (short-not _ (rw length-drop (omega arith)))
 
-  -- a box of a form, which is no box where its size is too small or too large
-  module _ (f : Form) (n : ℕ) (e : formOf (drop at xs) ≡ f) (s : sizeBy f (drop at xs) ≡ n) (h : at < length xs) where
-    size-is : sizeOf (drop at xs) ≡ n
-    size-is = rw e s
+  -- the box whose header is there, which is none where its size is too small or too large
+  abbrev here : List ℕ
+  here = drop at xs
 
-    step-not : (headOf f ≤ n → at + n ≤ length xs → ⊥) → Broken at ≡ stepAt xs at
-    step-not k = step-broken h (not-whole (drop at xs) (λ l m. k (rw (e, s) at l) (omega (arith, size-is, length-drop at xs))))
+  pub step-not : at < length xs → (headFront here ≤ sizeOf here → at + sizeOf here ≤ length xs → ⊥) → Broken at ≡ stepAt xs at
+  step-not h k = step-broken h (not-whole here (λ l m. k l (omega (arith, length-drop at xs))))
 
-    step-found : headOf f ≤ n → at + n ≤ length xs → Found (record { at = at; form = f; head = headOf f; span = n; code = word 4 xs (at + 4) }) (record { at = at + n }) ≡ stepAt xs at
-    unfolding stepAt
-    step-found l m =
-        let w : whole (drop at xs) ≡ true = whole-of (drop at xs) (rw (e, s) l) (omega (arith, size-is, length-drop at xs)) in
-        le-nay _ _ _ _ _ h (rw (w, e, s, word-drop 4 at xs 4))
+  -- a box by what its header says
+  abbrev box-by : Says → Step
+  box-by s = Found (record { at = at; form = s .form; head = s .head; span = s .span; code = word 4 xs (at + 4) }) (record { at = at + s .span })
 
-  field-at : word 4 (drop at xs) 0 ≡ word 4 xs at
+  pub step-found : headFront here ≤ sizeOf here → at + sizeOf here ≤ length xs → box-by (saidBy here) ≡ stepAt xs at
+  unfolding stepAt
+  step-found l m =
+      let w : whole here ≡ true = whole-of here l (omega (arith, length-drop at xs)) in
+      le-nay _ _ _ _ _ (omega (arith, head-least (formOf here))) (rw (w, word-drop 4 at xs 4))
+
+  module _ {s : Says} (e : s ≡ saidBy here) where
+    span-is : s .span ≡ sizeOf here
+    span-is = ap (λ (r : Says). r .span) e
+
+    head-is : s .head ≡ headFront here
+    head-is = ap (λ (r : Says). r .head) e
+
+    pub step-small : s .span < s .head → at < length xs → Broken at ≡ stepAt xs at
+    step-small k h = step-not h (λ l m. omega (arith, span-is, head-is))
+
+    pub step-large : length xs < at + s .span → at < length xs → Broken at ≡ stepAt xs at
+    step-large k h = step-not h (λ l m. omega (arith, span-is))
+
+    pub step-box : {c : ℕ} → c ≡ word 4 xs (at + 4) → s .head ≤ s .span → at + s .span ≤ length xs
+        → Found (record { at = at; form = s .form; head = s .head; span = s .span; code = c }) (record { at = at + s .span }) ≡ stepAt xs at
+    step-box q l m = rw q (ap box-by e ∙ step-found (omega (arith, span-is, head-is)) (omega (arith, span-is)))
+
+  -- ---- what it says
+
+  field-at : word 4 here 0 ≡ word 4 xs at
   field-at = word-drop 4 at xs 0 ∙ ap (word 4 xs) (omega arith)
 
-  -- the three forms, by their size fields
-  plain-at : 2 ≤ word 4 xs at → formOf (drop at xs) ≡ Plain
+  said-by : (f : Form) {n : ℕ} → formOf here ≡ f → sizeBy f here ≡ n → record { form = f; head = headOf f; span = n } ≡ saidBy here
+  said-by f e s = rw (e, s)
+
+  plain-at : 2 ≤ word 4 xs at → formOf here ≡ Plain
   unfolding formOf
   plain-at h = sym (eq-nay _ _ _ _ _ (omega (arith, field-at)) (eq-nay _ _ _ _ _ (omega (arith, field-at)) refl))
 
-  wide-at : word 4 xs at ≡ 1 → formOf (drop at xs) ≡ Wide
-  unfolding formOf
-  wide-at h = sym (eq-nay _ _ _ _ _ (omega (arith, field-at)) (eq-yea _ _ _ _ _ (field-at ∙ h) refl))
+  pub said-plain : {n : ℕ} → n ≡ word 4 xs at → 2 ≤ n → record { form = Plain; head = 8; span = n } ≡ saidBy here
+  said-plain e h = said-by Plain (plain-at (omega arith)) (field-at ∙ sym e)
 
-  open-at : word 4 xs at ≡ 0 → formOf (drop at xs) ≡ Open
+  pub said-wide : {f n : ℕ} → f ≡ word 4 xs at → f ≡ 1 → n ≡ word 8 xs (at + 8) → record { form = Wide; head = 16; span = n } ≡ saidBy here
   unfolding formOf
-  open-at h = sym (eq-yea _ _ _ _ _ (field-at ∙ h) refl)
+  said-wide g h e = said-by Wide (sym (eq-nay _ _ _ _ _ (omega (arith, field-at)) (eq-yea _ _ _ _ _ (field-at ∙ sym g ∙ h) refl))) (word-drop 8 at xs 8 ∙ sym e)
 
-  pub plain-not : {n : ℕ} → n ≡ word 4 xs at → 2 ≤ n → at < length xs → (8 ≤ n → at + n ≤ length xs → ⊥) → Broken at ≡ stepAt xs at
-  plain-not {n} e h l k = step-not Plain n (plain-at (omega arith)) (field-at ∙ sym e) l k
+  pub said-open : {f : ℕ} → f ≡ word 4 xs at → f ≡ 0 → record { form = Open; head = 8; span = length xs - at } ≡ saidBy here
+  unfolding formOf
+  said-open g h = said-by Open (sym (eq-yea _ _ _ _ _ (field-at ∙ sym g ∙ h) refl)) (length-drop at xs)
+
+-- ---- plain boxes alone
+
+module _ (xs : List ℕ) (at : ℕ) where
+  pub plainly-stepped : PlainlyStepped xs at (plainly at (stepAt xs at))
+  plainly-stepped = go (stepAt xs at) (stepped xs at)
+    where
+      by : (t : Bool) (b : BoxAt) (w : Walk) → isPlain (b .form) ≡ t → Ran xs at b w → PlainlyStepped xs at (pick t (Found b w) (Broken at))
+      by true b w e r = (r, e)
+      by false b w e r = refl
+
+      go : (s : Step) → Stepped xs at s → PlainlyStepped xs at (plainly at s)
+      go (Found b w) r = by (isPlain (b .form)) b w refl r
+      go End o = o
+      go (Broken p) o = refl
+
+  pub plain-ran : (s : Step) (b : BoxAt) (w : Walk) → s ≡ plainly at (stepAt xs at) → s ≡ Found b w → Ran xs at b w × (isPlain (b .form) ≡ true)
+  plain-ran s b w e f = subst (PlainlyStepped xs at) (sym e ∙ f) plainly-stepped
+
+  pub plain-ended : (s : Step) → s ≡ plainly at (stepAt xs at) → s ≡ End → Over xs at × (length xs ≤ at)
+  plain-ended s e f = subst (PlainlyStepped xs at) (sym e ∙ f) plainly-stepped
+
+  -- a header of eight bytes that says its size, and one that doesn't
+  pub plain-not : {n : ℕ} → n ≡ word 4 xs at → 8 ≤ n → at < length xs → length xs < at + n → Broken at ≡ plainly at (stepAt xs at)
+  plain-not e h l k =
+      let s = ap (λ (r : Says). r .span) (said-plain xs at e (omega arith)) in
+      ap (plainly at) (step-not xs at l (λ u v. omega arith))
 
   pub plain-found : {n : ℕ} → n ≡ word 4 xs at → 8 ≤ n → at + n ≤ length xs
-      → Found (record { at = at; form = Plain; head = 8; span = n; code = word 4 xs (at + 4) }) (record { at = at + n }) ≡ stepAt xs at
-  plain-found {n} e h l = step-found Plain n (plain-at (omega arith)) (field-at ∙ sym e) (omega arith) h l
+      → Found (record { at = at; form = Plain; head = 8; span = n; code = word 4 xs (at + 4) }) (record { at = at + n }) ≡ plainly at (stepAt xs at)
+  plain-found e h l =
+      let q = said-plain xs at e (omega arith) in
+      let s = ap (λ (r : Says). r .span) q in
+      let t = ap (λ (r : Says). r .head) q in
+      ap (plainly at) (ap (box-by xs at) q ∙ step-found xs at (omega arith) (omega arith))
 
-  module _ (w : word 4 xs at ≡ 1) where
-    pub wide-not : at < length xs → (16 ≤ word 8 xs (at + 8) → at + word 8 xs (at + 8) ≤ length xs → ⊥) → Broken at ≡ stepAt xs at
-    wide-not l k = step-not Wide _ (wide-at w) (word-drop 8 at xs 8) l k
+  unplain : word 4 xs at < 8 → headFront (drop at xs) ≤ sizeOf (drop at xs) → isPlain (formOf (drop at xs)) ≡ false
+  unplain h = form-by (λ f. headOf f ≤ sizeBy f (drop at xs) → isPlain f ≡ false) (drop at xs) (λ e k. refl) (λ e k. refl) (λ e f k. absurd (omega (arith, field-at xs at)))
 
-    pub wide-found : {n : ℕ} → n ≡ word 8 xs (at + 8) → 16 ≤ n → at + n ≤ length xs
-        → Found (record { at = at; form = Wide; head = 16; span = n; code = word 4 xs (at + 4) }) (record { at = at + n }) ≡ stepAt xs at
-    wide-found {n} e h l = step-found Wide n (wide-at w) (word-drop 8 at xs 8 ∙ sym e) (omega arith) h l
-
-  pub open-found : word 4 xs at ≡ 0 → at + 8 ≤ length xs
-      → Found (record { at = at; form = Open; head = 8; span = length xs - at; code = word 4 xs (at + 4) }) (record { at = at + (length xs - at) }) ≡ stepAt xs at
-  open-found z l = step-found Open (length xs - at) (open-at z) (length-drop at xs) (omega arith) (omega arith) (omega arith)
+  pub plain-short : {n : ℕ} → n ≡ word 4 xs at → n < 8 → at < length xs → Broken at ≡ plainly at (stepAt xs at)
+  plain-short q h l = go (whole (drop at xs)) refl
+    where
+      go : (t : Bool) → whole (drop at xs) ≡ t → Broken at ≡ plainly at (stepAt xs at)
+      go false e = ap (plainly at) (step-broken xs at l e)
+      go true e =
+          let w = whole-true (drop at xs) e in
+          let f : plainly at (box-by xs at (saidBy (drop at xs))) ≡ Broken at = rw (unplain (omega arith) (w .0)) in
+          sym f ∙ ap (plainly at) (step-found xs at (w .0) (omega (arith, length-drop at xs)))

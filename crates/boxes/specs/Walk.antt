@@ -1,16 +1,22 @@
 -- The walk over the boxes of a part, by places.
 use Prim.Native.Nat.{ℕ, _+_, _-_, _≤_, _<_}
 use mathlib.Core.Path.{_≡_}
+use mathlib.Core.Bool.{true}
 use mathlib.Core.List.{List, [], _∷_}
 use lib.ListN.{length, take, drop}
 use Rattle.wire.specs.Tests.{pick, ifLe}
 use Rattle.wire.specs.Numbers.{word}
 use Rattle.boxes.specs.declared.walk.Walk.{Walk}
+use Rattle.boxes.specs.declared.walk.Says.{Says}
 use Rattle.boxes.specs.declared.walk.BoxAt.{BoxAt}
 use Rattle.boxes.specs.declared.walk.Step.{Step}
 use Rattle.boxes.specs.declared.walk.Step.the-variants.{Found, End, Broken}
-use Rattle.boxes.specs.Box.{Box, headOf}
+use Rattle.boxes.specs.Box.{Box, headOf, isPlain}
 use Rattle.boxes.specs.Boxes.{formOf, headFront, sizeOf, whole, boxes, after}
+
+-- what the header at the front of ys says
+abbrev pub saidBy : List ℕ → Says
+saidBy ys = record { form = formOf ys; head = headFront ys; span = sizeOf ys }
 
 -- the box that ys, the bytes from a place on, start with
 abbrev pub foundAt : List ℕ → ℕ → BoxAt
@@ -21,6 +27,12 @@ unfoldable pub stepAt : List ℕ → ℕ → Step
 stepAt xs at =
     ifLe (length xs) at End
     (pick (whole (drop at xs)) (Found (foundAt (drop at xs) at) (record { at = at + sizeOf (drop at xs) })) (Broken at))
+
+-- what is left of it for a walk over plain boxes alone
+abbrev pub plainly : ℕ → Step → Step
+plainly at (Found b w) = pick (isPlain (b .form)) (Found b w) (Broken at)
+plainly at End = End
+plainly at (Broken p) = Broken at
 
 -- the payload of a box that was found, and the box
 abbrev pub payload : List ℕ → BoxAt → List ℕ
@@ -50,3 +62,9 @@ abbrev pub Stepped : List ℕ → ℕ → Step → Type 0
 Stepped xs at (Found b w) = Ran xs at b w
 Stepped xs at End = Over xs at × (length xs ≤ at)
 Stepped xs at (Broken p) = Over xs at × (p ≡ at) × (at < length xs)
+
+-- and what a plain box or the end says of them
+abbrev pub PlainlyStepped : List ℕ → ℕ → Step → Type 0
+PlainlyStepped xs at (Found b w) = Ran xs at b w × (isPlain (b .form) ≡ true)
+PlainlyStepped xs at End = Over xs at × (length xs ≤ at)
+PlainlyStepped xs at (Broken p) = p ≡ at

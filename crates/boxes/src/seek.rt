@@ -95,12 +95,8 @@ pub fn tally(part: &[u8], c: usize) -> usize
     let mut w = Walk { at: 0 };
     let mut n = 0;
     loop {
-        match w.step(part) {
+        match w.plain_step(part) {
             Step::Found(b, next) => {
-                let form = b.form;
-                if walk::is_plain(form) == 0 {
-                    return 0;
-                }
                 n = n + meant(c, b.code);
                 w = next;
             }

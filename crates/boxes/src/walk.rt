@@ -1,13 +1,11 @@
 // The walk over the boxes of a part, by value.
 use wire::number;
 ghost use mathlib.Core.Path.{_≡_};
-ghost use Prim.Native.Nat.{_+_, _-_, _≤_, _<_};
-ghost use lib.ListN.{length};
+ghost use Prim.Native.Nat.{_+_, _≤_};
+ghost use lib.ListN.{length, drop};
 ghost use Rattle.wire.specs.Clauses.{oneIf};
-ghost use Rattle.wire.specs.Numbers.{word};
-ghost use Rattle.boxes.specs.declared.walk.Step.the-variants.{Found};
 ghost use Rattle.boxes.specs.Box.{isPlain, isOpen};
-ghost use Rattle.boxes.specs.Walk.{stepAt, payload};
+ghost use Rattle.boxes.specs.Walk.{saidBy, stepAt, plainly, payload};
 
 // The length of a plain header, and of a wide one.
 pub const HEAD: usize = 8;
@@ -66,54 +64,45 @@ pub enum Step {
     Broken(usize),
 }
 
-// The box at a place that has so long a header.
-fn found(part: &[u8], at: usize, form: Form, head: usize, span: usize) -> Step
-    requires { ⌜ (at + 8 ≤ length (now part)) × (span ≤ length (now part) - at) ⌝ }
-    ensures { λ r. ⌜ r ≡ Found (record { at = at; form = form; head = head; span = span; code = word 4 (now (part .entry)) (at + 4) }) (record { at = at + span }) ⌝ }
-{
-    Step::Found(
-        BoxAt {
-            at,
-            form,
-            head,
-            span,
-            code: number::word32_in(part, at + 4),
-        },
-        Walk { at: at + span },
-    )
+// What a header says: its form and length, and how long all of its box is.
+struct Says {
+    form: Form,
+    head: usize,
+    span: usize,
 }
 
-// A size field of 1.
-fn wide(part: &[u8], at: usize) -> Step
-    requires { ⌜ (at + 8 ≤ length (now part)) × (word 4 (now part) at ≡ 1) ⌝ }
-    ensures { λ r. ⌜ r ≡ stepAt (now (part .entry)) at ⌝ }
+// What the header at a place says, the form that most boxes have first.
+fn said(part: &[u8], at: usize) -> Says
+    requires { ⌜ at + 8 ≤ length (now part) ⌝ }
+    ensures { λ r. ⌜ r ≡ saidBy (drop at (now (part .entry))) ⌝ }
 {
-    let left = part.len() - at;
-    if left < WIDE_HEAD {
-        return Step::Broken(at);
+    let field = number::word32_in(part, at);
+    if HEAD <= field {
+        return Says {
+            form: Form::Plain,
+            head: HEAD,
+            span: field,
+        };
     }
-    let span = number::word64_in(part, at + 8);
-    if span < WIDE_HEAD {
-        return Step::Broken(at);
-    }
-    if left < span {
-        return Step::Broken(at);
-    }
-    found(part, at, Form::Wide, WIDE_HEAD, span)
-}
-
-// A size field that says no size of a plain box.
-fn marked(part: &[u8], at: usize, field: usize) -> Step
-    requires { ⌜ (at + 8 ≤ length (now part)) × (field ≡ word 4 (now part) at) × (field < 8) ⌝ }
-    ensures { λ r. ⌜ r ≡ stepAt (now (part .entry)) at ⌝ }
-{
     if field == 0 {
-        return found(part, at, Form::Open, HEAD, part.len() - at);
+        return Says {
+            form: Form::Open,
+            head: HEAD,
+            span: part.len() - at,
+        };
     }
     if field == 1 {
-        return wide(part, at);
+        return Says {
+            form: Form::Wide,
+            head: WIDE_HEAD,
+            span: number::word(part, at + 8, 8),
+        };
     }
-    Step::Broken(at)
+    Says {
+        form: Form::Plain,
+        head: HEAD,
+        span: field,
+    }
 }
 
 impl Walk {
@@ -130,14 +119,56 @@ impl Walk {
         if left < HEAD {
             return Step::Broken(at);
         }
+        let s = said(part, at);
+        if s.span < s.head {
+            return Step::Broken(at);
+        }
+        if left < s.span {
+            return Step::Broken(at);
+        }
+        let form = s.form;
+        Step::Found(
+            BoxAt {
+                at,
+                form,
+                head: s.head,
+                span: s.span,
+                code: number::word32_in(part, at + 4),
+            },
+            Walk { at: at + s.span },
+        )
+    }
+
+    // The same of plain boxes alone, in fewer steps: another box is none here.
+    pub fn plain_step(self, part: &[u8]) -> Step
+        ensures { λ r. ⌜ r ≡ plainly (self .at) (stepAt (now (part .entry)) (self .at)) ⌝ }
+    {
+        let at = self.at;
+        let n = part.len();
+        if n <= at {
+            return Step::End;
+        }
+        let left = n - at;
+        if left < HEAD {
+            return Step::Broken(at);
+        }
         let span = number::word32_in(part, at);
         if span < HEAD {
-            return marked(part, at, span);
+            return Step::Broken(at);
         }
         if left < span {
             return Step::Broken(at);
         }
-        found(part, at, Form::Plain, HEAD, span)
+        Step::Found(
+            BoxAt {
+                at,
+                form: Form::Plain,
+                head: HEAD,
+                span,
+                code: number::word32_in(part, at + 4),
+            },
+            Walk { at: at + span },
+        )
     }
 }
 

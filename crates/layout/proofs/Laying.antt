@@ -9,11 +9,11 @@ use Rattle.boxes.specs.Boxes.{boxes}
 use Rattle.boxes.specs.Seek.{count, find, startIn}
 use Rattle.boxes.proofs.Numbered.{nth-there, found-short}
 use Rattle.movie.specs.Ways.{follow, startAlong}
-use Rattle.movie.specs.Movie.{mdia, minf}
+use Rattle.movie.specs.Movie.{mdia as mdiaOf, minf as minfOf}
 use Rattle.layout.specs.declared.gather.Slot.{Slot}
 use Rattle.layout.specs.declared.gather.Five.{Five}
 use Rattle.layout.specs.declared.track.Track.{Track}
-use Rattle.layout.specs.Slots.{slotIn, firstWith, Stands, Gathered, Alone, Both}
+use Rattle.layout.specs.Slots.{slotIn, firstWith, Stands, Gathered, Alone}
 use Rattle.layout.specs.Track.{At, Has, Shaped, Laid, StsdPlaced}
 use Rattle.layout.proofs.Shaped.{trak-shape, mdia-shape, minf-shape, dinf-shape, stbl-shape, gathered-has}
 
@@ -27,93 +27,114 @@ place-in {zs = zs} {o} c k e h =
     let n = nth-there c 0 (boxes zs) (λ q. let l = ap length q in omega arith) in
     k .place (omega (arith, k .counted, ap (λ (l : List ℕ). count c (boxes l)) e)) ∙ ap (λ (l : List ℕ). o .from + startIn c 0 (boxes l)) e
 
+-- the boxes of a track, each found in the one before it
+pub record Standing (xs : List ℕ) (trak mdia minf dinf stbl : Slot) (t : Track) : Type 0 where
+  pub in-trak : Stands xs trak (firstWith MDIA) mdia
+  pub in-mdia : Stands xs mdia (firstWith MINF) minf
+  pub left : Stands xs minf (firstWith DINF) dinf
+  pub right : Stands xs minf (firstWith STBL) stbl
+  pub tkhd : Stands xs trak (firstWith TKHD) (t .tkhd)
+  pub mdhd : Stands xs mdia (firstWith MDHD) (t .mdhd)
+  pub hdlr : Stands xs mdia (firstWith HDLR) (t .hdlr)
+  pub dref : Stands xs dinf (firstWith DREF) (t .dref)
+  pub stsd : Stands xs stbl (firstWith STSD) (t .stsd)
+  pub stts : Stands xs stbl (firstWith STTS) (t .stts)
+  pub stsc : Stands xs stbl (firstWith STSC) (t .stsc)
+  pub stsz : Stands xs stbl (firstWith STSZ) (t .stsz)
+  pub stco : Stands xs stbl (firstWith STCO) (t .stco)
+
+module _ {xs : List ℕ} {trak mdia minf dinf stbl : Slot} {t : Track} (g : Standing xs trak mdia minf dinf stbl t) where
+  abbrev b : List ℕ
+  b = slotIn xs trak
+
+  pub mdia-is : slotIn xs mdia ≡ find MDIA (boxes b)
+  mdia-is = g .in-trak .is
+
+  pub minf-is : slotIn xs minf ≡ find MINF (mdiaOf b)
+  minf-is = at-in (g .in-mdia) mdia-is .is
+
+  pub dinf-is : slotIn xs dinf ≡ find DINF (minfOf b)
+  dinf-is = at-in (g .left) minf-is .is
+
+  pub stbl-is : slotIn xs stbl ≡ find STBL (minfOf b)
+  stbl-is = at-in (g .right) minf-is .is
+
+  pub laid : ((t .shaped ≡ 0 → ⊥) → Shaped b) → Laid xs b t
+  unfolding follow
+  laid h =
+      record {
+        shaped = h;
+        tkhd = at-in (g .tkhd) refl;
+        mdhd = at-in (g .mdhd) mdia-is;
+        hdlr = at-in (g .hdlr) mdia-is;
+        dref = at-in (g .dref) dinf-is;
+        stsd = at-in (g .stsd) stbl-is;
+        stts = at-in (g .stts) stbl-is;
+        stsc = at-in (g .stsc) stbl-is;
+        stsz = at-in (g .stsz) stbl-is;
+        stco = at-in (g .stco) stbl-is;
+      }
+
+  pub listed : StsdPlaced xs trak t
+  unfolding follow startAlong
+  listed =
+      record {
+        place = λ h.
+            let in-stbl = found-short STSD 0 (find STBL (minfOf b)) refl in
+            let in-minf = found-short STBL 0 (find MINF (mdiaOf b)) refl in
+            let in-mdia = found-short MINF 0 (find MDIA (boxes b)) refl in
+            omega (
+              arith,
+              place-in MDIA (g .in-trak) refl (omega arith),
+              place-in MINF (g .in-mdia) mdia-is (omega arith),
+              place-in STBL (g .right) minf-is (omega arith),
+              place-in STSD (g .stsd) stbl-is h,
+            );
+      }
+
+-- ---- by one walk over each of five containers
+
 module _ {xs : List ℕ} {trak : Slot} {t m i d s : Five}
     (gt : Gathered xs trak (firstWith TKHD) (firstWith MDIA) (firstWith MDIA) (firstWith MDIA) (firstWith MDIA) t)
     (gm : Gathered xs (t .b) (firstWith MDHD) (firstWith HDLR) (firstWith MINF) (firstWith MINF) (firstWith MINF) m)
     (gi : Gathered xs (m .c) (firstWith DINF) (firstWith STBL) (firstWith STBL) (firstWith STBL) (firstWith STBL) i)
-    (gd : Gathered xs (i .a) (firstWith DREF) (firstWith DREF) (firstWith DREF) (firstWith DREF) (firstWith DREF) d)
-    (gs : Gathered xs (i .b) (firstWith STSD) (firstWith STTS) (firstWith STSC) (firstWith STSZ) (firstWith STCO) s) where
-  abbrev b : List ℕ
-  b = slotIn xs trak
+    (gs : Gathered xs (i .b) (firstWith STSD) (firstWith STTS) (firstWith STSC) (firstWith STSZ) (firstWith STCO) s)
+    (gd : Gathered xs (i .a) (firstWith DREF) (firstWith DREF) (firstWith DREF) (firstWith DREF) (firstWith DREF) d) where
+  abbrev gathered : ℕ → Track
+  gathered q = record { shaped = q; tkhd = t .a; mdhd = m .a; hdlr = m .b; dref = d .a; stsd = s .a; stts = s .b; stsc = s .c; stsz = s .d; stco = s .e }
 
-  mdia-is : slotIn xs (t .b) ≡ find MDIA (boxes b)
-  mdia-is = gt .second .is
-
-  minf-is : slotIn xs (m .c) ≡ find MINF (mdia b)
-  minf-is = at-in (gm .third) mdia-is .is
-
-  dinf-is : slotIn xs (i .a) ≡ find DINF (minf b)
-  dinf-is = at-in (gi .first) minf-is .is
-
-  stbl-is : slotIn xs (i .b) ≡ find STBL (minf b)
-  stbl-is = at-in (gi .second) minf-is .is
-
-  module _ {r₁ r₂ r₃ r₄ r₅ u v w q : ℕ} (ot : Alone r₁ t) (om : Alone r₂ m) (oi : Alone r₃ i) (od : Alone r₄ d) (os : Alone r₅ s)
-      (bu : Both r₁ r₂ u) (bw : Both r₄ r₅ w) (bv : Both r₃ w v) (bq : Both u v q) where
-    track-shaped : (q ≡ 0 → ⊥) → Shaped b
-    track-shaped z =
-        let y = bq .first z in
-        let x = bq .second z in
-        record {
-          trak = gathered-has gt ot (bu .first y) TRAK (λ a b c d e. trak-shape _ a b);
-          mdia = subst (Has MDIA) mdia-is (gathered-has gm om (bu .second y) MDIA (λ a b c d e. mdia-shape _ a b c));
-          minf = subst (Has MINF) minf-is (gathered-has gi oi (bv .first x) MINF (λ a b c d e. minf-shape _ a b));
-          dinf = subst (Has DINF) dinf-is (gathered-has gd od (bw .first (bv .second x)) DINF (λ a b c d e. dinf-shape _ a));
-          stbl = subst (Has STBL) stbl-is (gathered-has gs os (bw .second (bv .second x)) STBL (λ a b c d e. stbl-shape _ a b c d e));
-        }
-
-    pub laid : Laid xs b (record {
-      shaped = q;
-      tkhd = t .a;
-      mdhd = m .a;
-      hdlr = m .b;
-      dref = d .a;
-      stsd = s .a;
-      stts = s .b;
-      stsc = s .c;
-      stsz = s .d;
-      stco = s .e;
-    })
-    unfolding follow
-    laid =
-        record {
-          shaped = track-shaped;
-          tkhd = at-in (gt .first) refl;
-          mdhd = at-in (gm .first) mdia-is;
-          hdlr = at-in (gm .second) mdia-is;
-          dref = at-in (gd .first) dinf-is;
-          stsd = at-in (gs .first) stbl-is;
-          stts = at-in (gs .second) stbl-is;
-          stsc = at-in (gs .third) stbl-is;
-          stsz = at-in (gs .fourth) stbl-is;
-          stco = at-in (gs .fifth) stbl-is;
-        }
-
-  pub listed : (q : ℕ) → StsdPlaced xs trak (record {
-    shaped = q;
-    tkhd = t .a;
-    mdhd = m .a;
-    hdlr = m .b;
-    dref = d .a;
-    stsd = s .a;
-    stts = s .b;
-    stsc = s .c;
-    stsz = s .d;
-    stco = s .e;
-  })
-  unfolding follow startAlong
-  listed q =
+  standing : (q : ℕ) → Standing xs trak (t .b) (m .c) (i .a) (i .b) (gathered q)
+  standing q =
       record {
-        place = λ h.
-            let stbl = found-short STSD 0 (find STBL (minf b)) refl in
-            let in-minf = found-short STBL 0 (find MINF (mdia b)) refl in
-            let in-mdia = found-short MINF 0 (find MDIA (boxes b)) refl in
-            omega (
-              arith,
-              place-in MDIA (gt .second) refl (omega arith),
-              place-in MINF (gm .third) mdia-is (omega arith),
-              place-in STBL
-                  (gi .second) minf-is (omega arith),
-              place-in STSD (gs .first) stbl-is h,
-            );
+        in-trak = gt .second;
+        in-mdia = gm .third;
+        left = gi .first;
+        right = gi .second;
+        tkhd = gt .first;
+        mdhd = gm .first;
+        hdlr = gm .second;
+        dref = gd .first;
+        stsd = gs .first;
+        stts = gs .second;
+        stsc = gs .third;
+        stsz = gs .fourth;
+        stco = gs .fifth;
       }
+
+  pub all-laid : {r₁ r₂ r₃ r₄ r₅ : ℕ} → Alone r₁ t → Alone r₂ m → Alone r₃ i → Alone r₄ s → Alone r₅ d
+      → (r₁ ≡ 0 → ⊥) → (r₂ ≡ 0 → ⊥) → (r₃ ≡ 0 → ⊥) → (r₄ ≡ 0 → ⊥) → (r₅ ≡ 0 → ⊥) → Laid xs (slotIn xs trak) (gathered r₅) × StsdPlaced xs trak (gathered r₅)
+  all-laid {r₅ = r₅} ot om oi os od zt zm zi zs zd =
+      let g = standing r₅ in (
+        laid g (λ z. record {
+          trak = gathered-has gt ot zt TRAK (λ a b c d e. trak-shape _ a b);
+          mdia = subst (Has MDIA) (mdia-is g) (gathered-has gm om zm MDIA (λ a b c d e. mdia-shape _ a b c));
+          minf = subst (Has MINF) (minf-is g) (gathered-has gi oi zi MINF (λ a b c d e. minf-shape _ a b));
+          dinf = subst (Has DINF) (dinf-is g) (gathered-has gd od zd DINF (λ a b c d e. dinf-shape _ a));
+          stbl = subst (Has STBL) (stbl-is g) (gathered-has gs os zs STBL (λ a b c d e. stbl-shape _ a b c d e));
+        }),
+        listed g,
+      )
+
+-- a container that stands alone was walked to its end
+pub alone-tiled : {r : ℕ} {g : Five} → Alone r g → (r ≡ 0 → ⊥) → g .tiled ≡ 0 → ⊥
+alone-tiled o z e = omega (arith, o .tiled z)

@@ -17,7 +17,7 @@ use Rattle.rule_shape.specs.Three.{first}
 use Rattle.layout.specs.declared.gather.Slot.{Slot}
 use Rattle.layout.specs.declared.gather.Five.{Five}
 use Rattle.layout.specs.declared.tracks.Movie.{Movie}
-use Rattle.layout.specs.Slots.{slotIn, firstWith, Stands, Gathered, Both}
+use Rattle.layout.specs.Slots.{slotIn, firstWith, Stands, Gathered}
 use Rattle.layout.specs.Track.{At, Has}
 use Rattle.layout.specs.Tracks.{wholeOf, wanted, trackSlot, Paired, Peopled, Framed, LaidOut, Spread}
 use Rattle.layout.proofs.Shaped.{none-open, file-shut, moov-shape, file-shape, one-of}
@@ -40,16 +40,17 @@ module _ {xs : List ℕ} {s : Slot} (e : s ≡ wholeOf xs) {f m : Five} (gf : Ga
   unfolding track
   track-at {i} k = record { lies = k .lies; is = k .is ∙ ap (λ (ys : List ℕ). nth TRAK i (boxes ys)) (moov-at .is) }
 
-  module _ {r q u v w : ℕ} (lf : r ≡ oneIf (isEq (first (boxes xs)) FTYP)) (of : Paired q f) (bu : Both r q u) (pm : Peopled v m) (bw : Both u v w) where
+  module _ {r q v w : ℕ} (lf : r ≡ oneIf (isEq (first (boxes xs)) FTYP)) (of : Paired q f) (pm : Peopled v m) (zr : (w ≡ 0 → ⊥) → r ≡ 0 → ⊥)
+      (zq : (w ≡ 0 → ⊥) → q ≡ 0 → ⊥) (zv : (w ≡ 0 → ⊥) → v ≡ 0 → ⊥) where
     framed : (w ≡ 0 → ⊥) → Framed xs
     framed z =
-        let y = bw .first z in
-        let x = bw .second z in
+        let y = zq z in
+        let x = zv z in
         record {
           file = subst (Has FILE) (all-is e) (record {
-            two = gf .tiled (of .tiled (bu .second y));
+            two = gf .tiled (of .tiled y);
             shut = file-shut _;
-            three = file-shape _ (one-of (gf .first) (of .first (bu .second y))) (one-of (gf .second) (of .second (bu .second y))) (rw (all-is e) (eq-is _ _ (was-yea _ _ (bu .first y) lf)));
+            three = file-shape _ (one-of (gf .first) (of .first y)) (one-of (gf .second) (of .second y)) (rw (all-is e) (eq-is _ _ (was-yea _ _ (zr z) lf)));
           });
           moov = subst (Has MOOV) (moov-at .is) (record {
             two = gm .tiled (λ q. omega (arith, pm .tiled x));

@@ -1,5 +1,6 @@
 pub mod Slots
 pub mod Noting
+pub mod Gathering
 pub mod Shaped
 pub mod Laying
 pub mod Few

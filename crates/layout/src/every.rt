@@ -69,14 +69,14 @@ fn track_at(file: &[u8], n: usize, trak: Slot, t: usize) -> ReadTrack
     if n <= t {
         return blank();
     }
-    told(file, track::lay(file, trak))
+    told(file, track::found(file, trak))
 }
 
 // Those of a file.
 pub fn lay(file: &[u8]) -> Tracks
     ensures { λ r. ⌜ TracksAt (now (file .entry)) r ⌝ }
 {
-    let m = tracks::lay(file);
+    let m = tracks::found(file);
     let n = m.tracks;
     let one = m.one;
     let two = m.two;

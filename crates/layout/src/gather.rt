@@ -1,4 +1,4 @@
-// What a walk over the boxes of a container fills, and one for five codes.
+// What a walk over the boxes of a container fills, and one over boxes of any form.
 use boxes::walk;
 use boxes::walk::BoxAt;
 use boxes::walk::Step;
@@ -42,6 +42,13 @@ pub fn none() -> Slot
         from: 0,
         to: 0,
     }
+}
+
+// The first box of a code.
+pub fn first(code: usize) -> Want
+    ensures { λ r. ⌜ r ≡ firstWith code ⌝ }
+{
+    Want { code, nth: 0 }
 }
 
 // The bytes of a slot.
@@ -95,10 +102,10 @@ pub fn ending(endless: usize) -> usize
     2
 }
 
-// What a container, which is a slot of the file, has of five codes, and the first box of each.
-pub fn firsts(file: &[u8], whole: Slot, a: usize, b: usize, c: usize, d: usize, e: usize) -> Five
-    requires { ⌜ Lies (now file) whole × (0 < a) × (0 < b) × (0 < c) × (0 < d) × (0 < e) ⌝ }
-    ensures { λ r. ⌜ Gathered (now (file .entry)) whole (firstWith a) (firstWith b) (firstWith c) (firstWith d) (firstWith e) r ⌝ }
+// What a container, which is a slot of the file, has of five wanted boxes.
+pub fn wanted(file: &[u8], whole: Slot, a: Want, b: Want, c: Want, d: Want, e: Want) -> Five
+    requires { ⌜ Lies (now file) whole × (0 < a .code) × (0 < b .code) × (0 < c .code) × (0 < d .code) × (0 < e .code) ⌝ }
+    ensures { λ r. ⌜ Gathered (now (file .entry)) whole a b c d e r ⌝ }
 {
     let part = bytes(file, whole);
     let none = none();
@@ -112,11 +119,11 @@ pub fn firsts(file: &[u8], whole: Slot, a: usize, b: usize, c: usize, d: usize, 
     loop {
         match w.step(part) {
             Step::Found(x, next) => {
-                i = note(i, Want { code: a, nth: 0 }, x, whole.from);
-                j = note(j, Want { code: b, nth: 0 }, x, whole.from);
-                k = note(k, Want { code: c, nth: 0 }, x, whole.from);
-                l = note(l, Want { code: d, nth: 0 }, x, whole.from);
-                m = note(m, Want { code: e, nth: 0 }, x, whole.from);
+                i = note(i, a, x, whole.from);
+                j = note(j, b, x, whole.from);
+                k = note(k, c, x, whole.from);
+                l = note(l, d, x, whole.from);
+                m = note(m, e, x, whole.from);
                 endless = opened(endless, x);
                 w = next;
             }

@@ -1,4 +1,4 @@
-// One walk over the boxes of a `moov`, for its first four tracks.
+// One walk over the plain boxes of a `moov`, for its first four tracks.
 use crate::gather;
 use crate::gather::Five;
 use crate::gather::Slot;
@@ -106,7 +106,7 @@ fn found(i: Slot, f: Four, tiled: usize) -> Five
 // The first box of a code in a `moov`, and its first four tracks, which have one count.
 pub fn with_tracks(file: &[u8], moov: Slot, code: usize) -> Five
     requires { ⌜ Lies (now file) moov × (0 < code) ⌝ }
-    ensures { λ r. ⌜ Gathered (now (file .entry)) moov (firstWith code) (wanted 0) (wanted 1) (wanted 2) (wanted 3) r ⌝ }
+    ensures { λ r. ⌜ ((r .tiled ≡ 0 → ⊥) → Gathered (now (file .entry)) moov (firstWith code) (wanted 0) (wanted 1) (wanted 2) (wanted 3) r) ⌝ }
 {
     let part = gather::bytes(file, moov);
     let nowhere = Ends { from: 0, to: 0 };
@@ -118,18 +118,16 @@ pub fn with_tracks(file: &[u8], moov: Slot, code: usize) -> Five
         three: nowhere,
         four: nowhere,
     };
-    let mut endless = 0;
     let mut w = Walk { at: 0 };
     loop {
-        match w.step(part) {
+        match w.plain_step(part) {
             Step::Found(x, next) => {
                 i = gather::note(i, Want { code, nth: 0 }, x, moov.from);
                 f = more(f, x, moov.from);
-                endless = gather::opened(endless, x);
                 w = next;
             }
             Step::End => {
-                return found(i, f, gather::ending(endless));
+                return found(i, f, 1);
             }
             Step::Broken(_) => {
                 return found(i, f, 0);

@@ -1,18 +1,19 @@
 // Where the tracks of a file stand, by one walk over its boxes and one over those of `moov`.
-use crate::fewer;
 use crate::gather;
 use crate::gather::Five;
 use crate::gather::Slot;
+use crate::gather::Want;
 use crate::moov;
+use crate::plain;
 ghost use mathlib.Core.Path.{_≡_};
 ghost use Rattle.wire.specs.Clauses.{isEq, oneIf};
 ghost use Rattle.codes.specs.Codes.{FTYP};
 ghost use Rattle.boxes.specs.Boxes.{boxes};
 ghost use Rattle.rule_shape.specs.Three.{first};
 ghost use Rattle.layout.specs.Slots.{Lies};
-ghost use Rattle.layout.specs.Tracks.{wholeOf, trackSlot, Paired, Peopled, LaidOut, Spread};
+ghost use Rattle.layout.specs.Tracks.{wholeOf, wanted, trackSlot, Paired, Peopled, LaidOut, Spread};
 
-// The boxes that rule 3 names, the first `mdat`, the first four tracks, how many there are, and whether all is as rules 2 and 3 want it: 1 or 0.
+// The boxes that rule 3 names, the first `mdat`, the first four tracks, how many there are, and whether all is as rules 2 and 3 want it: 1, or another number.
 pub struct Movie {
     pub shaped: usize,
     pub tracks: usize,
@@ -82,13 +83,96 @@ fn led(file: &[u8]) -> usize
     1
 }
 
-// Those of a file.
-pub fn lay(file: &[u8]) -> Movie
-    ensures { λ r. ⌜ LaidOut (now (file .entry)) r × Spread (now (file .entry)) r ⌝ }
+// A file of which nothing is said; with 2 others may say more.
+fn unlaid(shaped: usize) -> Movie
+    ensures { λ r. ⌜ r .shaped ≡ shaped ⌝ }
 {
-    let f = fewer::three(file, whole(file), codes::FTYP, codes::MOOV, codes::MDAT);
+    let none = gather::none();
+    Movie {
+        shaped,
+        tracks: 0,
+        ftyp: none,
+        moov: none,
+        mdat: none,
+        mvhd: none,
+        one: none,
+        two: none,
+        three: none,
+        four: none,
+    }
+}
+
+// Those of a file where all is as rules 2 and 3 want it and plain. 2 says that a walk stopped at a box that isn't.
+pub fn lay(file: &[u8]) -> Movie
+    ensures { λ r. ⌜ (r .shaped ≡ 1 → LaidOut (now (file .entry)) r × Spread (now (file .entry)) r) ⌝ }
+{
+    let f = plain::three(file, whole(file), codes::FTYP, codes::MOOV, codes::MDAT);
+    if f.tiled == 0 {
+        return unlaid(2);
+    }
+    if paired(f) == 0 {
+        return unlaid(0);
+    }
     let moov = f.b;
     let m = moov::with_tracks(file, moov, codes::MVHD);
+    if m.tiled == 0 {
+        return unlaid(2);
+    }
+    let ftyp = f.a;
+    let mdat = f.c;
+    let mvhd = m.a;
+    let one = m.b;
+    let two = m.c;
+    let three = m.d;
+    let four = m.e;
+    Movie {
+        shaped: gather::both(led(file), peopled(m)),
+        tracks: m.b.n,
+        ftyp,
+        moov,
+        mdat,
+        mvhd,
+        one,
+        two,
+        three,
+        four,
+    }
+}
+
+// Track i of a `moov`, from 0.
+fn nth(i: usize) -> Want
+    ensures { λ r. ⌜ r ≡ wanted i ⌝ }
+{
+    Want {
+        code: codes::TRAK,
+        nth: i,
+    }
+}
+
+// Those of any file.
+pub fn any(file: &[u8]) -> Movie
+    ensures { λ r. ⌜ LaidOut (now (file .entry)) r × Spread (now (file .entry)) r ⌝ }
+{
+    let last = gather::first(codes::MDAT);
+    let f = gather::wanted(
+        file,
+        whole(file),
+        gather::first(codes::FTYP),
+        gather::first(codes::MOOV),
+        last,
+        last,
+        last,
+    );
+    let moov = f.b;
+    let m = gather::wanted(
+        file,
+        moov,
+        gather::first(codes::MVHD),
+        nth(0),
+        nth(1),
+        nth(2),
+        nth(3),
+    );
     let ftyp = f.a;
     let mdat = f.c;
     let mvhd = m.a;
@@ -109,6 +193,17 @@ pub fn lay(file: &[u8]) -> Movie
         three,
         four,
     }
+}
+
+// The same, by plain boxes where they are.
+pub fn found(file: &[u8]) -> Movie
+    ensures { λ r. ⌜ LaidOut (now (file .entry)) r × Spread (now (file .entry)) r ⌝ }
+{
+    let m = lay(file);
+    if m.shaped == 1 {
+        return m;
+    }
+    any(file)
 }
 
 // The slot of track i, from 0.

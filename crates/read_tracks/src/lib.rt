@@ -136,11 +136,11 @@ fn offsets_in(file: &[u8], track: usize, list: &mut [u32]) -> Answer
     requires { ⌜ Meets (now file) ⌝ }
     ensures { λ r. ⌜ Exact (asked ((20, isTrack (now (file .entry)) track) ∷ []) (gives (offsetsOf (trackBody (now (file .entry)) track)))) (now (list .entry)) r (now (list .exit)) ⌝ }
 {
-    let m = tracks::lay(file);
+    let m = tracks::found(file);
     if is_track(file, m.tracks, track) == 0 {
         return Answer::Refused(20, 0);
     }
-    let k = track::lay(file, tracks::track_slot(m, track - 1));
+    let k = track::found(file, tracks::track_slot(m, track - 1));
     let slot = k.stco;
     let stco = gather::bytes(file, slot);
     if list.len() < sample_tables::table::items(stco) {

@@ -49,7 +49,6 @@ pub no-answer : (xs : List ℕ) (t : Track) → AllFine xs t 2
 no-answer xs t =
     record {
       most = omega arith;
-      shaped = λ h. absurd (omega arith);
       heads = λ h. absurd (omega arith);
       lists = λ h. absurd (omega arith);
       forms = λ h. absurd (omega arith);
@@ -57,6 +56,6 @@ no-answer xs t =
       entries = λ h. absurd (omega arith);
     }
 
-pub all-answer : (xs : List ℕ) (t : Track) (r : ℕ) → r ≤ 11 → (t .shaped ≡ 0 → ⊥) → headsFine xs t ≡ true → listsFine xs t ≡ true → formsFine xs t ≡ true
+pub all-answer : (xs : List ℕ) (t : Track) (r : ℕ) → r ≤ 11 → headsFine xs t ≡ true → listsFine xs t ≡ true → formsFine xs t ≡ true
     → tablesFine (boxes xs) xs t ≡ true → (11 ≤ r → entriesFine (aroundIn xs t) (drop FRONT (slotIn xs (t .stsd))) ≡ true) → AllFine xs t r
-all-answer xs t r m a b c d e f = record { most = m; shaped = λ h. a; heads = λ h. b; lists = λ h. c; forms = λ h. d; tables = λ h. e; entries = f }
+all-answer xs t r m b c d e f = record { most = m; heads = λ h. b; lists = λ h. c; forms = λ h. d; tables = λ h. e; entries = f }

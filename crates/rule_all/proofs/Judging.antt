@@ -1,6 +1,6 @@
 -- A track meets all rules where the tests of its boxes, by where they stand, all hold. Assumes nothing.
 use Prim.Native.Nat.{ℕ, _≤_}
-use mathlib.Core.Path.{_∙_}
+use mathlib.Core.Path.{_≡_, _∙_}
 use mathlib.Core.List.{List}
 use Rattle.wire.proofs.Clauses.{clause}
 use Rattle.boxes.specs.Boxes.{boxes}
@@ -28,11 +28,11 @@ module _ {xs b : List ℕ} {t : Track} (h : Laid xs b t) where
         stco = h .stco .lies;
       }
 
-  module _ {r : ℕ} (f : AllFine xs t r) where
+  module _ (n : t .shaped ≡ 0 → ⊥) {r : ℕ} (f : AllFine xs t r) where
     pub good : 10 ≤ r → Good (boxes xs) b
     unfolding headsFine listsFine formsFine tablesFine follow
     good z =
-        let s = h .shaped (f .shaped z) in
+        let s = h .shaped n in
         let head = f .heads z in
         let list = f .lists z in
         let table = f .forms z in
@@ -51,7 +51,7 @@ module _ {xs b : List ℕ} {t : Track} (h : Laid xs b t) where
     unfolding aroundOf scale handler references
     listed z = rw (h .mdhd .is, h .hdlr .is, h .dref .is, h .stsd .is) at (f .entries z)
 
-  pub judged : {r : TrackSays} → SaysOf xs t r → Judged (boxes xs) b r
-  judged s =
+  pub judged : (t .shaped ≡ 0 → ⊥) → {r : TrackSays} → SaysOf xs t r → Judged (boxes xs) b r
+  judged n s =
       let f = s .fine in
-      record { most = f .most; good = good f; listed = listed f; identity = s .identity ∙ rw (h .tkhd .is); entries = s .entries ∙ rw (h .stsd .is) }
+      record { most = f .most; good = good n f; listed = listed n f; identity = s .identity ∙ rw (h .tkhd .is); entries = s .entries ∙ rw (h .stsd .is) }

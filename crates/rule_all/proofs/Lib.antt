@@ -4,6 +4,7 @@ pub mod Within
 pub mod Containers
 pub mod Whole
 pub mod Entries
+pub mod Framing
 pub mod Judging
 pub mod Answers
 pub mod Hint

@@ -30,8 +30,8 @@ module _ {xs : List ℕ} {m : Movie} (l : LaidOut xs m) {i : ℕ} (h : i < 4) {s
   track-lies = rw e (slot-at l i h .lies)
 
   module _ (n : i < tracks xs) {k : Track} (a : Laid xs (slotIn xs s) k) where
-    pub step : tracks xs ≤ 4 → {p : SoFar} → Run xs i p → {t : TrackSays} → SaysOf xs k t → {r : SoFar} → Joined p i t r → 10 ≤ r .sure → Run xs (i + 1) r
-    step four g u j q = run-more g n four (rw (e, slot-at l i h .is) at (judged a u)) j q
+    pub step : (k .shaped ≡ 0 → ⊥) → tracks xs ≤ 4 → {p : SoFar} → Run xs i p → {t : TrackSays} → SaysOf xs k t → {r : SoFar} → Joined p i t r → 10 ≤ r .sure → Run xs (i + 1) r
+    step z four g u j q = run-more g n four (rw (e, slot-at l i h .is) at (judged a z u)) j q
 
     pub step-told : Spread xs m → StsdPlaced xs s k → {v : ReadTrack} → v ≡ toldIn xs k → TrackAt xs i v
     step-told w b q = rw q (track-read (trak-at l w i h) n (rw e at (told-at a b)))

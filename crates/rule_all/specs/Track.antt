@@ -65,10 +65,9 @@ tablesFine l xs t =
 abbrev pub aroundIn : List ℕ → Track → Around
 aroundIn xs t = around.Track (word 4 (slotIn xs (t .mdhd)) 12) (word 4 (slotIn xs (t .hdlr)) 8) (word 4 (slotIn xs (t .dref)) 4)
 
--- an answer of 10 or more says that it meets rules 2 to 9, one of 11 rule 10 too
+-- an answer of 10 or more says that it meets rules 4 to 9, one of 11 rule 10 too
 pub record AllFine (xs : List ℕ) (t : Track) (r : ℕ) : Type 0 where
   pub most : r ≤ 11
-  pub shaped : 10 ≤ r → t .shaped ≡ 0 → ⊥
   pub heads : 10 ≤ r → headsFine xs t ≡ true
   pub lists : 10 ≤ r → listsFine xs t ≡ true
   pub forms : 10 ≤ r → formsFine xs t ≡ true

@@ -1,8 +1,8 @@
-// Refusal 23 by one walk over each container. An answer other than 0 says that an edit takes it.
-use layout::fewer;
+// Refusal 23 by one walk over each container, those in `moov` where their boxes are plain. An answer other than 0 says that an edit takes it.
 use layout::gather;
 use layout::gather::Slot;
 use layout::moov;
+use layout::plain;
 use layout::tracks;
 ghost use Rattle.codes.specs.Codes.{MOOV, TRAK, MDIA, STBL};
 ghost use Rattle.boxes.specs.Containers.{FILE, DEPTH};
@@ -16,7 +16,10 @@ fn stbl_edits(file: &[u8], stbl: Slot) -> usize
     requires { ⌜ Lies (now file) stbl ⌝ }
     ensures { λ r. ⌜ Sure r (allIn editableRule 1 STBL (slotIn (now (file .entry)) stbl)) ⌝ }
 {
-    let g = fewer::two(file, stbl, codes::CO64, codes::SAIO);
+    let g = plain::two(file, stbl, codes::CO64, codes::SAIO);
+    if g.tiled == 0 {
+        return 0;
+    }
     if g.a.n != 0 {
         return 0;
     }
@@ -31,11 +34,17 @@ fn mdia_edits(file: &[u8], mdia: Slot) -> usize
     requires { ⌜ Lies (now file) mdia ⌝ }
     ensures { λ r. ⌜ Sure r (allIn editableRule 3 MDIA (slotIn (now (file .entry)) mdia)) ⌝ }
 {
-    let g = fewer::one(file, mdia, codes::MINF);
+    let g = plain::one(file, mdia, codes::MINF);
+    if g.tiled == 0 {
+        return 0;
+    }
     if 1 < g.a.n {
         return 0;
     }
-    let h = fewer::one(file, g.a, codes::STBL);
+    let h = plain::one(file, g.a, codes::STBL);
+    if h.tiled == 0 {
+        return 0;
+    }
     if 1 < h.a.n {
         return 0;
     }
@@ -47,7 +56,10 @@ fn trak_edits(file: &[u8], trak: Slot) -> usize
     requires { ⌜ Lies (now file) trak ⌝ }
     ensures { λ r. ⌜ Sure r (allIn editableRule 4 TRAK (slotIn (now (file .entry)) trak)) ⌝ }
 {
-    let g = fewer::two(file, trak, codes::MDIA, codes::META);
+    let g = plain::two(file, trak, codes::MDIA, codes::META);
+    if g.tiled == 0 {
+        return 0;
+    }
     if g.b.n != 0 {
         return 0;
     }
@@ -66,6 +78,9 @@ fn moov_edits(file: &[u8], moov: Slot) -> usize
     ensures { λ r. ⌜ Sure r (allIn editableRule 5 MOOV (slotIn (now (file .entry)) moov)) ⌝ }
 {
     let g = moov::with_tracks(file, moov, codes::META);
+    if g.tiled == 0 {
+        return 0;
+    }
     if g.a.n != 0 {
         return 0;
     }
@@ -88,14 +103,14 @@ fn moov_edits(file: &[u8], moov: Slot) -> usize
 pub fn edits_hold(file: &[u8]) -> usize
     ensures { λ r. ⌜ Sure r (allIn editableRule DEPTH FILE (now (file .entry))) ⌝ }
 {
-    let g = gather::firsts(
+    let g = gather::wanted(
         file,
         tracks::whole(file),
-        codes::MOOV,
-        codes::MOOF,
-        codes::MFRA,
-        codes::SIDX,
-        codes::META,
+        gather::first(codes::MOOV),
+        gather::first(codes::MOOF),
+        gather::first(codes::MFRA),
+        gather::first(codes::SIDX),
+        gather::first(codes::META),
     );
     if 1 < g.a.n {
         return 0;

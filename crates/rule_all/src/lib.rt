@@ -143,6 +143,9 @@ fn tracks_fine(file: &[u8], m: Movie) -> usize
     };
     while i < n {
         let k = layout::track::lay(file, tracks::track_slot(m, i));
+        if k.shaped == 0 {
+            return 2;
+        }
         p = joined(p, i, track::judge(file, k, m.mdat));
         if p.sure < 10 {
             return 2;
@@ -169,6 +172,9 @@ fn tracks_told(file: &[u8], m: Movie) -> SureTracks
     let mut found = every::blanks(n);
     while i < n {
         let k = layout::track::lay(file, tracks::track_slot(m, i));
+        if k.shaped == 0 {
+            return doubted();
+        }
         p = joined(p, i, track::judge(file, k, m.mdat));
         if p.sure < 10 {
             return doubted();
@@ -182,13 +188,12 @@ fn tracks_told(file: &[u8], m: Movie) -> SureTracks
     }
 }
 
-// A number of 2, 10 or 11: the rules from 2 on and before it hold of a file.
-pub fn sure_before(file: &[u8]) -> usize
-    requires { ⌜ length (now file) ≤ LONGEST ⌝ }
+// By where the boxes of a file stand: a number of 2, 10 or 11; the rules from 2 on and before it hold.
+fn sure_by(file: &[u8], m: Movie) -> usize
+    requires { ⌜ (m .shaped ≡ 1 → LaidOut (now file) m × Spread (now file) m) × (length (now file) ≤ LONGEST) ⌝ }
     ensures { λ r. ⌜ SureBefore (now (file .entry)) r ⌝ }
 {
-    let m = tracks::lay(file);
-    if m.shaped == 0 {
+    if m.shaped != 1 {
         return 2;
     }
     if heads_fine(file, m) == 0 {
@@ -197,17 +202,40 @@ pub fn sure_before(file: &[u8]) -> usize
     tracks_fine(file, m)
 }
 
-// The same, and where it is 10 or 11 what the tracks say.
-pub fn sure_tracks(file: &[u8]) -> SureTracks
+// The same of a file, whose boxes are taken for plain ones first.
+pub fn sure_before(file: &[u8]) -> usize
     requires { ⌜ length (now file) ≤ LONGEST ⌝ }
-    ensures { λ r. ⌜ SureBefore (now (file .entry)) (r .sure) × TracksTold (now (file .entry)) r ⌝ }
+    ensures { λ r. ⌜ SureBefore (now (file .entry)) r ⌝ }
 {
     let m = tracks::lay(file);
-    if m.shaped == 0 {
+    if m.shaped == 2 {
+        return sure_by(file, tracks::any(file));
+    }
+    sure_by(file, m)
+}
+
+// By where the boxes of a file stand, and where it is 10 or 11 what the tracks say.
+fn told_by(file: &[u8], m: Movie) -> SureTracks
+    requires { ⌜ (m .shaped ≡ 1 → LaidOut (now file) m × Spread (now file) m) × (length (now file) ≤ LONGEST) ⌝ }
+    ensures { λ r. ⌜ SureBefore (now (file .entry)) (r .sure) × TracksTold (now (file .entry)) r ⌝ }
+{
+    if m.shaped != 1 {
         return doubted();
     }
     if heads_fine(file, m) == 0 {
         return doubted();
     }
     tracks_told(file, m)
+}
+
+// The same of a file.
+pub fn sure_tracks(file: &[u8]) -> SureTracks
+    requires { ⌜ length (now file) ≤ LONGEST ⌝ }
+    ensures { λ r. ⌜ SureBefore (now (file .entry)) (r .sure) × TracksTold (now (file .entry)) r ⌝ }
+{
+    let m = tracks::lay(file);
+    if m.shaped == 2 {
+        return told_by(file, tracks::any(file));
+    }
+    told_by(file, m)
 }

@@ -145,14 +145,11 @@ fn entries_fine(file: &[u8], t: Track) -> usize
     }
 }
 
-// 2; or 10, where it meets rules 2 to 9; or 11, where it meets rule 10 too.
+// 2; or 10, where it meets rules 4 to 9; or 11, where it meets rule 10 too.
 fn all_fine(file: &[u8], t: Track, mdat: Slot) -> usize
     requires { ⌜ Inside (now file) t × (length (now file) ≤ LONGEST) × FirstMdat (now file) mdat ⌝ }
     ensures { λ r. ⌜ AllFine (now (file .entry)) t r ⌝ }
 {
-    if t.shaped == 0 {
-        return 2;
-    }
     if heads_fine(file, t) == 0 {
         return 2;
     }

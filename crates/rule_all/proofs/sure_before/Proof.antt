@@ -1,30 +1,13 @@
--- The frame, the headers, and then the tracks.
+-- By plain boxes, and by all where one isn't.
 use borrow.Author.Needs.{needs}
-use native.Mathlib.Omega.{arith}
-use Rattle.wire.proofs.Clauses.{clause, was-yea}
-use Rattle.rule_shape.proofs.Needs.{shape-tracks}
-use Rattle.rule_all.proofs.All.{sure-before-none}
-use Rattle.rule_all.proofs.Whole.{file-nine}
-use Rattle.rule_all.proofs.Entries.{file-ten}
 use Rattle.rule_all.proofs.sure_before.Statement.{statement}
 use Rattle.rule_all.proofs.sure_before.Tie as tie
 
 pub sure-before-spec : {M : Type 1} → statement M
 sure-before-spec = tie.close (tie.spec
     (λ c κs. search needs)
-    (λ c. sure-before-none _)
-    (λ c κs. let l = c .before .before .lay .ensures .0 in
-    (l .ftyp .lies, l .mvhd .lies))
-    (λ c. sure-before-none _)
-    (λ c κs. let l = c .before .before .before .before .lay .ensures .0 in
-    (l, shape-tracks _ (l .shaped (c .before .before .if1 .left) .moov .three) .1, c .before .before .before .before .before .before .pre))
-    (λ c. let l = c .before .before .before .before .before .lay .ensures .0 in
-    let t = c .tracks-fine .ensures in
-    let h = was-yea _ _ (c .before .if2 .left) (c .before .before .heads-fine .ensures) in
-    let f = l .shaped (c .before .before .before .if1 .left) in
-    record {
-      low = t .low;
-      most = t .most;
-      nine = λ z. file-nine _ _ f (rw (l .ftyp .is) at (clause 0 _ h)) (rw (l .mvhd .is) at (clause 1 _ h)) (t .each z) (t .differ z) (t .few z);
-      ten = λ z. file-ten _ _ f (t .each (omega arith)) (t .listed z);
-    }))
+    (λ c κs. search needs)
+    (λ c κs. (λ z. c .any .ensures, c .before .before .before .before .before .pre))
+    (λ c. search needs)
+    (λ c κs. (c .before .before .lay .ensures, c .before .before .before .before .pre))
+    (λ c. search needs))

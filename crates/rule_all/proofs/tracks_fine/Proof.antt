@@ -19,19 +19,17 @@ tracks-fine-spec = tie.close (tie.spec Inv μ
     (λ c. run-none _)
     (λ c κs. search needs)
     (λ c κs. let p = c .before .before .before .before .pre in track-lies (p .0) (omega (arith, p .0 .tracks, p .1)) (c .track-slot .ensures))
-    (λ c κs. let p = c .before .before .before .before .before .pre in (inside (c .lay .ensures .0), p .2, p .0 .mdat))
-    (λ c κs. (c .before .before .before .before .loop .inv .few, c .judge .ensures .small))
     (λ c. run-broken _)
-    (λ c. omega (
-      arith,
-      c .before .before .before .before .before .before .before .loop .inv .most,
-      c .before .before .before .before .before .before .before .before .before .pre .1,
-    ))
+    (λ c κs. let p = c .before .before .before .before .before .before .before .pre in (inside (c .before .before .lay .ensures (c .if1 .left) .0), p .2, p .0 .mdat))
+    (λ c κs. (c .before .before .before .before .before .before .loop .inv .few, c .judge .ensures .small))
+    (λ c. run-broken _)
+    (λ c. omega (arith, c .before .before .before .before .before .before .before .before .before .loop .inv .most, c .before .before .before .before .before .before .before .before .before .before .before .pre .1))
     (λ c. omega arith)
-    (λ c. let p = c .before .before .before .before .before .before .before .before .before .pre in
-    let q = c .before .before .before .before .before .before .loop-test in
-    step (p .0) (omega (arith, p .0 .tracks, p .1)) (c .before .before .before .before .before .track-slot .ensures)
-    (omega (arith, p .0 .tracks)) (c .before .before .before .before .lay .ensures .0) (p .1)
-    (c .before .before .before .before .before .before .before .loop .inv)
-    (c .before .before .before .judge .ensures) (c .before .before .joined .ensures) (omega (arith, c .if1)))
+    (λ c.
+    let a = c .before .before .before .before in
+    let d = a .before .before in
+    let p = d .before .before .before .before .before .pre in
+    let q = d .before .before .loop-test in
+    step (p .0) (omega (arith, p .0 .tracks, p .1)) (d .before .track-slot .ensures) (omega (arith, p .0 .tracks)) (d .lay .ensures (a .if1 .left) .0) (a .if1 .left) (p .1)
+    (d .before .before .before .loop .inv) (c .before .before .before .judge .ensures) (c .before .before .joined .ensures) (omega (arith, c .if2)))
     (λ c. let p = c .before .before .before .pre .0 .tracks in run-end (c .before .loop .inv) (omega arith)))

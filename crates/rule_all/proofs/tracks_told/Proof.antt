@@ -21,26 +21,27 @@ tracks-told-spec = tie.close (tie.spec Inv μ
     (λ c. (run-none _, filled-none _ (c .blanks .ensures) (c .before .before .pre .0 .tracks)))
     (λ c κs. search needs)
     (λ c κs. let p = c .before .before .before .before .before .pre in track-lies (p .0) (omega (arith, p .0 .tracks, p .2)) (c .track-slot .ensures))
-    (λ c κs. let p = c .before .before .before .before .before .before .pre in (inside (c .lay .ensures .0), p .3, p .0 .mdat))
-    (λ c κs. (c .before .before .before .before .loop .inv .0 .few, c .judge .ensures .small))
     (λ c κs. search needs)
     (λ c. untold (c .doubted .ensures))
-    (λ c κs. let h = c .before .before .before .before .lay .ensures .0 in (h .hdlr .lies, h .mdhd .lies, h .tkhd .lies))
+    (λ c κs. let p = c .before .before .before .before .before .before .before .before .pre in (inside (c .before .before .lay .ensures (c .if1 .left) .0), p .3, p .0 .mdat))
+    (λ c κs. (c .before .before .before .before .before .before .loop .inv .0 .few, c .judge .ensures .small))
     (λ c κs. search needs)
-    (λ c. omega (
-      arith,
-      c .before .before .before .before .before .before .before .before .before .loop .inv .0 .most,
-      c .before .before .before .before .before .before .before .before .before .before .before .before .pre .2,
-    ))
-    (λ c. omega arith)
-    (λ c. let p = c .before .before .before .before .before .before .before .before .before .before .before .before .pre in
-    let k = c .before .before .before .before .before .before .before .before .before .loop in
-    let q = c .before .before .before .before .before .before .before .before .loop-test in
+    (λ c. untold (c .doubted2 .ensures))
+    (λ c κs. let a = c .before .before .before .before in let h = a .before .before .lay .ensures (a .if1 .left) .0 in (h .hdlr .lies, h .mdhd .lies, h .tkhd .lies))
+    (λ c κs. search needs)
+    (λ c. omega (arith, c .before .before .before .before .before .before .before .before .before .before .before .loop .inv .0 .most, c .before .before .before .before .before .before .before .before .before .before .before .before .before .before .pre .2))
+    (λ c. omega (arith, c .before .before .before .before .before .before .before .before .before .before .loop-test))
+    (λ c.
+    let a = c .before .before .before .before .before .before in
+    let d = a .before .before in
+    let p = d .before .before .before .before .before .before .pre in
+    let k = d .before .before .before .loop in
+    let q = d .before .before .loop-test in
     let h : k .i < 4 = omega (arith, p .0 .tracks, p .2) in
-    let s = c .before .before .before .before .before .before .before .track-slot .ensures in
-    let l = c .before .before .before .before .before .before .lay .ensures in (
-      step (p .0) h s (omega (arith, p .0 .tracks)) (l .0) (p .2) (k .inv .0)
-          (c .before .before .before .before .before .judge .ensures) (c .before .before .before .before .joined .ensures) (omega (arith, c .before .before .if1)),
+    let s = d .before .track-slot .ensures in
+    let l = d .lay .ensures (a .if1 .left) in (
+      step (p .0) h s (omega (arith, p .0 .tracks)) (l .0) (a .if1 .left) (p .2) (k .inv .0)
+          (c .before .before .before .before .before .judge .ensures) (c .before .before .before .before .joined .ensures) (omega (arith, c .before .before .if2)),
       filled-more (k .inv .1) (omega (arith, p .0 .tracks)) h
           (step-told (p .0) h s (omega (arith, p .0 .tracks)) (l .0) (p .1) (l .1) (c .before .told .ensures)) (c .with-track .ensures),
     ))

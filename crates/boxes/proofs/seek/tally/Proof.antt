@@ -3,10 +3,9 @@ use borrow.Author.Needs.{needs}
 use Prim.Native.Nat.{_-_}
 use lib.ListN.{length}
 use native.Mathlib.Omega.{arith}
-use Rattle.wire.proofs.Clauses.{asked-yea, asked-nay}
 use Rattle.boxes.specs.Seek.{Tallied}
-use Rattle.boxes.proofs.Walking.{ran, ended, broke}
-use Rattle.boxes.proofs.Tallying.{tallied-none, tallied-more, tallied-not, tallied-whole, tallied-torn}
+use Rattle.boxes.proofs.Walking.{plain-ran, plain-ended}
+use Rattle.boxes.proofs.Tallying.{tallied-none, tallied-more, tallied-whole, tallied-stopped}
 use Rattle.boxes.proofs.seek.tally.Statement.{statement}
 use Rattle.boxes.proofs.seek.tally.Tie as tie
 
@@ -22,17 +21,13 @@ tally-spec = tie.close (tie.spec Inv μ
     (λ c κs. search needs)
     (λ c. search needs)
     (λ c κs. search needs)
+    (λ c. let i = c .before .before .before .before .before .loop .inv .passed in omega arith)
+    (λ c. let t = c .before .before .before .before in let s = plain-ran _ _ _ _ _ (t .plain-step .ensures) (c .before .before .b .given .1) .0 in omega arith)
     (λ c.
-    let t = c .before .before .before .before .before in
-    tallied-not (t .before .loop .inv) (ran _ _ _ _ _ (t .step .ensures) (c .before .before .before .b .given .1)) (asked-nay _ (omega arith)))
-    (λ c κs. search needs)
-    (λ c. let i = c .before .before .before .before .before .before .before .loop .inv .passed in omega arith)
-    (λ c. let t = c .before .before .before .before .before .before in let s = ran _ _ _ _ _ (t .step .ensures) (c .before .before .before .before .b .given .1) in omega arith)
-    (λ c.
-    let t = c .before .before .before .before .before .before in
-    tallied-more (t .before .loop .inv) (ran _ _ _ _ _ (t .step .ensures) (c .before .before .before .before .b .given .1)) (λ i. t .before .before .shared-slice-known .given i .fits)
-    (asked-yea _ (λ e. omega arith)) (omega arith))
+    let t = c .before .before .before .before in
+    let s = plain-ran _ _ _ _ _ (t .plain-step .ensures) (c .before .before .b .given .1) in
+    tallied-more (t .before .loop .inv) (s .0) (λ i. t .before .before .shared-slice-known .given i .fits) (s .1) (omega arith))
     (λ c. search needs)
-    (λ c. let t = c .before .before in let o = ended _ _ _ (t .step .ensures) (c .enum-told .given .1) in tallied-whole (t .before .loop .inv) (o .0) (o .1))
+    (λ c. let t = c .before .before in let o = plain-ended _ _ _ (t .plain-step .ensures) (c .enum-told .given .1) in tallied-whole (t .before .loop .inv) (o .0) (o .1))
     (λ c. search needs)
-    (λ c. let t = c .before .before in let o = broke _ _ _ _ (t .step .ensures) (c .enum-told2 .given .1) in tallied-torn (t .before .loop .inv) (o .0) (o .2)))
+    (λ c. let t = c .before .before in tallied-stopped (t .before .loop .inv) _ _ (t .plain-step .ensures) (c .enum-told2 .given .1)))

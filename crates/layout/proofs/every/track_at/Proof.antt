@@ -10,6 +10,6 @@ track-at-spec = tie.close (tie.spec
     (λ c κs. search needs)
     (λ c. blank-at _ _ (c .blank .ensures) (omega arith))
     (λ c κs. c .before .before .pre .1 .at .lies)
-    (λ c κs. let l = c .lay .ensures .0 in (l .hdlr .lies, l .mdhd .lies, l .tkhd .lies))
+    (λ c κs. let l = c .found .ensures .0 in (l .hdlr .lies, l .mdhd .lies, l .tkhd .lies))
     (λ c. rw (c .told .ensures) (track-read (c .before .before .before .before .pre .1) (omega arith)
-    (told-at (c .before .lay .ensures .0) (c .before .lay .ensures .1)))))
+    (told-at (c .before .found .ensures .0) (c .before .found .ensures .1)))))

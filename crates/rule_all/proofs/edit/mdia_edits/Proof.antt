@@ -10,11 +10,13 @@ pub mdia-edits-spec : {M : Type 1} → statement M
 mdia-edits-spec = tie.close (tie.spec
     (λ c κs. search needs)
     (λ c. sure-none _)
-    (λ c κs. search needs)
     (λ c. sure-none _)
-    (λ c κs. search needs)
-    (λ c. let g = c .before .before .before .before .before .before .one .ensures in
-    let h = c .before .before .before .one2 .ensures in
+    (λ c κs. let g = c .before .before .before .before .one .ensures (c .before .before .if1 .left) in (g .first .lies, omega arith))
+    (λ c. sure-none _)
+    (λ c. sure-none _)
+    (λ c κs. let h = c .before .before .before .before .one2 .ensures (c .before .before .if3 .left) in h .first .lies)
+    (λ c. let g = c .before .before .before .before .before .before .before .before .before .before .one .ensures (c .before .before .before .before .before .before .before .before .if1 .left) in
+    let h = c .before .before .before .before .before .one2 .ensures (c .before .before .before .if3 .left) in
     let k = rw (g .first .is) at (h .first .counted) in
     record {
       holds = λ z.

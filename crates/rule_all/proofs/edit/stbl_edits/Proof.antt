@@ -11,5 +11,6 @@ stbl-edits-spec = tie.close (tie.spec
     (λ c κs. search needs)
     (λ c. sure-none _)
     (λ c. sure-none _)
-    (λ c. let g = c .before .before .before .before .two .ensures in
+    (λ c. sure-none _)
+    (λ c. let g = c .before .before .before .before .before .before .two .ensures (c .before .before .before .before .if1 .left) in
     record { holds = λ z. stbl-edits _ (omega (arith, g .first .counted)) (omega (arith, g .second .counted)) }))

@@ -1,8 +1,7 @@
--- A plain header is read here; another is left to `marked`.
+-- By what the header says.
 use borrow.Author.Needs.{needs}
 use native.Mathlib.Omega.{arith}
-use mathlib.Core.Path.{_∙_}
-use Rattle.boxes.proofs.Walking.{step-end, step-rest, plain-not, plain-found}
+use Rattle.boxes.proofs.Walking.{step-end, step-rest, step-small, step-large, step-box}
 use Rattle.boxes.proofs.walk.Walk.step.Statement.{statement}
 use Rattle.boxes.proofs.walk.Walk.step.Tie as tie
 
@@ -12,8 +11,9 @@ step-spec = tie.close (tie.spec
     (λ c. search needs)
     (λ c. step-rest _ _ (omega arith) (omega arith))
     (λ c κs. search needs)
+    (λ c. step-small _ _ (c .before .before .said .ensures) (omega arith) (omega arith))
+    (λ c. step-large _ _ (c .before .before .before .before .said .ensures) (omega arith) (omega arith))
+    (λ c. search needs)
     (λ c κs. search needs)
     (λ c. search needs)
-    (λ c. plain-not _ _ (c .before .before .word32-in .ensures .0) (omega arith) (omega arith) (λ k l. omega arith))
-    (λ c κs. search needs)
-    (λ c. c .found .ensures ∙ plain-found _ _ (c .before .before .before .word32-in .ensures .0) (omega arith) (omega arith)))
+    (λ c. step-box _ _ (c .before .before .before .before .before .before .said .ensures) (c .before .word32-in .ensures .0) (omega arith) (omega arith)))

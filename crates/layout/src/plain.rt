@@ -1,28 +1,26 @@
-// One walk over the boxes of a container, for fewer codes than five: fewer slots are filled in less time.
+// One walk over the boxes of a container, for one code, two, three or five, and the first box of each: fewer slots are filled in less time. It goes by plain boxes and says nothing of a container that holds another; the slots past the codes are the last one again.
 use crate::gather;
 use crate::gather::Five;
 use crate::gather::Slot;
 use crate::gather::Want;
 use boxes::walk::Step;
 use boxes::walk::Walk;
+ghost use mathlib.Core.Path.{_≡_};
 ghost use Prim.Native.Nat.{_<_};
 ghost use Rattle.layout.specs.Slots.{firstWith, Lies, Gathered};
 
-// One code, and the first box of it; then two, and three. The slots past them are the last one again.
 pub fn one(file: &[u8], whole: Slot, a: usize) -> Five
     requires { ⌜ Lies (now file) whole × (0 < a) ⌝ }
-    ensures { λ r. ⌜ Gathered (now (file .entry)) whole (firstWith a) (firstWith a) (firstWith a) (firstWith a) (firstWith a) r ⌝ }
+    ensures { λ r. ⌜ ((r .tiled ≡ 0 → ⊥) → Gathered (now (file .entry)) whole (firstWith a) (firstWith a) (firstWith a) (firstWith a) (firstWith a) r) ⌝ }
 {
     let part = gather::bytes(file, whole);
     let none = gather::none();
     let mut i = none;
-    let mut endless = 0;
     let mut w = Walk { at: 0 };
     loop {
-        match w.step(part) {
+        match w.plain_step(part) {
             Step::Found(x, next) => {
                 i = gather::note(i, Want { code: a, nth: 0 }, x, whole.from);
-                endless = gather::opened(endless, x);
                 w = next;
             }
             Step::End => {
@@ -32,7 +30,7 @@ pub fn one(file: &[u8], whole: Slot, a: usize) -> Five
                     c: i,
                     d: i,
                     e: i,
-                    tiled: gather::ending(endless),
+                    tiled: 1,
                 };
             }
             Step::Broken(_) => {
@@ -51,20 +49,18 @@ pub fn one(file: &[u8], whole: Slot, a: usize) -> Five
 
 pub fn two(file: &[u8], whole: Slot, a: usize, b: usize) -> Five
     requires { ⌜ Lies (now file) whole × (0 < a) × (0 < b) ⌝ }
-    ensures { λ r. ⌜ Gathered (now (file .entry)) whole (firstWith a) (firstWith b) (firstWith b) (firstWith b) (firstWith b) r ⌝ }
+    ensures { λ r. ⌜ ((r .tiled ≡ 0 → ⊥) → Gathered (now (file .entry)) whole (firstWith a) (firstWith b) (firstWith b) (firstWith b) (firstWith b) r) ⌝ }
 {
     let part = gather::bytes(file, whole);
     let none = gather::none();
     let mut i = none;
     let mut j = none;
-    let mut endless = 0;
     let mut w = Walk { at: 0 };
     loop {
-        match w.step(part) {
+        match w.plain_step(part) {
             Step::Found(x, next) => {
                 i = gather::note(i, Want { code: a, nth: 0 }, x, whole.from);
                 j = gather::note(j, Want { code: b, nth: 0 }, x, whole.from);
-                endless = gather::opened(endless, x);
                 w = next;
             }
             Step::End => {
@@ -74,7 +70,7 @@ pub fn two(file: &[u8], whole: Slot, a: usize, b: usize) -> Five
                     c: j,
                     d: j,
                     e: j,
-                    tiled: gather::ending(endless),
+                    tiled: 1,
                 };
             }
             Step::Broken(_) => {
@@ -93,22 +89,20 @@ pub fn two(file: &[u8], whole: Slot, a: usize, b: usize) -> Five
 
 pub fn three(file: &[u8], whole: Slot, a: usize, b: usize, c: usize) -> Five
     requires { ⌜ Lies (now file) whole × (0 < a) × (0 < b) × (0 < c) ⌝ }
-    ensures { λ r. ⌜ Gathered (now (file .entry)) whole (firstWith a) (firstWith b) (firstWith c) (firstWith c) (firstWith c) r ⌝ }
+    ensures { λ r. ⌜ ((r .tiled ≡ 0 → ⊥) → Gathered (now (file .entry)) whole (firstWith a) (firstWith b) (firstWith c) (firstWith c) (firstWith c) r) ⌝ }
 {
     let part = gather::bytes(file, whole);
     let none = gather::none();
     let mut i = none;
     let mut j = none;
     let mut k = none;
-    let mut endless = 0;
     let mut w = Walk { at: 0 };
     loop {
-        match w.step(part) {
+        match w.plain_step(part) {
             Step::Found(x, next) => {
                 i = gather::note(i, Want { code: a, nth: 0 }, x, whole.from);
                 j = gather::note(j, Want { code: b, nth: 0 }, x, whole.from);
                 k = gather::note(k, Want { code: c, nth: 0 }, x, whole.from);
-                endless = gather::opened(endless, x);
                 w = next;
             }
             Step::End => {
@@ -118,7 +112,7 @@ pub fn three(file: &[u8], whole: Slot, a: usize, b: usize, c: usize) -> Five
                     c: k,
                     d: k,
                     e: k,
-                    tiled: gather::ending(endless),
+                    tiled: 1,
                 };
             }
             Step::Broken(_) => {
@@ -128,6 +122,52 @@ pub fn three(file: &[u8], whole: Slot, a: usize, b: usize, c: usize) -> Five
                     c: k,
                     d: k,
                     e: k,
+                    tiled: 0,
+                };
+            }
+        }
+    }
+}
+
+pub fn five(file: &[u8], whole: Slot, a: usize, b: usize, c: usize, d: usize, e: usize) -> Five
+    requires { ⌜ Lies (now file) whole × (0 < a) × (0 < b) × (0 < c) × (0 < d) × (0 < e) ⌝ }
+    ensures { λ r. ⌜ ((r .tiled ≡ 0 → ⊥) → Gathered (now (file .entry)) whole (firstWith a) (firstWith b) (firstWith c) (firstWith d) (firstWith e) r) ⌝ }
+{
+    let part = gather::bytes(file, whole);
+    let none = gather::none();
+    let mut i = none;
+    let mut j = none;
+    let mut k = none;
+    let mut l = none;
+    let mut m = none;
+    let mut w = Walk { at: 0 };
+    loop {
+        match w.plain_step(part) {
+            Step::Found(x, next) => {
+                i = gather::note(i, Want { code: a, nth: 0 }, x, whole.from);
+                j = gather::note(j, Want { code: b, nth: 0 }, x, whole.from);
+                k = gather::note(k, Want { code: c, nth: 0 }, x, whole.from);
+                l = gather::note(l, Want { code: d, nth: 0 }, x, whole.from);
+                m = gather::note(m, Want { code: e, nth: 0 }, x, whole.from);
+                w = next;
+            }
+            Step::End => {
+                return Five {
+                    a: i,
+                    b: j,
+                    c: k,
+                    d: l,
+                    e: m,
+                    tiled: 1,
+                };
+            }
+            Step::Broken(_) => {
+                return Five {
+                    a: i,
+                    b: j,
+                    c: k,
+                    d: l,
+                    e: m,
                     tiled: 0,
                 };
             }
