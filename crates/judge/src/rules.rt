@@ -109,10 +109,15 @@ pub fn judge_in(
     let mut w = Walk { at: 0 };
     loop {
         match w.step(part) {
-            Step::Found(b, next) => {
-                found = rule::sooner(found, judge_box(n, file, part, b, base, k, depth));
-                w = next;
-            }
+            Step::Found(b, next) => match judge_box(n, file, part, b, base, k, depth) {
+                Verdict::Fine => {
+                    w = next;
+                }
+                Verdict::Bad(p) => {
+                    found = rule::sooner(found, Verdict::Bad(p));
+                    w = next;
+                }
+            },
             Step::End => {
                 return found;
             }

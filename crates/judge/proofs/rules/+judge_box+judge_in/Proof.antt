@@ -9,6 +9,9 @@ use Rattle.rule.specs.declared.Verdict.the-variants.{Fine}
 use Rattle.rule.specs.Judge.{judgeBox, judgeIn}
 use lib.ListN.{length, length-take, length-drop}
 use native.Mathlib.Omega.{arith}
+use mathlib.Core.Path.{sym, ap, _∙_}
+use Rattle.rule.specs.Verdict.{sooner}
+use Rattle.rule.proofs.Places.{sooner-none}
 use borrow.Author.Needs.{needs}
 use borrow.Fn.Kinds.{In}
 use borrow.Fn.PlainCycle.{Measures, is, falls, and}
@@ -71,10 +74,16 @@ pub +judge-box+judge-in-spec : {M : Type 1} → statement M
     (λ c κs. search needs)
     (λ c. search needs)
     (λ c κs. let s = ran _ _ _ _ _ (c .before .before .before .step .ensures) (c .before .b .given .1) in (omega arith, (s .head, s .least, omega arith, omega arith, omega arith)))
+    (λ c. search needs)
+    (λ c. let s = ran _ _ _ _ _ (c .before .before .before .before .before .before .step .ensures) (c .before .before .before .before .b .given .1) in omega arith)
+    (λ c. found-more _ _ _ _ (c .before .before .before .before .before .before .before .loop .inv) (ran _ _ _ _ _ (c .before .before .before .before .before .before .step .ensures) (c .before .before .before .before .b .given .1)) (c .before .before .judge-box .ensures)
+    (sym (sooner-none _) ∙ ap (sooner _) (sym (c .enum-told .given .1))))
+    (λ c. search needs)
     (λ c κs. search needs)
-    (λ c. let s = ran _ _ _ _ _ (c .before .before .before .before .before .step .ensures) (c .before .before .before .b .given .1) in omega arith)
-    (λ c. let s = ran _ _ _ _ _ (c .before .before .before .before .before .step .ensures) (c .before .before .before .b .given .1) in found-more _ _ _ _ (c .before .before .before .before .before .before .loop .inv) s (c .before .judge-box .ensures) (c .sooner .ensures))
+    (λ c. let s = ran _ _ _ _ _ (c .before .before .before .before .before .before .before .before .step .ensures) (c .before .before .before .before .before .before .b .given .1) in omega arith)
+    (λ c. found-more _ _ _ _ (c .before .before .before .before .before .before .before .before .before .loop .inv) (ran _ _ _ _ _ (c .before .before .before .before .before .before .before .before .step .ensures) (c .before .before .before .before .before .before .b .given .1)) (c .before .before .before .before .judge-box .ensures)
+    (c .sooner .ensures ∙ ap (sooner _) (sym (c .before .before .p .given .1))))
     (λ c. search needs)
-    (λ c. end-passed _ (c .before .before .before .loop .inv) (ended _ _ _ (c .before .before .step .ensures) (c .enum-told .given .1) .0))
+    (λ c. end-passed _ (c .before .before .before .loop .inv) (ended _ _ _ (c .before .before .step .ensures) (c .enum-told2 .given .1) .0))
     (λ c. search needs)
-    (λ c. end-passed _ (c .before .before .before .loop .inv) (broke _ _ _ _ (c .before .before .step .ensures) (c .enum-told2 .given .1) .0)))
+    (λ c. end-passed _ (c .before .before .before .loop .inv) (broke _ _ _ _ (c .before .before .step .ensures) (c .enum-told3 .given .1) .0)))
