@@ -5,6 +5,7 @@ pub mod Meaning
 pub mod Numbered
 pub mod Every
 pub mod Walking
+pub mod PlainWalking
 pub mod Seeking
 pub mod Tallying
 pub mod Wording

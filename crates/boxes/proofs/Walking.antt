@@ -19,10 +19,10 @@ use Rattle.boxes.specs.declared.walk.Says.{Says}
 use Rattle.boxes.specs.declared.walk.BoxAt.{BoxAt}
 use Rattle.boxes.specs.declared.walk.Step.{Step}
 use Rattle.boxes.specs.declared.walk.Step.the-variants.{Found, End, Broken}
-use Rattle.boxes.specs.Box.{headOf, isPlain}
+use Rattle.boxes.specs.Box.{headOf}
 use Rattle.boxes.specs.Boxes.{formOf, sizeBy, headFront, sizeOf, whole}
-use Rattle.boxes.specs.Walk.{saidBy, foundAt, stepAt, plainly, Ran, Over, Stepped, PlainlyStepped}
-use Rattle.boxes.proofs.Whole.{head-least, form-by, whole-true, whole-of, not-whole, short-not}
+use Rattle.boxes.specs.Walk.{saidBy, foundAt, stepAt, Ran, Over, Stepped}
+use Rattle.boxes.proofs.Whole.{head-least, whole-true, whole-of, not-whole, short-not}
 use Rattle.boxes.proofs.Reading.{boxes-next, boxes-stop, after-next, after-stop}
 
 module _ (xs : List ℕ) (at : ℕ) where
@@ -80,7 +80,7 @@ module _ (xs : List ℕ) (at : ℕ) where
   unfolding stepAt
   step-end h = le-yea _ _ _ _ _ h refl
 
-  step-broken : at < length xs → whole (drop at xs) ≡ false → Broken at ≡ stepAt xs at
+  pub step-broken : at < length xs → whole (drop at xs) ≡ false → Broken at ≡ stepAt xs at
   unfolding stepAt
   step-broken h e = le-nay _ _ _ _ _ h (rw e)
 
@@ -95,7 +95,7 @@ module _ (xs : List ℕ) (at : ℕ) where
   step-not h k = step-broken h (not-whole here (λ l m. k l (omega (arith, length-drop at xs))))
 
   -- a box by what its header says
-  abbrev box-by : Says → Step
+  abbrev pub box-by : Says → Step
   box-by s = Found (record { at = at; form = s .form; head = s .head; span = s .span; code = word 4 xs (at + 4) }) (record { at = at + s .span })
 
   pub step-found : headFront here ≤ sizeOf here → at + sizeOf here ≤ length xs → box-by (saidBy here) ≡ stepAt xs at
@@ -123,7 +123,7 @@ module _ (xs : List ℕ) (at : ℕ) where
 
   -- ---- what it says
 
-  field-at : word 4 here 0 ≡ word 4 xs at
+  pub field-at : word 4 here 0 ≡ word 4 xs at
   field-at = word-drop 4 at xs 0 ∙ ap (word 4 xs) (omega arith)
 
   said-by : (f : Form) {n : ℕ} → formOf here ≡ f → sizeBy f here ≡ n → record { form = f; head = headOf f; span = n } ≡ saidBy here
@@ -143,51 +143,3 @@ module _ (xs : List ℕ) (at : ℕ) where
   pub said-open : {f : ℕ} → f ≡ word 4 xs at → f ≡ 0 → record { form = Open; head = 8; span = length xs - at } ≡ saidBy here
   unfolding formOf
   said-open g h = said-by Open (sym (eq-yea _ _ _ _ _ (field-at ∙ sym g ∙ h) refl)) (length-drop at xs)
-
--- ---- plain boxes alone
-
-module _ (xs : List ℕ) (at : ℕ) where
-  pub plainly-stepped : PlainlyStepped xs at (plainly at (stepAt xs at))
-  plainly-stepped = go (stepAt xs at) (stepped xs at)
-    where
-      by : (t : Bool) (b : BoxAt) (w : Walk) → isPlain (b .form) ≡ t → Ran xs at b w → PlainlyStepped xs at (pick t (Found b w) (Broken at))
-      by true b w e r = (r, e)
-      by false b w e r = refl
-
-      go : (s : Step) → Stepped xs at s → PlainlyStepped xs at (plainly at s)
-      go (Found b w) r = by (isPlain (b .form)) b w refl r
-      go End o = o
-      go (Broken p) o = refl
-
-  pub plain-ran : (s : Step) (b : BoxAt) (w : Walk) → s ≡ plainly at (stepAt xs at) → s ≡ Found b w → Ran xs at b w × (isPlain (b .form) ≡ true)
-  plain-ran s b w e f = subst (PlainlyStepped xs at) (sym e ∙ f) plainly-stepped
-
-  pub plain-ended : (s : Step) → s ≡ plainly at (stepAt xs at) → s ≡ End → Over xs at × (length xs ≤ at)
-  plain-ended s e f = subst (PlainlyStepped xs at) (sym e ∙ f) plainly-stepped
-
-  -- a header of eight bytes that says its size, and one that doesn't
-  pub plain-not : {n : ℕ} → n ≡ word 4 xs at → 8 ≤ n → at < length xs → length xs < at + n → Broken at ≡ plainly at (stepAt xs at)
-  plain-not e h l k =
-      let s = ap (λ (r : Says). r .span) (said-plain xs at e (omega arith)) in
-      ap (plainly at) (step-not xs at l (λ u v. omega arith))
-
-  pub plain-found : {n : ℕ} → n ≡ word 4 xs at → 8 ≤ n → at + n ≤ length xs
-      → Found (record { at = at; form = Plain; head = 8; span = n; code = word 4 xs (at + 4) }) (record { at = at + n }) ≡ plainly at (stepAt xs at)
-  plain-found e h l =
-      let q = said-plain xs at e (omega arith) in
-      let s = ap (λ (r : Says). r .span) q in
-      let t = ap (λ (r : Says). r .head) q in
-      ap (plainly at) (ap (box-by xs at) q ∙ step-found xs at (omega arith) (omega arith))
-
-  unplain : word 4 xs at < 8 → headFront (drop at xs) ≤ sizeOf (drop at xs) → isPlain (formOf (drop at xs)) ≡ false
-  unplain h = form-by (λ f. headOf f ≤ sizeBy f (drop at xs) → isPlain f ≡ false) (drop at xs) (λ e k. refl) (λ e k. refl) (λ e f k. absurd (omega (arith, field-at xs at)))
-
-  pub plain-short : {n : ℕ} → n ≡ word 4 xs at → n < 8 → at < length xs → Broken at ≡ plainly at (stepAt xs at)
-  plain-short q h l = go (whole (drop at xs)) refl
-    where
-      go : (t : Bool) → whole (drop at xs) ≡ t → Broken at ≡ plainly at (stepAt xs at)
-      go false e = ap (plainly at) (step-broken xs at l e)
-      go true e =
-          let w = whole-true (drop at xs) e in
-          let f : plainly at (box-by xs at (saidBy (drop at xs))) ≡ Broken at = rw (unplain (omega arith) (w .0)) in
-          sym f ∙ ap (plainly at) (step-found xs at (w .0) (omega (arith, length-drop at xs)))

@@ -1,4 +1,5 @@
-// One walk over the boxes of a container, for one code, two, three or five, and the first box of each: fewer slots are filled in less time. It goes by plain boxes and says nothing of a container that holds another; the slots past the codes are the last one again.
+// One walk over the plain boxes of a container, for the first box of one code, two, three or five: the fewer slots, the less time.
+// Where a box of another form stands it says nothing. The slots past the codes are the last one again.
 use crate::gather;
 use crate::gather::Five;
 use crate::gather::Slot;

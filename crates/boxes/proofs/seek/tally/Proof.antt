@@ -4,7 +4,7 @@ use Prim.Native.Nat.{_-_}
 use lib.ListN.{length}
 use native.Mathlib.Omega.{arith}
 use Rattle.boxes.specs.Seek.{Tallied}
-use Rattle.boxes.proofs.Walking.{plain-ran, plain-ended}
+use Rattle.boxes.proofs.PlainWalking.{plain-ran, plain-ended}
 use Rattle.boxes.proofs.Tallying.{tallied-none, tallied-more, tallied-whole, tallied-stopped}
 use Rattle.boxes.proofs.seek.tally.Statement.{statement}
 use Rattle.boxes.proofs.seek.tally.Tie as tie

@@ -1,7 +1,7 @@
 -- The invariant: each slot is that of the boxes before the walk's place, which are plain; those of the tracks have one count.
 use borrow.Author.Needs.{needs}
 use Prim.Native.Nat.{_-_}
-use Rattle.boxes.proofs.Walking.{plain-ran, plain-ended}
+use Rattle.boxes.proofs.PlainWalking.{plain-ran, plain-ended}
 use Rattle.layout.proofs.Gathering.{Walked, walked-none, walked-fits, walked-plain, walked-whole}
 use Rattle.layout.specs.Slots.{firstWith, endingOf, Gathered}
 use Rattle.layout.specs.Tracks.{wanted, slotWith}

@@ -3,7 +3,8 @@ use borrow.Author.Needs.{needs}
 use native.Mathlib.Omega.{arith}
 use mathlib.Core.Path.{ap}
 use Rattle.boxes.specs.Walk.{plainly}
-use Rattle.boxes.proofs.Walking.{step-end, step-rest, plain-short, plain-not, plain-found}
+use Rattle.boxes.proofs.Walking.{step-end, step-rest}
+use Rattle.boxes.proofs.PlainWalking.{plain-short, plain-not, plain-found}
 use Rattle.boxes.proofs.walk.Walk.plain_step.Statement.{statement}
 use Rattle.boxes.proofs.walk.Walk.plain_step.Tie as tie
 
