@@ -77,31 +77,32 @@ fn said(part: &[u8], at: usize) -> Says
     ensures { λ r. ⌜ r ≡ saidBy (drop at (now (part .entry))) ⌝ }
 {
     let field = number::word32_in(part, at);
-    if HEAD <= field {
+    if 1 < field {
         return Says {
             form: Form::Plain,
             head: HEAD,
             span: field,
         };
     }
+    let left = part.len() - at;
     if field == 0 {
         return Says {
             form: Form::Open,
             head: HEAD,
-            span: part.len() - at,
+            span: left,
         };
     }
-    if field == 1 {
+    if left < WIDE_HEAD {
         return Says {
             form: Form::Wide,
             head: WIDE_HEAD,
-            span: number::word(part, at + 8, 8),
+            span: 0,
         };
     }
     Says {
-        form: Form::Plain,
-        head: HEAD,
-        span: field,
+        form: Form::Wide,
+        head: WIDE_HEAD,
+        span: number::word64_in(part, at + 8),
     }
 }
 

@@ -1,7 +1,7 @@
 -- Laws of big-endian numbers, over every width. Assumes nothing.
 use Prim.Native.Nat.{ℕ, zero, suc, _+_, _-_, _*_, _/_, _%_, _^_, _≤_, _<_}
 use native.Mathlib.Omega.{arith}
-use native.Mathlib.Nat.{add-mul, mul-assoc, mul-le-mul-left, mul-le-mul-right, one-le-pow, pow-le-pow-right, pow-suc, pow-succ', div-one, zero-add, div-div-eq-div-mul, mul-add-div-right, div-eq-of-lt}
+use native.Mathlib.Nat.{add-mul, mul-assoc, mul-le-mul-left, mul-le-mul-right, one-le-pow, pow-suc, pow-succ', div-one, zero-add, div-div-eq-div-mul, mul-add-div-right, div-eq-of-lt}
 use mathlib.Core.Path.{_≡_, refl, sym, ap, _∙_}
 use mathlib.Core.Bool.{Bool, true, false}
 use mathlib.Core.List.{List, [], _∷_, _++_, append-nil}
@@ -218,20 +218,8 @@ word16-is xs at p q h = rw (p, q, ← word-byte xs at, ← word-byte xs (at + 1)
 pub word32-is : (xs : List ℕ) (at : ℕ) {a b : ℕ} → a ≡ word 2 xs at → b ≡ word 2 xs (at + 2) → at + 4 ≤ length xs → a * 65536 + b ≡ word 4 xs at
 word32-is xs at p q h = rw (p, q) (word-join 2 2 xs at h)
 
--- a number of n bytes is that of n - 1 and then one byte
-pub word-more : (n : ℕ) (xs : List ℕ) (at : ℕ) {a b : ℕ} → 0 < n → a ≡ word (n - 1) xs at → b ≡ getD xs (at + (n - 1)) 0 → at + n ≤ length xs → a * 256 + b ≡ word n xs at
-word-more n xs at l p q h =
-    let s : n - 1 + 1 ≡ n = omega arith in
-    rw (p, q, ← word-byte xs (at + (n - 1))) (word-join (n - 1) 1 xs at (omega arith) ∙ ap (λ (m : ℕ). word m xs at) s)
-
-pub fits-more : (n : ℕ) {a b : ℕ} → 0 < n → a < 256 ^ (n - 1) → b < 256 → a * 256 + b < 256 ^ n
-fits-more n {a} {b} l h k =
-    let s : n ≡ suc (n - 1) = omega arith in
-    let e : 256 ^ n ≡ 256 ^ (n - 1) * 256 = ap (λ (m : ℕ). 256 ^ m) s ∙ pow-suc 256 (n - 1) in
-    omega (arith, e)
-
-pub fits-seven : {a n : ℕ} → a < 256 ^ n → n ≤ 7 → a < 256 ^ 7
-fits-seven {a} {n} h k = let m : 256 ^ n ≤ 256 ^ 7 = pow-le-pow-right (omega arith) k in omega (arith, m)
+pub word64-is : (xs : List ℕ) (at : ℕ) {a b : ℕ} → a ≡ word 4 xs at → b ≡ word 4 xs (at + 4) → at + 8 ≤ length xs → a * 4294967296 + b ≡ word 8 xs at
+word64-is xs at p q h = rw (p, q) (word-join 4 4 xs at h)
 
 pub bytes16-is : (n : ℕ) → n / 256 % 256 ∷ n % 256 ∷ [] ≡ bytes 2 n
 unfolding bytes bytesOn

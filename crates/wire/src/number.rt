@@ -46,6 +46,14 @@ pub fn word32_in(part: &[u8], at: usize) -> usize
     word16_in(part, at) * 65536 + word16_in(part, at + 2)
 }
 
+// The 64-bit number at a place inside.
+pub fn word64_in(part: &[u8], at: usize) -> usize
+    requires { ⌜ at + 8 ≤ length (now part) ⌝ }
+    ensures { λ r. ⌜ r ≡ word 8 (now (part .entry)) at ⌝ }
+{
+    word32_in(part, at) * 4294967296 + word32_in(part, at + 4)
+}
+
 // The 16-bit number at any place, 0 where it doesn't lie inside.
 pub fn word16(part: &[u8], at: usize) -> usize
     ensures { λ r. ⌜ (r ≡ word 2 (now (part .entry)) at) × (r < 2 ^ 16) ⌝ }
@@ -70,23 +78,6 @@ pub fn word32(part: &[u8], at: usize) -> usize
         return 0;
     }
     0
-}
-
-// The number of at most eight bytes at any place, 0 where they don't lie inside; one call for each byte, so that it stays out of the loops that seldom need it.
-pub fn word(part: &[u8], at: usize, n: usize) -> usize
-    requires { ⌜ n ≤ 8 ⌝ }
-    ensures { λ r. ⌜ (r ≡ word n (now (part .entry)) at) × (r < 256 ^ n) ⌝ }
-{
-    if n == 0 {
-        return 0;
-    }
-    if part.len() < n {
-        return 0;
-    }
-    if part.len() - n < at {
-        return 0;
-    }
-    word(part, at, n - 1) * 256 + wide(part[at + (n - 1)])
 }
 
 // 1 where the n bytes at a place are all 0, or don't lie inside, else 0.
