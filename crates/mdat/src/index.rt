@@ -62,10 +62,10 @@ fn wide(x: u32) -> usize
 fn for_place(index: &[u32], offset: usize) -> usize
     ensures { λ r. ⌜ Nearest (now (index .entry)) 0 offset r ⌝ }
 {
-    if offset == 0 {
+    if index.len() == 0 {
         return 0;
     }
-    if index.len() == 0 {
+    if offset == 0 {
         return 0;
     }
     let j = number::least((offset - 1) / STRIDE, index.len() - 1);

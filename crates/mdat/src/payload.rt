@@ -87,29 +87,40 @@ fn past(b: BoxAt) -> usize
     b.at + b.span
 }
 
-// Looks for so many bytes from a place on in the boxes from a start on, at most so many of them.
+// Looks for so many bytes from a place on in the boxes from a start on, at most so many of them; each is taken for a plain one first.
 fn search(file: &[u8], from: usize, most: usize, offset: usize, bytes: usize) -> Looked
     requires { ⌜ Start (now file) offset from ⌝ }
     ensures { λ r. ⌜ TestedAs (now (file .entry)) (lies (boxes (now (file .entry))) 0 offset bytes) (most ≤ length (now (file .entry))) r ⌝ }
 {
-    let mut w = Walk { at: from };
+    let mut at = from;
     let mut i = 0;
     while i < most {
-        match w.step(file) {
+        match (Walk { at }).plain_step(file) {
             Step::Found(b, _) => {
-                let end = past(b);
-                if offset <= end {
+                at = past(b);
+                if offset <= at {
                     return held(b, offset, bytes);
                 }
-                w = Walk { at: end };
                 i += 1;
             }
             Step::End => {
                 return Looked::Out;
             }
-            Step::Broken(_) => {
-                return Looked::Out;
-            }
+            Step::Broken(_) => match (Walk { at }).step(file) {
+                Step::Found(b, _) => {
+                    at = past(b);
+                    if offset <= at {
+                        return held(b, offset, bytes);
+                    }
+                    i += 1;
+                }
+                Step::End => {
+                    return Looked::Out;
+                }
+                Step::Broken(_) => {
+                    return Looked::Out;
+                }
+            },
         }
     }
     Looked::Far
