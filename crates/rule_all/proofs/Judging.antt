@@ -35,13 +35,14 @@ module _ {xs b : List ℕ} {t : Track} (h : Laid xs b t) where
         let s = h .shaped n in
         let head = f .heads z in
         let list = f .lists z in
+        let refs = rw (h .dref .is) at (clause 0 _ list) in
         let table = f .forms z in
         let both = f .tables z in
         trak-all (boxes xs) 3 (s .trak) (rw (h .tkhd .is) at (clause 0 _ head))
         (mdia-all (boxes xs) 2 (s .mdia) (rw (h .mdhd .is) at (clause 1 _ head)) (rw (h .hdlr .is) at (clause 2 _ head))
         (minf-all (boxes xs) 1 (s .minf)
-        (dinf-all (boxes xs) 0 (s .dinf) (rw (h .dref .is) at (clause 0 _ list)) (rw (h .dref .is) at (clause 1 _ list)))
-        (stbl-all (boxes xs) 0 (s .stbl) (rw (h .stsd .is) at (clause 2 _ list)) (rw (h .stts .is) at (clause 0 _ table))
+        (dinf-all (boxes xs) 0 (s .dinf) (clause 0 _ refs) (clause 1 _ refs))
+        (stbl-all (boxes xs) 0 (s .stbl) (rw (h .stsd .is) at (clause 1 _ list)) (rw (h .stts .is) at (clause 0 _ table))
         (rw (h .stsc .is) at (clause 1 _ table))
         (rw (h .stsz .is) at (clause 2 _ table)) (rw (h .stco .is) at (clause 3 _ table))
         (rw (h .stts .is, h .stsc .is, h .stsz .is, h .stco .is, h .stsd .is) at (clause 0 _ both)) (rw (h .stsc .is, h .stsz .is, h .stco .is) at

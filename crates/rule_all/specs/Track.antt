@@ -23,7 +23,7 @@ use Rattle.layout.specs.Slots.{slotIn, Lies}
 use Rattle.rule.specs.Rule.{allIn}
 use Rattle.rule_headers.specs.Forms.{form}
 use Rattle.rule_lists.specs.Five.{listForm}
-use Rattle.rule_lists.specs.Nine.{allUrls}
+use Rattle.rule_lists.specs.Nine.{urlList}
 use Rattle.rule_entries.specs.Ten.{aroundOf, entriesFine}
 use Rattle.rule_all.specs.declared.TrackSays.{TrackSays}
 use Rattle.rule_all.specs.All.{allRules}
@@ -46,7 +46,7 @@ headsFine xs t = every (form TRAK TKHD (slotIn xs (t .tkhd)) ∷ form MDIA MDHD 
 
 -- rules 5 and 9
 unfoldable pub listsFine : List ℕ → Track → Bool
-listsFine xs t = every (listForm (slotIn xs (t .dref)) ∷ allUrls (slotIn xs (t .dref)) ∷ listForm (slotIn xs (t .stsd)) ∷ [])
+listsFine xs t = every (urlList (slotIn xs (t .dref)) ∷ listForm (slotIn xs (t .stsd)) ∷ [])
 
 -- rule 6
 unfoldable pub formsFine : List ℕ → Track → Bool

@@ -25,7 +25,6 @@ ghost use Rattle.boxes.specs.Boxes.{FRONT, boxes};
 ghost use Rattle.boxes.specs.Containers.{LONGEST};
 ghost use Rattle.layout.specs.Slots.{slotIn};
 ghost use Rattle.layout.specs.Tracks.{FirstMdat};
-ghost use Rattle.rule_lists.specs.Nine.{allUrls};
 ghost use Rattle.rule_entries.specs.Ten.{entriesFine};
 ghost use Rattle.rule_all.specs.Track.{Inside, headsFine, listsFine, formsFine, tablesFine, aroundIn, AllFine, SaysOf};
 
@@ -46,28 +45,13 @@ fn heads_fine(file: &[u8], t: Track) -> usize
     forms::form(codes::MDIA, codes::HDLR, gather::bytes(file, hdlr))
 }
 
-// Rule 9 of a `dref`: 1 or 0.
-fn urls_fine(dref: &[u8]) -> usize
-    requires { ⌜ length (now dref) ≤ LONGEST ⌝ }
-    ensures { λ r. ⌜ r ≡ oneIf (allUrls (now (dref .entry))) ⌝ }
-{
-    match url::urls_in(codes::DINF, codes::DREF, dref, 0) {
-        Verdict::Fine => 1,
-        Verdict::Bad(_) => 0,
-    }
-}
-
 // Rules 5 and 9: 1 or 0.
 fn lists_fine(file: &[u8], t: Track) -> usize
-    requires { ⌜ Inside (now file) t × (length (now file) ≤ LONGEST) ⌝ }
+    requires { ⌜ Inside (now file) t ⌝ }
     ensures { λ r. ⌜ r ≡ oneIf (listsFine (now (file .entry)) t) ⌝ }
 {
-    let slot = t.dref;
-    let dref = gather::bytes(file, slot);
-    if form::list_form(dref) == 0 {
-        return 0;
-    }
-    if urls_fine(dref) == 0 {
+    let dref = t.dref;
+    if url::url_list(gather::bytes(file, dref)) == 0 {
         return 0;
     }
     let stsd = t.stsd;

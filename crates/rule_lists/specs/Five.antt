@@ -4,7 +4,7 @@ use mathlib.Core.Path.{_≡_}
 use mathlib.Core.Bool.{Bool, true}
 use mathlib.Core.List.{List, [], _∷_}
 use lib.ListN.{length, drop}
-use Rattle.wire.specs.Tests.{ifEq, ifLe}
+use Rattle.wire.specs.Tests.{pick, ifEq, ifLe}
 use Rattle.wire.specs.Numbers.{word}
 use Rattle.wire.specs.Clauses.{isEq, isLe, every}
 use Rattle.codes.specs.Codes.{MOOV, STBL, STSD, DINF, DREF}
@@ -31,6 +31,10 @@ listForm b =
     ∷ plainTiles (drop FRONT b)
     ∷ isEq (count ANY (boxes (drop FRONT b))) (storedCount b)
     ∷ [])
+
+-- the count, where it and what stands before it are there, and version and flags are 0; else 0
+unfoldable pub listed : List ℕ → ℕ
+listed b = pick (every (isLe FRONT (length b) ∷ isEq (word 4 b 0) 0 ∷ [])) (storedCount b) 0
 
 -- what it says
 pub record Listed (b : List ℕ) : Type 0 where

@@ -14,6 +14,7 @@ use Rattle.rule.specs.declared.Verdict.the-variants.{Fine}
 use Rattle.rule.specs.Verdict.{unless}
 use Rattle.rule.specs.Judge.{Judge, judgeList}
 use Rattle.rule.specs.Rule.{Rule, allList}
+use Rattle.rule_lists.specs.Five.{listForm}
 
 unfoldable pub isUrl : ℕ → List ℕ → Bool
 isUrl c b = every (isEq c URL ∷ isEq (length b) 4 ∷ isEq (word 4 b 0) 1 ∷ [])
@@ -34,12 +35,19 @@ urlsOf b q = urlsFrom (boxes (drop FRONT b)) (q + FRONT)
 abbrev pub urlsIn : ℕ → ℕ → List ℕ → ℕ → Verdict
 urlsIn k c b q = ifEq k DINF (ifEq c DREF (urlsOf b q) Fine) Fine
 
--- the same without places
+-- the same without places: of a part, and of a `dref`
+abbrev pub urls : List ℕ → Bool
+urls xs = allList (λ x. isUrl (x .code) (x .body)) true (boxes xs)
+
 unfoldable pub allUrls : List ℕ → Bool
-allUrls b = allList (λ x. isUrl (x .code) (x .body)) true (boxes (drop FRONT b))
+allUrls b = urls (drop FRONT b)
 
 unfoldable pub allUrlsIn : ℕ → ℕ → List ℕ → Bool
 allUrlsIn k c b = ifEq k DINF (ifEq c DREF (allUrls b) true) true
+
+-- rules 5 and 9 of a `dref`
+abbrev pub urlList : List ℕ → Bool
+urlList b = every (listForm b ∷ allUrls b ∷ [])
 
 -- ---- the rule, with places and without
 

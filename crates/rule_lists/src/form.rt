@@ -5,11 +5,11 @@ use wire::lend;
 use wire::number;
 ghost use mathlib.Core.Path.{_≡_};
 ghost use Rattle.wire.specs.Clauses.{oneIf};
-ghost use Rattle.rule_lists.specs.Five.{listForm, listFormIn};
+ghost use Rattle.rule_lists.specs.Five.{listForm, listed as listedBy, listFormIn};
 
-// Whether a payload has the form of rule 5: 1 or 0.
-pub fn list_form(body: &[u8]) -> usize
-    ensures { λ r. ⌜ r ≡ oneIf (listForm (now (body .entry))) ⌝ }
+// How many boxes a payload says that it lists, and 0 where it doesn't start as rule 5 wants it.
+pub fn listed(body: &[u8]) -> usize
+    ensures { λ r. ⌜ r ≡ listedBy (now (body .entry)) ⌝ }
 {
     if body.len() < FRONT {
         return 0;
@@ -17,8 +17,15 @@ pub fn list_form(body: &[u8]) -> usize
     if number::word32_in(body, 0) != 0 {
         return 0;
     }
-    let n = number::word32_in(body, 4);
-    if n < 1 {
+    number::word32_in(body, 4)
+}
+
+// Whether a payload has the form of rule 5: 1 or 0.
+pub fn list_form(body: &[u8]) -> usize
+    ensures { λ r. ⌜ r ≡ oneIf (listForm (now (body .entry))) ⌝ }
+{
+    let n = listed(body);
+    if n == 0 {
         return 0;
     }
     if seek::tally(lend::rest(body, FRONT), seek::ANY) != n {

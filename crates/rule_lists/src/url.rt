@@ -1,4 +1,5 @@
 // Rule 9: what a `dref` lists.
+use crate::form;
 use boxes::walk;
 use boxes::walk::Step;
 use boxes::walk::Walk;
@@ -8,9 +9,11 @@ use wire::number;
 ghost use mathlib.Core.Path.{_≡_};
 ghost use Prim.Native.Nat.{_+_, _^_, _<_};
 ghost use lib.ListN.{length};
+ghost use Rattle.wire.specs.Tests.{pick};
 ghost use Rattle.wire.specs.Clauses.{oneIf};
 ghost use Rattle.boxes.specs.Boxes.{boxes};
-ghost use Rattle.rule_lists.specs.Nine.{isUrl, urlsFrom, urlsIn};
+ghost use Rattle.boxes.specs.Seek.{ANY, count, plainTiles};
+ghost use Rattle.rule_lists.specs.Nine.{isUrl, urlsFrom, urlsIn, urls, urlList};
 
 // Whether a box is a `url ` of this file: 1 or 0.
 fn is_url(code: usize, body: &[u8]) -> usize
@@ -50,6 +53,45 @@ fn urls_from(part: &[u8], base: usize) -> Verdict
             }
         }
     }
+}
+
+// How many boxes tile a part where each is plain and a `url ` of this file; else 0.
+fn tally(part: &[u8]) -> usize
+    ensures { λ r. ⌜ r ≡ pick (urls (now (part .entry))) (pick (plainTiles (now (part .entry))) (count ANY (boxes (now (part .entry)))) 0) 0 ⌝ }
+{
+    let mut w = Walk { at: 0 };
+    let mut n = 0;
+    loop {
+        match w.plain_step(part) {
+            Step::Found(b, next) => {
+                if is_url(b.code, walk::body(part, b)) == 0 {
+                    return 0;
+                }
+                n += 1;
+                w = next;
+            }
+            Step::End => {
+                return n;
+            }
+            Step::Broken(_) => {
+                return 0;
+            }
+        }
+    }
+}
+
+// Rules 5 and 9 of a `dref`, by one walk: 1 or 0.
+pub fn url_list(dref: &[u8]) -> usize
+    ensures { λ r. ⌜ r ≡ oneIf (urlList (now (dref .entry))) ⌝ }
+{
+    let n = form::listed(dref);
+    if n == 0 {
+        return 0;
+    }
+    if tally(lend::rest(dref, walk::FRONT)) != n {
+        return 0;
+    }
+    1
 }
 
 // Rule 9 of a box of code c in a container of kind k, whose payload starts at place q.
