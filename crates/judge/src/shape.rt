@@ -28,7 +28,7 @@ fn shaped(n: usize, k: usize, part: &[u8]) -> usize
     1
 }
 
-// An answer other than 0 says that a container is empty, of which rule 2 asks nothing.
+// An answer other than 0 says that a box is empty, of which rule 2 asks nothing but its form.
 fn idle(n: usize, b: BoxAt) -> usize
     ensures { λ r. ⌜ ((r ≡ 0 → ⊥) → (n ≡ 2) × (b .span ≡ b .head)) ⌝ }
 {
@@ -67,12 +67,12 @@ fn first_box(n: usize, part: &[u8], b: BoxAt, base: usize, k: usize, depth: usiz
     if formed(n, k, form) == 0 {
         return Verdict::Bad(place);
     }
+    if idle(n, b) != 0 {
+        return Verdict::Fine;
+    }
     let start = place + b.head;
     let kind = containers::kind_in(k, b.code);
     if kind == 0 {
-        return Verdict::Fine;
-    }
-    if idle(n, b) != 0 {
         return Verdict::Fine;
     }
     first_in(n, walk::body(part, b), place, start, kind, depth - 1)

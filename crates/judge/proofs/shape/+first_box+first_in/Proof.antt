@@ -5,7 +5,7 @@ use Rattle.boxes.proofs.Walking.{ran, ended, broke}
 use Rattle.boxes.specs.Boxes.{after}
 use Rattle.boxes.specs.Walk.{boxAt}
 use Rattle.judge.proofs.Answers.{box-leaf, box-node, judge-shallow}
-use Rattle.judge.proofs.Empty.{empty-fine}
+use Rattle.judge.proofs.Empty.{box-empty}
 use Rattle.judge.proofs.Shapes.{first-broken, box-unformed, box-formed, first-unshaped, first-begins, end-tiled, end-other, end-torn}
 use Rattle.judge.specs.Asked.{firstBy, formFirst}
 use Rattle.rule.proofs.Places.{sooner-none, unless-yea}
@@ -63,30 +63,30 @@ first-in-μ-loop n part home base k depth w₀ w = length part - w .at
 
 pub +first-box+first-in-spec : {M : Type 1} → statement M
 +first-box+first-in-spec = close μ-first-box μ-first-in
-    (λ t. first-box-lts.spec (formed-reads.Asked, formed-reads.Learnt, kind-in-reads.Asked, kind-in-reads.Learnt, idle-reads.Asked, idle-reads.Learnt, body-reads.Asked, body-reads.Learnt, first-in-below t, first-in.Post) (first-box-at t) first-box.Post
+    (λ t. first-box-lts.spec (formed-reads.Asked, formed-reads.Learnt, idle-reads.Asked, idle-reads.Learnt, kind-in-reads.Asked, kind-in-reads.Learnt, body-reads.Asked, body-reads.Learnt, first-in-below t, first-in.Post) (first-box-at t) first-box.Post
     (λ c. search needs)
     (λ c κs. search needs)
     (λ c. let a = c .before .before .before .before .args in
     box-unformed (a .n) _ (a .k) (boxAt (a .part .now) (a .b)) _ (was-nay _ _ (c .if1 .taken) (c .before .formed .ensures)))
-    (λ c. search needs)
     (λ c κs. search needs)
-    (λ c. let s = c .before .before .before .before .before .before .before in
+    (λ c. let s = c .before .before .before .before .before .before in
     let a = s .args in
-    let f = was-yea _ _ (c .before .before .before .if1 .left) (c .before .before .before .before .formed .ensures) in
-    box-formed (a .n) _ (a .k) (boxAt (a .part .now) (a .b)) _ f (box-leaf (firstBy (a .n)) _ _ (boxAt (a .part .now) (a .b)) _ (s .pre .1 .0) (c .before .kind-in .ensures) (c .if2 .taken) (unless-yea _ _ refl)))
+    let f = was-yea _ _ (c .before .before .if1 .left) (c .before .before .before .formed .ensures) in
+    let i = c .before .idle .ensures (c .if2 .taken) in
+    box-formed (a .n) _ (a .k) (boxAt (a .part .now) (a .b)) _ f (box-empty (a .n) _ (a .k) (a .part .now) (a .b) _ (i .0) (i .1)))
+    (λ c. search needs)
     (λ c κs. search needs)
     (λ c. let s = c .before .before .before .before .before .before .before .before .before in
     let a = s .args in
     let f = was-yea _ _ (c .before .before .before .before .before .if1 .left) (c .before .before .before .before .before .before .formed .ensures) in
-    let i = c .before .idle .ensures (c .if3 .taken) in
-    box-formed (a .n) _ (a .k) (boxAt (a .part .now) (a .b)) _ f (box-node (firstBy (a .n)) _ _ (boxAt (a .part .now) (a .b)) _ (s .pre .1 .0) (c .before .before .before .kind-in .ensures) (c .before .before .if2 .left) (empty-fine _ _ _ _ (a .b) _ _ (i .0) (i .1))))
+    box-formed (a .n) _ (a .k) (boxAt (a .part .now) (a .b)) _ f (box-leaf (firstBy (a .n)) _ _ (boxAt (a .part .now) (a .b)) _ (s .pre .1 .0) (c .before .kind-in .ensures) (c .if3 .taken) (unless-yea _ _ refl)))
     (λ c κs. search needs)
     (λ c. search needs)
     (λ c κs. (omega arith, (omega arith, rw (c .body .ensures, length-take, length-drop) (omega arith))))
     (λ c. let s = c .before .before .before .before .before .before .before .before .before .before .before in
     let a = s .args in
     let f = was-yea _ _ (c .before .before .before .before .before .before .before .if1 .left) (c .before .before .before .before .before .before .before .before .formed .ensures) in
-    box-formed (a .n) _ (a .k) (boxAt (a .part .now) (a .b)) _ f (box-node (firstBy (a .n)) _ _ (boxAt (a .part .now) (a .b)) _ (s .pre .1 .0) (c .before .before .before .before .before .kind-in .ensures) (c .before .before .before .before .if2 .left) (rw (c .before .body .ensures) at (c .first-in .ensures)))))
+    box-formed (a .n) _ (a .k) (boxAt (a .part .now) (a .b)) _ f (box-node (firstBy (a .n)) _ _ (boxAt (a .part .now) (a .b)) _ (s .pre .1 .0) (c .before .before .before .kind-in .ensures) (c .before .before .if3 .left) (rw (c .before .body .ensures) at (c .first-in .ensures)))))
     (λ t. first-in-lts.spec (shaped-reads.Asked, shaped-reads.Learnt, step-reads.Asked, step-reads.Learnt, first-box-below t, first-box.Post) (first-in-at t) first-in.Post first-in-Inv-loop first-in-μ-loop
     (λ c. judge-shallow _ _ _ _ _ _ (c .if1 .taken))
     (λ c κs. search needs)
