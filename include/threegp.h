@@ -47,32 +47,32 @@ static inline uint32_t threegp_number(uint64_t answer) { return (uint32_t)(answe
 static inline uint32_t threegp_value(uint64_t answer) { return (uint32_t)answer; }
 
 /* Judges a file: value 0 where it is accepted.
-   Refusals: 1 to 10. Stack: 18336. */
+   Refusals: 1 to 10. Stack: 18256. */
 uint64_t threegp_judge(const uint8_t *file, size_t length);
 
 /* How many tracks the file has.
-   Refusals: 1 to 10. Stack: 18400. */
+   Refusals: 1 to 10. Stack: 18352. */
 uint64_t threegp_tracks(const uint8_t *file, size_t length);
 
 /* What a track (from 1) says: out[0..4] are its handler code, its length in media ticks, their time scale, and its length in movie
    ticks, which is another unit. Value 4.
-   Refusals: 1 to 10, 20, 25 (out has fewer than 4 numbers). Stack: 20624. */
+   Refusals: 1 to 10, 20, 25 (out has fewer than 4 numbers). Stack: 20544. */
 uint64_t threegp_track(const uint8_t *file, size_t length, uint64_t track, uint64_t *out, size_t room);
 
 /* Whether the file may call itself by a brand, `3gp4`, `3gp5`, `3gp6` or `3gr6` as a big-endian number: value 1 or 0, and 0 for
    any other code.
-   Refusals: 1 to 10. Stack: 20496. */
+   Refusals: 1 to 10. Stack: 20416. */
 uint64_t threegp_brand(const uint8_t *file, size_t length, uint32_t code);
 
 /* The chunk offsets of a track (from 1) in order. Value: how many.
-   Refusals: 1 to 10, 20, 25. Stack: 19264. */
+   Refusals: 1 to 10, 20, 25. Stack: 19184. */
 uint64_t threegp_offsets(const uint8_t *file, size_t length, uint64_t track, uint32_t *list, size_t room);
 
 /* The sheet of the file's sample entries. Byte 0 is 1, byte 1 the count of entries, bytes 2 and 3 are 0; then eight slots of 12 bytes, one
    for each entry in file order: its kind (0 other, 1 mp4v, 2 mp4a, 3 samr, 4 sawb, 5 s263, 6 avc1), its track from 1, two zeros, its place in the
    file (4 bytes) and its length (4); unused slots are zero. From byte 100 on the entries, whole boxes in slot order. Value: its length.
    A room of 100 bytes and the file's length suffices.
-   Refusals: 1 to 10, 25. Stack: 20672. */
+   Refusals: 1 to 10, 25. Stack: 20608. */
 uint64_t threegp_sheet(const uint8_t *file, size_t length, uint8_t *out, size_t room);
 
 /* The `stsd` box of a track (from 1) of a sheet: 16 bytes, 8 of them its header, and then that track's entries. Value: its length. A room of the sheet's
@@ -91,12 +91,12 @@ uint64_t threegp_record_read(const uint8_t *entry, size_t length, uint64_t *out,
 uint64_t threegp_record_write(const uint64_t *fields, size_t count, uint8_t *out, size_t room);
 
 /* The printed listing of a file; a refused one has a listing of one line. Value: the text's length; 4,096 bytes suffice.
-   Refusals: 25. Stack: 20496. */
+   Refusals: 25. Stack: 20416. */
 uint64_t threegp_listing(const uint8_t *file, size_t length, uint8_t *out, size_t room);
 
 /* The file with 60 times the minutes taken from each of its times that is not 0. Value: the length of the result, which is the file's.
    Refusals: 1 to 10, 22, 23 (of `moof`, `mfra`, `sidx` and `meta` at the top, `meta` in `moov` or `trak`, `co64` and `saio` in an `stbl`),
-   25. Stack: 18656. */
+   25. Stack: 18624. */
 uint64_t threegp_shift(const uint8_t *file, size_t length, int64_t minutes, uint8_t *out, size_t room);
 
 /* The file with the decoder record of an entry (from 1, in file order) replaced by the given `damr` or `d263`. Value: the length of
@@ -105,14 +105,14 @@ uint64_t threegp_shift(const uint8_t *file, size_t length, int64_t minutes, uint
 uint64_t threegp_replace(const uint8_t *file, size_t length, uint64_t entry, const uint8_t *record, size_t size, uint8_t *out, size_t room);
 
 /* The file with `moov` right after `ftyp`. Value: the length of the result, which is the file's.
-   Refusals: 1 to 10, 23, 25. Stack: 18640. */
+   Refusals: 1 to 10, 23, 25. Stack: 18608. */
 uint64_t threegp_move(const uint8_t *file, size_t length, uint8_t *out, size_t room);
 
 /* Which of two files is newer, each with its clock's minutes ahead of universal time. out[0] says whether the first is earlier (0),
    the same (1) or later (2); out[1] is the file of the entry, 1 or 2: the later one, the first on same; out[2] and out[3] are the
    place in it and the length of the entry of that number (from 1). Value 4.
    Refusals: 257 to 266 (256 and 1 to 10: of the first file, with the place in it), 513 to 522 (of the second), 22 (of the minutes
-   alone), 20, 25 (out has fewer than 4 numbers). Stack: 18560. */
+   alone), 20, 25 (out has fewer than 4 numbers). Stack: 18528. */
 uint64_t threegp_newer(const uint8_t *first, size_t length, int64_t minutes, const uint8_t *second, size_t second_length,
                        int64_t second_minutes, uint64_t entry, uint64_t *out, size_t room);
 
