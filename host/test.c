@@ -232,7 +232,7 @@ static uint64_t play_numbers(struct bytes file, const struct call *call)
     else if (call->kind == TRACK)
         answer = threegp_track(lay(first_input, file), file.length, call->numbers[0], out, call->room);
     else
-        answer = threegp_record_read(lay(first_input, file), file.length, out, call->room);
+        answer = threegp_record_read(lay(first_input, file), file.length, call->numbers[0], out, call->room);
     put_answer(answer);
     for (size_t k = 0; k < call->room; k++)
         printf(" %llu", (unsigned long long)out[k]);
@@ -249,13 +249,13 @@ static uint64_t play_offsets(struct bytes file, const struct call *call)
 }
 
 /* The file is a list of numbers. */
-static uint64_t record_write(struct bytes file, uint8_t *out, size_t room)
+static uint64_t record_write(struct bytes file, uint64_t release, uint8_t *out, size_t room)
 {
     uint64_t fields[64];
     size_t count = 0;
     for (; file.length >= 8 && count < 64; count++)
         fields[count] = take_number(&file, 8);
-    return threegp_record_write(lay(first_input, (struct bytes){(uint8_t *)fields, 8 * count}), count, out, room);
+    return threegp_record_write(lay(first_input, (struct bytes){(uint8_t *)fields, 8 * count}), count, release, out, room);
 }
 
 static uint64_t ask_bytes(struct bytes file, const struct call *call, uint8_t *out)
@@ -264,7 +264,7 @@ static uint64_t ask_bytes(struct bytes file, const struct call *call, uint8_t *o
     switch (call->kind) {
     case SHEET: return threegp_sheet(at, file.length, out, call->room);
     case TABLE: return threegp_table(at, file.length, call->numbers[0], out, call->room);
-    case RECORD_WRITE: return record_write(file, out, call->room);
+    case RECORD_WRITE: return record_write(file, call->numbers[0], out, call->room);
     case LISTING: return threegp_listing(at, file.length, out, call->room);
     case SHIFT: return threegp_shift(at, file.length, minutes(call->numbers[0]), out, call->room);
     case REPLACE: return threegp_replace(at, file.length, call->numbers[0], more, call->more.length, out, call->room);

@@ -61,7 +61,7 @@ uint64_t threegp_track(const uint8_t *file, size_t length, uint64_t track, uint6
 
 /* Whether the file may call itself by a brand, `3gp4`, `3gp5`, `3gp6` or `3gr6` as a big-endian number: value 1 or 0, and 0 for
    any other code.
-   Refusals: 1 to 10. Stack: 20416. */
+   Refusals: 1 to 10. Stack: 20496. */
 uint64_t threegp_brand(const uint8_t *file, size_t length, uint32_t code);
 
 /* The chunk offsets of a track (from 1) in order. Value: how many.
@@ -76,19 +76,20 @@ uint64_t threegp_offsets(const uint8_t *file, size_t length, uint64_t track, uin
 uint64_t threegp_sheet(const uint8_t *file, size_t length, uint8_t *out, size_t room);
 
 /* The `stsd` box of a track (from 1) of a sheet: 16 bytes, 8 of them its header, and then that track's entries. Value: its length. A room of the sheet's
-   length suffices.
+   length suffices. Records with up to 255 frames are taken, as in release 4: a sheet doesn't say which release its file had.
    Refusals: 30, 20, 24, 25. Stack: 1768. */
 uint64_t threegp_table(const uint8_t *sheet, size_t length, uint64_t track, uint8_t *out, size_t room);
 
 /* The fields of a `samr`, `sawb` or `s263` entry. For the first two 8 numbers: kind (3, 4), data reference, TimeScale, vendor, decoder
    version, mode_set, mode_change_period, frames_per_sample. For `s263` 11: kind (5), data reference, width, height, vendor,
    decoder version, level, profile, 1 where a `bitr` follows and else 0, average rate, maximum rate. Value: 8 or 11; 11 numbers suffice.
+   The release is 4, where a sample has 1 to 255 frames, or 6, where it has 1 to 15; any other number is read as 6.
    Refusals: 21 (not such an entry, or one that breaks its rule), 25. Stack: 200. */
-uint64_t threegp_record_read(const uint8_t *entry, size_t length, uint64_t *out, size_t room);
+uint64_t threegp_record_read(const uint8_t *entry, size_t length, uint64_t release, uint64_t *out, size_t room);
 
-/* The entry of such fields. Value: its length; 117 bytes suffice.
+/* The entry of such fields, in a release as above. Value: its length; 117 bytes suffice.
    Refusals: 21 (another count of fields, a number that doesn't fit, or a broken rule), 25. Stack: 312. */
-uint64_t threegp_record_write(const uint64_t *fields, size_t count, uint8_t *out, size_t room);
+uint64_t threegp_record_write(const uint64_t *fields, size_t count, uint64_t release, uint8_t *out, size_t room);
 
 /* The printed listing of a file; a refused one has a listing of one line. Value: the text's length; 4,096 bytes suffice.
    Refusals: 25. Stack: 20416. */
@@ -100,8 +101,9 @@ uint64_t threegp_listing(const uint8_t *file, size_t length, uint8_t *out, size_
 uint64_t threegp_shift(const uint8_t *file, size_t length, int64_t minutes, uint8_t *out, size_t room);
 
 /* The file with the decoder record of an entry (from 1, in file order) replaced by the given `damr` or `d263`. Value: the length of
-   the result; 16 bytes more than the file's length suffice.
-   Refusals: 1 to 10, 20 (also a given record of another code), 21, 23, 24, 25. Stack: 18816. */
+   the result; 16 bytes more than the file's length suffice. The record is held to the file's release: 4 where its compatible list has `3gp4`
+   and none of `3gp5`, `3gp6`, `3gr6`, else 6.
+   Refusals: 1 to 10, 20 (also a given record of another code), 21, 23, 24, 25. Stack: 18832. */
 uint64_t threegp_replace(const uint8_t *file, size_t length, uint64_t entry, const uint8_t *record, size_t size, uint8_t *out, size_t room);
 
 /* The file with `moov` right after `ftyp`. Value: the length of the result, which is the file's.

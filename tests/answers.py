@@ -86,9 +86,9 @@ def offsets(file, number):
 
 def brand_in(top, brand):
     """Whether the answer for one of the four brands is yes."""
-    ftyp = top.inside[0].payload
-    listed = [ftyp[at : at + 4] for at in range(8, len(ftyp), 4)]
-    if brand.encode() not in listed or b"isom" not in listed:
+    listed = files.brands_in(top)
+    beside = {"3gp4": [], "3gp5": ["isom"]}.get(brand, ["isom", "avc1"])
+    if brand not in listed or beside and not set(beside) & set(listed):
         return False
     if brand == "3gr6":
         return top.inside[1].code == "moov"
@@ -132,10 +132,15 @@ def listing(file):
 # ---- The table writer
 
 
-def body_fits(code, p):
-    """The rule of an entry apart from TimeScale, data reference and handler."""
+def most_frames(release):
+    """The most frames in a sample; any number but 4 reads as 6."""
+    return files.FRAMES[4 if release == 4 else 6]
+
+
+def body_fits(code, p, release):
+    """The rule of an entry of a release apart from TimeScale, data reference and handler."""
     handler = b"soun" if code in ("mp4a", "samr", "sawb") else b"vide"
-    return len(p) >= 8 and files.entry_fits(code, p[:6] + b"\0\1" + p[8:], handler, num(p, 24, 2), 1)
+    return len(p) >= 8 and files.entry_fits(code, p[:6] + b"\0\1" + p[8:], handler, num(p, 24, 2), 1, most_frames(release))
 
 
 def sheet_bodies(sheet):
@@ -149,7 +154,7 @@ def sheet_bodies(sheet):
         body = sheet[at : at + size]
         code = body[4:8].decode("latin-1")
         ask(size >= 8 and len(body) == size and num(body, 0) == size, 30)
-        ask(kind_of(code) == kind and body_fits(code, body[8:]), 30)
+        ask(kind_of(code) == kind and body_fits(code, body[8:], 4), 30)
         found.append((track, body))
         at, last = at + size, track
     ask(at == len(sheet) and not any(sheet[4 + 12 * sheet[1] : 100]), 30)
@@ -172,10 +177,10 @@ PICTURE = ((14, 2), (32, 2), (34, 2), (94, 4), (98, 1), (99, 1), (100, 1))
 RATES = ((109, 4), (113, 4))
 
 
-def record_read(entry):
-    """The fields of an entry, kind first; of a picture the rates last, behind 1 where it has them."""
+def record_read(entry, release):
+    """The fields of an entry of a release, kind first; of a picture the rates last, behind 1 where it has them."""
     code = entry[4:8].decode("latin-1")
-    ask(code in RECORDS and num(entry, 0) == len(entry) and body_fits(code, entry[8:]), 21)
+    ask(code in RECORDS and num(entry, 0) == len(entry) and body_fits(code, entry[8:], release), 21)
     fields = [kind_of(code)] + [num(entry, at, width) for at, width in (PICTURE if code == "s263" else SPEECH)]
     if code != "s263":
         return fields
@@ -191,14 +196,14 @@ def blank(fields):
     return files.visual("s263", files.d263(*rates)), list(zip(fields[1:8] + fields[9:], PICTURE + RATES * len(rates)))
 
 
-def record_write(fields):
+def record_write(fields, release):
     """The entry of fields: it has to read back as these fields."""
     box, placed = blank(fields)
     entry = bytearray(files.lay([box], 0, 0))
     for n, (at, width) in placed:
         ask(n < 256**width, 21)
         entry[at : at + width] = n.to_bytes(width, "big")
-    ask(record_read(bytes(entry)) == fields, 21)
+    ask(record_read(bytes(entry), release) == fields, 21)
     return bytes(entry)
 
 
@@ -286,8 +291,8 @@ def move(file):
     return b"".join(bytes(out[b.at : b.end]) for b in order)
 
 
-def record_fits(code, record):
-    return files.d263_fits(record) if code == "s263" else files.damr_fits(code, record)
+def record_fits(code, record, release):
+    return files.d263_fits(record) if code == "s263" else files.damr_fits(code, record, most_frames(release))
 
 
 def around(top, track):
@@ -305,7 +310,7 @@ def replace(file, entry, record):
     track, code, place, body = entries_in(top)[entry - 1]
     ask(code in RECORDS, 20)
     ask(len(record) < 8 or record[4:8] == RECORDS[code].encode(), 20)
-    ask(record_fits(code, record), 21)
+    ask(record_fits(code, record, files.release_of(top)), 21)
     ask(not not_editable(top), 23)
     more = len(record) - (len(body) - HEADS[code])
     ask(len(file) + more <= files.LONGEST, 24)

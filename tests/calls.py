@@ -130,15 +130,15 @@ def replace(label, file, entry, what, record, room):
     return "replace", "replace %d of %s by %s room %d" % (entry, label, what, room), room, (entry,), record, line
 
 
-def record_read(label, entry, room=12):
-    line = line_numbers(lambda: answers.record_read(entry), room)
-    return "record read", "record read %s room %d" % (label, room), room, (), b"", line
+def record_read(label, entry, room=12, release=6):
+    line = line_numbers(lambda: answers.record_read(entry, release), room)
+    return "record read", "record read %s release %d room %d" % (label, release, room), room, (release,), b"", line
 
 
-def record_write(fields, room):
-    line = line_bytes(lambda: answers.record_write(fields), room)
-    name = "record write %s room %d" % (" ".join(map(str, fields)), room)
-    return "record write", name, room, (), b"", line
+def record_write(fields, room, release=6):
+    line = line_bytes(lambda: answers.record_write(fields, release), room)
+    name = "record write %s release %d room %d" % (" ".join(map(str, fields)), release, room)
+    return "record write", name, room, (release,), b"", line
 
 
 def newest(label, first, y, second, z, entry, room=4):
@@ -776,15 +776,63 @@ def changed_fields():
 def field_groups():
     for name, _, entry in [*cases.entries(), *cases.heads()]:
         calls = [record_read(name, entry), record_read(name, entry, 0)]
-        if told(lambda: answers.record_read(entry))[1]:
-            n = len(answers.record_read(entry))
+        if told(lambda: answers.record_read(entry, 6))[1]:
+            n = len(answers.record_read(entry, 6))
             calls += [record_read(name, entry, room) for room in (1, n - 1, n, n + 1)]
         yield entry, calls
     for fields in (SPEECH, WIDE, PICTURE, RATED):
-        n = len(answers.record_write(fields))
+        n = len(answers.record_write(fields, 6))
         yield numbers_of(fields), [record_write(fields, room) for room in (1, n - 1, n, n + 1)]
     for fields in changed_fields():
         yield numbers_of(fields), [record_write(fields, 0), record_write(fields, 130)]
+
+
+# ---- Releases
+
+RELEASES = (0, 3, 4, 5, 6, 7, 2**32 + 4, 2**64 - 1)
+
+
+def release_groups():
+    """Frames and periods in records, sheets and files of both releases."""
+    for period, frames, _, _ in files.frames_and_periods():
+        what, entry = "damr-%d-%d" % (period, frames), one(audio("sawb", damr(0x83FF, period, frames)))
+        yield entry, [record_read(what, entry, 12, release) for release in RELEASES[2:5:2]]
+        fields = [4, 1, 8000, 0x5658595A, 0, 0x83FF, period, frames]
+        yield numbers_of(fields), [record_write(fields, 53, release) for release in RELEASES[2:5:2]]
+        given = sheet_of((1, entry))
+        yield given, [table(what, given, 1)]
+    for frames in (0, 1, 15, 16, 255):
+        what, entry = "frames-%d" % frames, one(files.samr(frames=frames))
+        yield entry, [record_read(what, entry, room, release) for release in RELEASES for room in (0, 12)]
+        fields = [3, 1, 8000, 0x5658595A, 0, 0x81FF, 0, frames]
+        yield numbers_of(fields), [record_write(fields, room, release) for release in RELEASES for room in (0, 53)]
+    for brands in files.OLD + files.NEW:
+        file = files.build([files.ftyp(*brands), *files.movie(files.trak(1), files.trak(2, [sawb(), other()]))[1:]])
+        label = "+".join(brands)
+        calls = []
+        for frames in (0, 1, 15, 16, 255):
+            for period in (0, 4, 5, 30):
+                for entry in (1, 2, 3):
+                    record = one(damr(0x81FF, period, frames))
+                    calls.append(replace(label, file, entry, "damr-%d-%d" % (period, frames), record, len(file)))
+        yield file, calls
+    for brands in files.OLD:
+        file = files.build([files.ftyp(*brands), *files.movie(files.trak(1, [files.samr(frames=255)]))[1:]])
+        label = "255-of-" + "+".join(brands)
+        again = answers.sheet(file)
+        yield file, [*reads_of(label, file), *edits_of(label, file), sheet(label, file, len(again))]
+        yield again, [table("of-" + label, again, 1), table("of-" + label, again, 1, 68)]
+
+
+def brand_set_groups():
+    """Every set of the four brand codes, with and without `isom` and `avc1`, in a file without and in one with an `avc1` entry."""
+    codes = (*answers.BRANDS, "isom", "avc1")
+    for what, track_given in (("samr", files.trak(1)), ("avc1", files.visual_track(avc1()))):
+        for n in range(64):
+            brands = [code for k, code in enumerate(codes) if n >> k & 1]
+            file = files.build([files.ftyp(*brands), *files.movie(track_given)[1:]])
+            label = "%s-in-%s" % (what, "+".join(brands) or "none")
+            yield file, [brand(label, file, name) for name in codes] + [listing(label, file, 300)]
 
 
 def numbers_of(fields):
@@ -958,6 +1006,8 @@ def short_groups():
     yield from record_groups()
     yield from newest_groups()
     yield from field_groups()
+    yield from release_groups()
+    yield from brand_set_groups()
     yield from real_groups()
     yield from form_groups()
     yield from form_table_groups()

@@ -278,7 +278,7 @@ def modes_and_frames():
         for frames in (0, 1, 15, 16, 255):
             yield "%s frames %d" % (name, frames), SOUND, speech(code, frames=frames)
         pairs = [(period, frames) for frames in (6, 2) for period in (0, 1, 2, 3, 4, 5, 6)]
-        for period, frames in (*pairs, (30, 15), (31, 15), (255, 15), (255, 14), (1, 0), (16, 16), (1, 15)):
+        for period, frames in (*pairs, (30, 15), (31, 15), (255, 15), (255, 14), (1, 0), (16, 16), (1, 15), (3, 16), (51, 255), (254, 255)):
             yield "%s period %d frames %d" % (name, period, frames), SOUND, speech(code, period=period, frames=frames)
         yield name + " any vendor", SOUND, speech(code, vendor=b"\xff\0\x80\1", version=255)
 
@@ -441,14 +441,14 @@ def decoders():
         yield "%s twice into %d" % (name, kind), kind, part * 2
         for at in range(8):
             yield "%s byte %d into %d" % (name, at, kind), kind, changed(part, at)
-    for frames in (0, 1, 15, 16):
+    for frames in (0, 1, 15, 16, 255):
         yield "damr frames %d" % frames, 3, damr(frames=frames)
-    for period, frames in ((2, 6), (4, 6), (6, 2)):
+    for period, frames in ((2, 6), (4, 6), (6, 2), (4, 16), (5, 16), (51, 255), (52, 255)):
         yield "damr period %d frames %d" % (period, frames), 4, damr(period=period, frames=frames)
 
 
-def record_rule(kind, part):
-    return kind in (3, 4, 5) and inside_rule(KINDS[kind], part)
+def record_rule(kind, part, most=15):
+    return kind in (3, 4, 5) and inside_rule(KINDS[kind], part, most)
 
 
 # ---- sample tables: rules 6 and 7
@@ -677,7 +677,7 @@ def entry_lines(file, cases):
 
 def record_lines():
     write("decoders", (named(name, be(kind, 4) + part) for name, kind, part in decoders()))
-    return ["%s: %d" % (name, record_rule(kind, part)) for name, kind, part in decoders()]
+    return ["%s: %d wider %d" % (name, record_rule(kind, part), record_rule(kind, part, 255)) for name, kind, part in decoders()]
 
 
 def table_lines():

@@ -224,11 +224,11 @@ def zero(data, at, to):
     return not any(data[at:to])
 
 
-def damr_fits(code, rest):
+def damr_fits(code, rest, most):
     if len(rest) != 17 or num(rest, 0) != 17 or rest[4:8] != b"damr":
         return False
     mode_set, period, frames = num(rest, 13, 2), rest[15], rest[16]
-    if mode_set & ~(0x81FF if code == "samr" else 0x83FF) or not 1 <= frames <= 15:
+    if mode_set & ~(0x81FF if code == "samr" else 0x83FF) or not 1 <= frames <= most:
         return False
     return period == 0 or period % frames == 0 or frames % period == 0
 
@@ -262,12 +262,12 @@ def visual_fits(p, code):
     return num(p, 74, 2) == 24 and num(p, 76, 2) == 0xFFFF
 
 
-def entry_fits(code, p, handler, scale, references):
+def entry_fits(code, p, handler, scale, references, most):
     if len(p) < 8 or not zero(p, 0, 6) or not 1 <= num(p, 6, 2) <= references:
         return False
     if code in ("mp4a", "samr", "sawb"):
         rest = p[28:]
-        inner = esds_fits(rest) if code == "mp4a" else damr_fits(code, rest)
+        inner = esds_fits(rest) if code == "mp4a" else damr_fits(code, rest, most)
         return handler == b"soun" and audio_fits(p, scale) and inner
     if code in ("mp4v", "s263", "avc1"):
         inner = {"mp4v": esds_fits, "s263": d263_fits, "avc1": avcc_fits}[code]
@@ -275,14 +275,29 @@ def entry_fits(code, p, handler, scale, references):
     return True
 
 
+FRAMES = {4: 255, 6: 15}
+
+
+def brands_in(top):
+    ftyp = top.inside[0].payload
+    return [ftyp[at : at + 4].decode("latin-1") for at in range(8, len(ftyp), 4)]
+
+
+def release_of(top):
+    """The release of a file whose first box is an `ftyp`."""
+    listed = brands_in(top)
+    return 4 if "3gp4" in listed and not {"3gp5", "3gp6", "3gr6"} & set(listed) else 6
+
+
 def rule10(top):
+    most = FRAMES[release_of(top)]
     for mdia in on(top, "mdia"):
         handler = mdia.one("hdlr").payload[8:12]
         scale = num(mdia.one("mdhd").payload, 12)
         references = num(mdia.one("minf/dinf/dref").payload, 4)
         stsd = mdia.one("minf/stbl/stsd")
         for at, _, code, payload in tiles(stsd.payload[8:])[0]:
-            if not entry_fits(code, payload, handler, scale, references):
+            if not entry_fits(code, payload, handler, scale, references, most):
                 return stsd.start + 8 + at
 
 
@@ -385,8 +400,8 @@ def patch(box, at, data):
     box.body = [p[:at] + data + p[at + len(data) :]]
 
 
-def ftyp(*brands):
-    return Box("ftyp", b"3gp6", w(0), *[b.encode() for b in brands])
+def ftyp(*brands, major="3gp6"):
+    return Box("ftyp", major.encode(), w(0), *[b.encode() for b in brands])
 
 
 def mvhd(scale=1000):
@@ -1131,6 +1146,44 @@ def rule10_files():
     yield "10-first-of-two-tracks", movie(trak(1), trak(2, [samr(), one]), trak(3, [two])), one
 
 
+# Lists that make a file one of Release 4, and lists that don't; the major brand says nothing of it.
+OLD = (("3gp4",), ("3gp4", "isom"), ("isom", "avc1", "3gp4"), ("3gp7", "3gp4", "mp41"))
+NEW = (("3gp6", "isom"), ("3gp4", "3gp5"), ("3gp6", "3gp4"), ("3gp4", "3gr6"), ("isom",), ("3gp5", "isom"), ("3GP4",), ("isom", "4pg3"))
+
+
+def frames_and_periods():
+    """(period, frames, whether Release 4 takes them, whether Release 6 does)."""
+    for frames in (0, 1, 2, 15, 16, 17, 254, 255):
+        for period in (0, 1, 2, 3, 5, 15, 16, 17, 30, 32, 51, 85, 127, 254, 255):
+            fits = frames and (period == 0 or period % frames == 0 or frames % period == 0)
+            yield period, frames, bool(fits), bool(fits and frames <= 15)
+
+
+def release_files():
+    for brands in OLD + NEW:
+        for major in ("3gp4", "3gp6"):
+            for frames in (0, 1, 15, 16, 255):
+                entry = samr(frames=frames)
+                number = 0 if 1 <= frames <= (255 if brands in OLD else 15) else 10
+                name = "%d-%s-of-%s-frames-%d" % (number, "+".join(brands), major, frames)
+                yield name, [ftyp(*brands, major=major), *movie(trak(1, [entry]))[1:]], entry if number else None
+    for period, frames, old, new in frames_and_periods():
+        for release, fits in ((4, old), (6, new)):
+            entry = audio("sawb", damr(0x83FF, period, frames))
+            name = "%d-sawb-of-release-%d-period-%d-frames-%d" % (0 if fits else 10, release, period, frames)
+            brands = ftyp("3gp4") if release == 4 else ftyp("3gp4", "3gp5")
+            yield name, [brands, *movie(trak(1, [entry]))[1:]], None if fits else entry
+    first, second = samr(frames=16), samr(frames=255)
+    yield "0-two-tracks-of-release-4", [ftyp("3gp4"), *movie(trak(1, [first]), trak(2, [samr(), second]))[1:]], None
+    first, second = samr(frames=15), samr(frames=16)
+    yield "10-two-tracks-of-release-6", [ftyp("3gp4", "3gp6"), *movie(trak(1, [first]), trak(2, [samr(), second]))[1:]], second
+    late = samr(frames=255)
+    wide = Box("ftyp", b"3gp4", w(0), *[b"isom"] * 15, b"3gp4")
+    yield "0-last-of-sixteen-brands", [wide, *movie(trak(1, [late]))[1:]], None
+    minor = samr(frames=16)
+    yield "10-release-4-in-the-minor-version", [Box("ftyp", b"3gp4", b"3gp4", b"isom"), *movie(trak(1, [minor]))[1:]], minor
+
+
 BREAKS = {
     2: lambda f, t: setattr(get(f, "stbl", t).body[-1], "size", 2**31),
     3: lambda f, t: get(f, "trak", t).body.append(Box("mdia")),
@@ -1258,7 +1311,7 @@ def wanted(name, place):
 def cases():
     for group in (whole, loose, rule1_files, rule2_files, rule3_files, rule4_files, rule5_files, rule6_files):
         yield from group()
-    for group in (rule7_files, rule8_files, chopped_files, rule9_files, rule10_files, pairs, orders):
+    for group in (rule7_files, rule8_files, chopped_files, rule9_files, rule10_files, release_files, pairs, orders):
         yield from group()
 
 

@@ -1,29 +1,13 @@
--- Laws of the counts over brands and over tracks. Assumes nothing.
-use Prim.Native.Nat.{ℕ, _+_, _-_, _*_, _/_, _<_}
-use native.Mathlib.Omega.{arith}
+-- Laws of the counts over tracks. Assumes nothing.
+use Prim.Native.Nat.{ℕ, _+_, _<_}
 use mathlib.Core.Path.{_≡_, sym}
 use mathlib.Core.Bool.{true, false}
 use mathlib.Core.List.{List}
-use lib.ListN.{length}
-use Rattle.wire.specs.Numbers.{word}
 use Rattle.wire.specs.Clauses.{isEq, oneIf}
 use Rattle.wire.proofs.Sums.{sum-none, sum-more, all-none, all-more, all-fails}
 use Rattle.movie.specs.Movie.{track, handler}
 use Rattle.rule_tracks.proofs.Answers.{found-nay, found-yea}
-use Rattle.brands.specs.Brands.{timesTo, timesListed, handledTo, single, singleTo, noAvc1, noAvc1To}
-
-module _ (c : ℕ) (ftyp : List ℕ) where
-  pub times-none : 0 ≡ timesTo c ftyp 0
-  unfolding timesTo
-  times-none = sym (sum-none (λ i. oneIf (isEq (word 4 ftyp (8 + 4 * i)) c)))
-
-  pub times-more : (i : ℕ) {w r sum : ℕ} → sum ≡ timesTo c ftyp i → w ≡ word 4 ftyp (8 + 4 * i) → r ≡ oneIf (isEq w c) → sum + r ≡ timesTo c ftyp (i + 1)
-  unfolding timesTo
-  times-more i p q e = rw (e, q, p) (sym (sum-more (λ i. oneIf (isEq (word 4 ftyp (8 + 4 * i)) c)) i))
-
-  -- too short for a list
-  pub times-short : length ftyp < 8 → 0 ≡ timesListed c ftyp
-  times-short h = let e : (length ftyp - 8) / 4 ≡ 0 = omega arith in rw e times-none
+use Rattle.brands.specs.Brands.{handledTo, single, singleTo, noAvc1, noAvc1To}
 
 module _ (h : ℕ) (xs : List ℕ) where
   pub handled-none : 0 ≡ handledTo h xs 0

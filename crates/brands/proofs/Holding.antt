@@ -2,28 +2,23 @@
 use Prim.Native.Nat.{ℕ, _≤_}
 use native.Mathlib.Omega.{arith}
 use mathlib.Core.Path.{_≡_, refl, _∙_}
-use mathlib.Core.Bool.{true, false}
+use mathlib.Core.Bool.{Bool, true, false}
 use mathlib.Core.List.{List, [], _∷_, _++_}
-use Rattle.wire.specs.Clauses.{isEq, oneIf}
+use Rattle.wire.specs.Clauses.{isEq, either, oneIf}
 use Rattle.codes.specs.Codes.{MOOV, AVC1}
-use Rattle.wire.proofs.Clauses.{is-lt, not-lt}
 use Rattle.boxes.specs.Box.{Box}
 use Rattle.boxes.specs.Boxes.{boxes}
 use Rattle.boxes.specs.Seek.{ANY, count}
 use Rattle.boxes.proofs.Numbered.{count-any}
 use Rattle.movie.specs.Named.{listIn}
-use Rattle.brands.specs.Brands.{timesListed, brandListed, oneEntry, noAvc1, second, ready}
+use Rattle.brands.specs.Brands.{oneEntry, noAvc1, second, ready}
 
--- ---- a brand that is listed, and one that isn't
+-- ---- the last of some tests
 
-module _ (c : ℕ) (ftyp : List ℕ) {b : List ℕ} {r : ℕ} (f : b ≡ ftyp) (e : r ≡ timesListed c b) where
-  pub listed-yea : (r ≡ 0 → ⊥) → brandListed c ftyp ≡ true
-  unfolding brandListed
-  listed-yea z = rw (← f) (is-lt _ _ (omega arith))
-
-  pub listed-nay : r ≡ 0 → brandListed c ftyp ≡ false
-  unfolding brandListed
-  listed-nay z = rw (← f) (not-lt _ _ (omega arith))
+pub either-last : (t : Bool) → t ≡ either (t ∷ [])
+unfolding either
+either-last true = refl
+either-last false = refl
 
 -- ---- a track's entries
 

@@ -1,11 +1,9 @@
--- "Brand answers": yes exactly if the code is listed, `isom` is listed, and the brand's own conditions hold.
-use Prim.Native.Nat.{ℕ, _+_, _-_, _*_, _/_}
+-- "Brand answers": yes exactly if the code is listed, what it needs beside it is, and the brand's own conditions hold.
+use Prim.Native.Nat.{ℕ}
 use mathlib.Core.Bool.{Bool, true, false}
 use mathlib.Core.List.{List, [], _∷_}
-use lib.ListN.{length}
 use Rattle.wire.specs.Tests.{ifEq}
-use Rattle.wire.specs.Numbers.{word}
-use Rattle.wire.specs.Clauses.{isEq, isLt, isLe, every, oneIf}
+use Rattle.wire.specs.Clauses.{isEq, isLe, every, either, oneIf}
 use Rattle.wire.specs.Sums.{sumTo, allTo}
 use Rattle.codes.specs.Codes.{FTYP, MOOV, AVC1, VIDE, SOUN, TEXT, ISOM, GP4, GP5, GP6, GR6}
 use Rattle.boxes.specs.Box.{Box}
@@ -13,18 +11,17 @@ use Rattle.boxes.specs.Boxes.{boxes}
 use Rattle.boxes.specs.Seek.{ANY, count, find}
 use Rattle.movie.specs.Movie.{tracks, track, handler}
 use Rattle.movie.specs.Named.{listIn}
+use Rattle.release.specs.Compatible.{brandListed}
 
--- ---- the compatible list of an `ftyp` payload: after the major brand and the minor version
+-- ---- the compatible list
 
--- how many of the first n brands are c, and how many of all
-unfoldable pub timesTo : ℕ → List ℕ → ℕ → ℕ
-timesTo c ftyp n = sumTo (λ i. oneIf (isEq (word 4 ftyp (8 + 4 * i)) c)) n
+-- "isom or avc1", as brands
+unfoldable pub isomOrAvc1 : List ℕ → Bool
+isomOrAvc1 ftyp = either (brandListed ISOM ftyp ∷ brandListed AVC1 ftyp ∷ [])
 
-abbrev pub timesListed : ℕ → List ℕ → ℕ
-timesListed c ftyp = timesTo c ftyp ((length ftyp - 8) / 4)
-
-unfoldable pub brandListed : ℕ → List ℕ → Bool
-brandListed c ftyp = isLt 0 (timesListed c ftyp)
+-- "3gp4 needs neither, 3gp5 needs isom, 3gp6 and 3gr6 need isom or avc1"
+unfoldable pub besideIt : ℕ → List ℕ → Bool
+besideIt code ftyp = ifEq code GP4 true (ifEq code GP5 (brandListed ISOM ftyp) (isomOrAvc1 ftyp))
 
 -- ---- the tracks of a file
 
@@ -78,4 +75,4 @@ unfoldable pub ownConditions : ℕ → List ℕ → Bool
 ownConditions code xs = ifEq code GP4 (early xs) (ifEq code GP5 (early xs) (ifEq code GP6 (few xs) (ifEq code GR6 (ready xs) false)))
 
 unfoldable pub brandHolds : ℕ → List ℕ → Bool
-brandHolds code xs = every (brandListed code (find FTYP (boxes xs)) ∷ brandListed ISOM (find FTYP (boxes xs)) ∷ ownConditions code xs ∷ [])
+brandHolds code xs = every (brandListed code (find FTYP (boxes xs)) ∷ besideIt code (find FTYP (boxes xs)) ∷ ownConditions code xs ∷ [])

@@ -1,5 +1,4 @@
 // The brands' own conditions, each 1 where it holds, else 0.
-use crate::compatible;
 use boxes::seek;
 use boxes::seek::Seen;
 use layout::entries;
@@ -7,23 +6,46 @@ use layout::entries::Lists;
 use layout::every;
 use layout::every::Tracks;
 use layout::gather;
+use release::compatible;
 ghost use mathlib.Core.Path.{_≡_};
 ghost use Prim.Native.Nat.{_≤_, _<_};
-ghost use Rattle.wire.specs.Clauses.{oneIf};
+ghost use Rattle.wire.specs.Clauses.{isEq, oneIf};
 ghost use Rattle.boxes.specs.Boxes.{boxes};
 ghost use Rattle.movie.specs.Movie.{tracks, track, handler as handlerOf};
 ghost use Rattle.layout.specs.Every.{TracksAt};
 ghost use Rattle.layout.specs.Entries.{ListsAt};
 ghost use Rattle.brands.specs.Brands.{handled as handledOf, oneEntry, single as singleOf, singleTo, noAvc1, noAvc1To};
+ghost use Rattle.brands.specs.Brands.{isomOrAvc1};
 ghost use Rattle.brands.specs.Brands.{few as fewOf, early as earlyOf, second as secondOf, ready as readyOf};
 ghost use Rattle.brands.specs.Own.{OwnAt};
 
-// How often `isom` is listed; what `3gp4` and `3gp5`, what `3gp6`, and what `3gr6` asks.
+// Whether `isom`, and whether it or `avc1` is listed; what `3gp4` and `3gp5`, what `3gp6`, and what `3gr6` asks.
 pub struct Own {
     pub isom: usize,
+    pub base: usize,
     pub early: usize,
     pub few: usize,
     pub ready: usize,
+}
+
+// Whether two numbers are the same.
+fn equal(m: usize, n: usize) -> usize
+    ensures { λ r. ⌜ (r ≡ oneIf (isEq m n)) × (r ≤ 1) ⌝ }
+{
+    if m == n {
+        return 1;
+    }
+    0
+}
+
+// Whether `isom` or `avc1` is listed.
+fn base(ftyp: &[u8]) -> usize
+    ensures { λ r. ⌜ r ≡ oneIf (isomOrAvc1 (now (ftyp .entry))) ⌝ }
+{
+    if compatible::listed(ftyp, codes::ISOM) != 0 {
+        return 1;
+    }
+    compatible::listed(ftyp, codes::AVC1)
 }
 
 // A track's handler.
@@ -44,7 +66,7 @@ fn handled(file: &[u8], e: Tracks, h: usize) -> usize
     let mut t = 0;
     let mut sum = 0;
     while t < n {
-        sum += compatible::equal(handler(file, e, t), h);
+        sum += equal(handler(file, e, t), h);
         t += 1;
     }
     sum
@@ -56,7 +78,7 @@ fn one_entry(file: &[u8], l: Lists, t: usize) -> usize
     ensures { λ r. ⌜ r ≡ oneIf (oneEntry (track (now (file .entry)) t)) ⌝ }
 {
     let s = entries::list_slot(l, t);
-    compatible::equal(s.n, 1)
+    equal(s.n, 1)
 }
 
 // Whether it has one if it is to have one.
@@ -95,7 +117,7 @@ fn no_avc1(file: &[u8], l: Lists, t: usize) -> usize
     ensures { λ r. ⌜ r ≡ oneIf (noAvc1 (track (now (file .entry)) t)) ⌝ }
 {
     let s = entries::list_slot(l, t);
-    compatible::equal(seek::count(gather::bytes(file, s), codes::AVC1), 0)
+    equal(seek::count(gather::bytes(file, s), codes::AVC1), 0)
 }
 
 fn no_avc1_in(file: &[u8], l: Lists) -> usize
@@ -155,7 +177,7 @@ fn second(file: &[u8]) -> usize
 fn ready(file: &[u8]) -> usize
     ensures { λ r. ⌜ r ≡ oneIf (readyOf (now (file .entry))) ⌝ }
 {
-    compatible::equal(second(file), codes::MOOV)
+    equal(second(file), codes::MOOV)
 }
 
 // All of them.
@@ -163,9 +185,11 @@ pub fn asked(file: &[u8], e: Tracks, l: Lists) -> Own
     requires { ⌜ TracksAt (now file) e × ListsAt (now file) l × (tracks (now file) ≤ 4) ⌝ }
     ensures { λ r. ⌜ OwnAt (now (file .entry)) r ⌝ }
 {
+    let ftyp = seek::payload(file, codes::FTYP, 0);
     let few = few(file, e, l);
     Own {
-        isom: compatible::times(seek::payload(file, codes::FTYP, 0), codes::ISOM),
+        isom: compatible::listed(ftyp, codes::ISOM),
+        base: base(ftyp),
         early: early(file, l, few),
         few,
         ready: ready(file),

@@ -1,19 +1,36 @@
 // The brands that a file answers to.
-mod compatible;
 pub mod conditions;
 
 use conditions::Own;
 use judge::Judgement;
 use layout::entries;
 use layout::every::Tracks;
+use release::compatible;
 use rule::Answer;
 ghost use mathlib.Core.Path.{_≡_};
 ghost use Rattle.wire.specs.Clauses.{oneIf};
+ghost use Rattle.codes.specs.Codes.{FTYP};
+ghost use Rattle.boxes.specs.Boxes.{boxes};
+ghost use Rattle.boxes.specs.Seek.{find};
 ghost use Rattle.layout.specs.Every.{TracksAt};
 ghost use Rattle.judge.specs.Acceptance.{Meets};
-ghost use Rattle.brands.specs.Brands.{ownConditions, brandHolds};
+ghost use Rattle.brands.specs.Brands.{besideIt, ownConditions, brandHolds};
 ghost use Rattle.brands.specs.Own.{OwnAt};
 ghost use Rattle.brands.specs.Calls.{brandAnswer};
+
+// Whether the list has what a brand asks for beside its own code: 1 or 0.
+fn beside(file: &[u8], o: Own, code: usize) -> usize
+    requires { ⌜ OwnAt (now file) o ⌝ }
+    ensures { λ r. ⌜ r ≡ oneIf (besideIt code (find FTYP (boxes (now (file .entry))))) ⌝ }
+{
+    if code == codes::GP4 {
+        return 1;
+    }
+    if code == codes::GP5 {
+        return o.isom;
+    }
+    o.base
+}
 
 // Whether a brand's own conditions hold: 1 or 0, and 0 for any other code.
 fn own(file: &[u8], o: Own, code: usize) -> usize
@@ -41,10 +58,10 @@ pub fn brand_holds(file: &[u8], o: Own, code: usize) -> usize
     ensures { λ r. ⌜ r ≡ oneIf (brandHolds code (now (file .entry))) ⌝ }
 {
     let ftyp = boxes::seek::payload(file, codes::FTYP, 0);
-    if compatible::times(ftyp, code) == 0 {
+    if compatible::listed(ftyp, code) == 0 {
         return 0;
     }
-    if o.isom == 0 {
+    if beside(file, o, code) == 0 {
         return 0;
     }
     own(file, o, code)

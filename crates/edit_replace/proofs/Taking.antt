@@ -15,6 +15,7 @@ use Rattle.boxes.specs.Box.{Box, fieldOf, moreOf, size, header}
 use Rattle.boxes.proofs.Whole.{Good}
 use Rattle.movie.specs.Entries.{entries}
 use Rattle.movie.proofs.Spots.{bytes-none}
+use Rattle.release.specs.declared.Release.{Release}
 use Rattle.entry_heads.specs.Kinds.{SamrKind, kindOf}
 use Rattle.entry_rules.specs.Decoders.{recordRule}
 use Rattle.entry_rules.proofs.Kept.{recorded}
@@ -48,12 +49,12 @@ module _ (xs : List ℕ) (i : ℕ) where
 -- ---- a record that meets its rule
 
 -- is short, and its kind is editable
-pub record-short : (kind most : ℕ) (new : List ℕ) → recordRule kind most new ≡ true → (SamrKind ≤ kind) × (length new ≤ 31)
-record-short kind most new e = let d = recorded kind most new e in (d .least, d .short)
+pub record-short : (kind : ℕ) (release : Release) (new : List ℕ) → recordRule kind release new ≡ true → (SamrKind ≤ kind) × (length new ≤ 31)
+record-short kind release new e = let d = recorded kind release new e in (d .least, d .short)
 
 -- so there is such an entry
-pub record-first : (xs : List ℕ) (i most kind : ℕ) (new : List ℕ) → kind ≡ kindAt xs i → recordRule kind most new ≡ true → 1 ≤ i
-record-first xs i most kind new k e = eq-or i 0 (λ z. absurd (omega (arith, kind-zero xs i z, record-short kind most new e .0))) (λ z. omega arith)
+pub record-first : (xs : List ℕ) (i : ℕ) (release : Release) (kind : ℕ) (new : List ℕ) → kind ≡ kindAt xs i → recordRule kind release new ≡ true → 1 ≤ i
+record-first xs i release kind new k e = eq-or i 0 (λ z. absurd (omega (arith, kind-zero xs i z, record-short kind release new e .0))) (λ z. omega arith)
 
 -- ---- whether a kind takes a record
 

@@ -18,7 +18,7 @@ use Rattle.boxes.specs.Words.{moved, rewordLeaf}
 use Rattle.movie.specs.declared.entry.Spot.the-variants.{In}
 use Rattle.movie.specs.Entries.{entries}
 use Rattle.entry_heads.specs.Heads.{headSize}
-use Rattle.entry_rules.specs.Entries.{FRAMES}
+use Rattle.release.specs.declared.Release.{Release}
 use Rattle.entry_rules.specs.Decoders.{recordRule}
 use Rattle.edit_offsets.specs.Close.{shutAt, closed}
 use Rattle.edit_offsets.specs.Settle.{offsets, settled}
@@ -76,8 +76,8 @@ module _ (xs : List ℕ) (b : BoxAt) (p : Place) (keep : ℕ) (new out : List �
 -- ---- the entry
 
 -- no record goes into an entry past them all
-pub past-none : (xs : List ℕ) (i : ℕ) (new : List ℕ) → length (entries xs) ≤ i - 1 → {kind : ℕ} → kind ≡ kindAt xs i → recordRule kind FRAMES new ≡ true → ⊥
-past-none xs i new m {kind} g h = omega (arith, kind-none xs i m, record-short kind FRAMES new h .0)
+pub past-none : (xs : List ℕ) (i : ℕ) (release : Release) (new : List ℕ) → length (entries xs) ≤ i - 1 → {kind : ℕ} → kind ≡ kindAt xs i → recordRule kind release new ≡ true → ⊥
+past-none xs i release new m {kind} g h = omega (arith, kind-none xs i m, record-short kind release new h .0)
 
 -- ---- the head
 

@@ -4,8 +4,9 @@ use mathlib.Core.List.{List, [], _∷_}
 use lib.ListN.{length}
 use Rattle.boxes.specs.declared.walk.BoxAt.{BoxAt}
 use Rattle.boxes.specs.declared.words.By.{By}
+use Rattle.boxes.specs.Boxes.{boxes}
 use Rattle.boxes.specs.Containers.{LONGEST}
-use Rattle.entry_rules.specs.Entries.{FRAMES}
+use Rattle.release.specs.Releases.{releaseOf}
 use Rattle.entry_rules.specs.Decoders.{recordRule}
 use Rattle.rule.specs.Results.{Result, asked, inLimit}
 use Rattle.rule.specs.Results.Result.{gives}
@@ -36,7 +37,7 @@ unfoldable pub entryResult : List ℕ → ℕ → List ℕ → Result
 entryResult xs i new =
     asked
     ((20, takes (kindAt xs i) new)
-    ∷ (21, recordRule (kindAt xs i) FRAMES new)
+    ∷ (21, recordRule (kindAt xs i) (releaseOf (boxes xs)) new)
     ∷ (23, editable xs)
     ∷ (24, inLimit (replaceOf xs i new))
     ∷ []) (gives (replaceOf xs i new))

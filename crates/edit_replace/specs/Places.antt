@@ -16,7 +16,7 @@ use Rattle.movie.specs.Stsds.{stsdsFrom}
 use Rattle.movie.specs.Entries.{entriesIn}
 use Rattle.movie.specs.Named.{listIn, InTrack, spotIn}
 use Rattle.entry_heads.specs.Heads.{headSize}
-use Rattle.entry_rules.specs.Entries.{FRAMES}
+use Rattle.release.specs.Releases.{releaseOf}
 use Rattle.entry_rules.specs.Decoders.{recordRule}
 use Rattle.rule.specs.Results.{Result, asked, inLimit}
 use Rattle.rule.specs.Results.Result.{gives}
@@ -90,7 +90,7 @@ unfoldable pub placeResult : List ℕ → BoxAt → Place → ℕ → List ℕ �
 placeResult xs b p kind new =
     asked
     ((20, takes kind new)
-    ∷ (21, recordRule kind FRAMES new)
+    ∷ (21, recordRule kind (releaseOf (boxes xs)) new)
     ∷ (23, editable xs)
     ∷ (24, inLimit (placeText xs b p kind new))
     ∷ []) (gives (placeText xs b p kind new))

@@ -9,7 +9,7 @@ use Rattle.wire.specs.Clauses.{isEq, isLt, every}
 use Rattle.wire.specs.Numbers.{word}
 use Rattle.codes.specs.Codes.{MOOV, TRAK, DAMR, D263}
 use Rattle.boxes.specs.declared.way.Turn.{Turn}
-use Rattle.boxes.specs.Boxes.{HEAD, FRONT}
+use Rattle.boxes.specs.Boxes.{HEAD, FRONT, boxes}
 use Rattle.boxes.specs.Seek.{ANY}
 use Rattle.boxes.specs.Way.{editWay, tailBy}
 use Rattle.movie.specs.declared.entry.Spot.{Spot}
@@ -20,7 +20,7 @@ use Rattle.movie.specs.Entries.{entries}
 use Rattle.movie.specs.Named.{spotIn, bytesAt}
 use Rattle.entry_heads.specs.Kinds.{OtherKind, SamrKind, SawbKind, S263Kind, kindOf}
 use Rattle.entry_heads.specs.Heads.{headSize}
-use Rattle.entry_rules.specs.Entries.{FRAMES}
+use Rattle.release.specs.Releases.{releaseOf}
 use Rattle.entry_rules.specs.Decoders.{recordRule}
 use Rattle.rule.specs.Results.{Result, inLimit}
 use Rattle.judge.specs.Calls.{resultOn}
@@ -70,7 +70,7 @@ unfoldable pub replaceResult : List ℕ → ℕ → List ℕ → Result
 replaceResult xs i new =
     resultOn xs
     ((20, takes (kindAt xs i) new)
-    ∷ (21, recordRule (kindAt xs i) FRAMES new)
+    ∷ (21, recordRule (kindAt xs i) (releaseOf (boxes xs)) new)
     ∷ (23, editable xs)
     ∷ (24, inLimit (replaceOf xs i new))
     ∷ [])

@@ -8,7 +8,7 @@ use lib.Dec.{ltb}
 use lib.ListN.{length, drop}
 use lib.Seq.{sets, sets-eq}
 use Rattle.wire.specs.Tests.{pick, ifLt}
-use Rattle.entry_rules.specs.Entries.{FRAMES}
+use Rattle.release.specs.declared.Release.{Release}
 use Rattle.entry_records.specs.declared.field.Record.{Record}
 use Rattle.entry_records.specs.declared.field.Record.the-variants.{Speech, Picture, Broken}
 use Rattle.entry_records.specs.declared.record.Written.{Written}
@@ -30,14 +30,14 @@ put-fits ns out h = let z : 0 + length ns ≡ length ns = omega arith in exact-w
 
 -- ---- the reader
 
-module _ (xs out : List ℕ) {r : Record} (e : r ≡ readOf FRAMES xs) where
-  pub read-some : (s : Record) → r ≡ s → isRecord s ≡ true → {a : Answer} {left : List ℕ} → Exact (gives (fieldsOf s)) out a left → Exact (readResult xs) out a left
+module _ (release : Release) (xs out : List ℕ) {r : Record} (e : r ≡ readOf release xs) where
+  pub read-some : (s : Record) → r ≡ s → isRecord s ≡ true → {a : Answer} {left : List ℕ} → Exact (gives (fieldsOf s)) out a left → Exact (readResult release xs) out a left
   unfolding readResult asked
-  read-some s g h x = let f : readOf FRAMES xs ≡ s = sym e ∙ g in rw (f, h) x
+  read-some s g h x = let f : readOf release xs ≡ s = sym e ∙ g in rw (f, h) x
 
-  pub read-broken : r ≡ Broken → Exact (readResult xs) out (Refused 21 0) out
+  pub read-broken : r ≡ Broken → Exact (readResult release xs) out (Refused 21 0) out
   unfolding readResult asked
-  read-broken g = let f : readOf FRAMES xs ≡ Broken = sym e ∙ g in rw f (exact-refuses 21 0 out)
+  read-broken g = let f : readOf release xs ≡ Broken = sym e ∙ g in rw f (exact-refuses 21 0 out)
 
 -- ---- the writer
 
@@ -59,8 +59,8 @@ writes true r out = record { answers = go (ltb (length out) (length (textOf r)))
     go true = refl
     go false = refl
 
-pub write-as : (ns out : List ℕ) {r : Record} {w v : Written} {left : List ℕ} → r ≡ recordOf ns → (w ≡ writtenOf FRAMES r out) × (left ≡ outOf FRAMES r out) → w ≡ v → Exact (writeResult ns) out (writtenAnswer v) left
+pub write-as : (release : Release) (ns out : List ℕ) {r : Record} {w v : Written} {left : List ℕ} → r ≡ recordOf ns → (w ≡ writtenOf release r out) × (left ≡ outOf release r out) → w ≡ v → Exact (writeResult release ns) out (writtenAnswer v) left
 unfolding writeResult writtenOf outOf
-write-as ns out e (p, q) g =
-    let x = writes (fieldsRule FRAMES (recordOf ns)) (recordOf ns) out in
+write-as release ns out e (p, q) g =
+    let x = writes (fieldsRule release (recordOf ns)) (recordOf ns) out in
     record { answers = ap writtenAnswer (sym g ∙ p) ∙ rw e (x .answers); leaves = q ∙ rw e (x .leaves) }

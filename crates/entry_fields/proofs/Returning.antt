@@ -11,7 +11,7 @@ use Rattle.wire.specs.Tests.{ifEq}
 use Rattle.wire.specs.Numbers.{Bytes}
 use Rattle.wire.proofs.Clauses.{clause}
 use Rattle.wire.proofs.Tests.{eq-ways}
-use Rattle.entry_rules.specs.Entries.{FRAMES}
+use Rattle.release.specs.declared.Release.{Release}
 use Rattle.entry_records.specs.declared.field.Record.{Record}
 use Rattle.entry_records.specs.declared.field.Record.the-variants.{Speech, Picture, Broken}
 use Rattle.entry_records.specs.Fields.{fieldsRule}
@@ -68,8 +68,8 @@ is-record Broken h = absurd (h refl)
 not-broken : (r : Record) → isRecord r ≡ true → r ≡ Broken → ⊥
 not-broken r e g = false≢true (sym (ap isRecord g) ∙ e)
 
-rule-some : (r : Record) → fieldsRule FRAMES r ≡ true → r ≡ Broken → ⊥
-rule-some r e g = false≢true (sym (ap (fieldsRule FRAMES) g) ∙ e)
+rule-some : (release : Release) (r : Record) → fieldsRule release r ≡ true → r ≡ Broken → ⊥
+rule-some release r e g = false≢true (sym (ap (fieldsRule release) g) ∙ e)
 
 -- a test that holds says nothing
 holding : (n : ℕ) (t : Bool) (g : Result) → t ≡ true → asked ((n, t) ∷ []) g ≡ g
@@ -77,21 +77,21 @@ unfolding asked
 holding n t g e = rw e
 
 -- numbers that the writer takes: reading the entry that it wrote gives them
-pub written-back : (ns out : List ℕ) (n : ℕ) → answerIn (writeResult ns) out ≡ Done n → readResult (take n (leftIn (writeResult ns) out)) ≡ gives ns
+pub written-back : (release : Release) (ns out : List ℕ) (n : ℕ) → answerIn (writeResult release ns) out ≡ Done n → readResult release (take n (leftIn (writeResult release ns) out)) ≡ gives ns
 unfolding writeResult readResult
-written-back ns out n e =
-    let a = asked-done ((21, fieldsRule FRAMES (recordOf ns)) ∷ []) (textOf (recordOf ns)) out n e in
-    let c : fieldsRule FRAMES (recordOf ns) ≡ true = clause 0 _ (a .0) in
-    let h = rule-some (recordOf ns) c in
+written-back release ns out n e =
+    let a = asked-done ((21, fieldsRule release (recordOf ns)) ∷ []) (textOf (recordOf ns)) out n e in
+    let c : fieldsRule release (recordOf ns) ≡ true = clause 0 _ (a .0) in
+    let h = rule-some release (recordOf ns) c in
     let t : take n (leftIn (gives (textOf (recordOf ns))) out) ≡ textOf (recordOf ns) = gives-done _ out n (rw (a .1) at e) .taken in
-    rw (a .1, t, written-reads FRAMES (recordOf ns) c, fields-back ns h) (holding 21 (isRecord (recordOf ns)) (gives ns) (is-record (recordOf ns) h))
+    rw (a .1, t, written-reads release (recordOf ns) c, fields-back ns h) (holding 21 (isRecord (recordOf ns)) (gives ns) (is-record (recordOf ns) h))
 
 -- an entry that the reader takes: writing the fields that it read gives its bytes
-pub read-back : (xs room : List ℕ) (n : ℕ) → Bytes xs → answerIn (readResult xs) room ≡ Done n → writeResult (take n (leftIn (readResult xs) room)) ≡ gives xs
+pub read-back : (release : Release) (xs room : List ℕ) (n : ℕ) → Bytes xs → answerIn (readResult release xs) room ≡ Done n → writeResult release (take n (leftIn (readResult release xs) room)) ≡ gives xs
 unfolding writeResult readResult
-read-back xs room n b e =
-    let a = asked-done ((21, isRecord (readOf FRAMES xs)) ∷ []) (fieldsOf (readOf FRAMES xs)) room n e in
-    let c : isRecord (readOf FRAMES xs) ≡ true = clause 0 _ (a .0) in
-    let w = read-writes FRAMES xs b (readOf FRAMES xs) refl (not-broken (readOf FRAMES xs) c) in
-    let t : take n (leftIn (gives (fieldsOf (readOf FRAMES xs))) room) ≡ fieldsOf (readOf FRAMES xs) = gives-done _ room n (rw (a .1) at e) .taken in
-    rw (a .1, t, record-back (readOf FRAMES xs), w .text) (holding 21 (fieldsRule FRAMES (readOf FRAMES xs)) (gives xs) (w .rule))
+read-back release xs room n b e =
+    let a = asked-done ((21, isRecord (readOf release xs)) ∷ []) (fieldsOf (readOf release xs)) room n e in
+    let c : isRecord (readOf release xs) ≡ true = clause 0 _ (a .0) in
+    let w = read-writes release xs b (readOf release xs) refl (not-broken (readOf release xs) c) in
+    let t : take n (leftIn (gives (fieldsOf (readOf release xs))) room) ≡ fieldsOf (readOf release xs) = gives-done _ room n (rw (a .1) at e) .taken in
+    rw (a .1, t, record-back (readOf release xs), w .text) (holding 21 (fieldsRule release (readOf release xs)) (gives xs) (w .rule))

@@ -4,8 +4,8 @@ use mathlib.Core.Bool.{Bool, true, false}
 use mathlib.Core.List.{List, [], _∷_}
 use lib.ListN.{length, getD}
 use Rattle.wire.specs.Tests.{ifEq}
+use Rattle.release.specs.declared.Release.{Release}
 use Rattle.entry_heads.specs.Kinds.{S263Kind}
-use Rattle.entry_rules.specs.Entries.{FRAMES}
 use Rattle.entry_records.specs.declared.field.Amr.{Amr}
 use Rattle.entry_records.specs.declared.field.Rates.{Rates}
 use Rattle.entry_records.specs.declared.field.H263.{H263}
@@ -66,10 +66,10 @@ isRecord (Speech f) = true
 isRecord (Picture f) = true
 isRecord Broken = false
 
--- the fields of an entry: 21, 25
-unfoldable pub readResult : List ℕ → Result
-readResult xs = asked ((readNumber Broken, isRecord (readOf FRAMES xs)) ∷ []) (gives (fieldsOf (readOf FRAMES xs)))
+-- the fields of an entry of a release: 21, 25
+unfoldable pub readResult : Release → List ℕ → Result
+readResult release xs = asked ((readNumber Broken, isRecord (readOf release xs)) ∷ []) (gives (fieldsOf (readOf release xs)))
 
--- the entry of fields: 21, 25
-unfoldable pub writeResult : List ℕ → Result
-writeResult ns = asked ((writtenNumber BadFields, fieldsRule FRAMES (recordOf ns)) ∷ []) (gives (textOf (recordOf ns)))
+-- the entry of fields, of a release: 21, 25
+unfoldable pub writeResult : Release → List ℕ → Result
+writeResult release ns = asked ((writtenNumber BadFields, fieldsRule release (recordOf ns)) ∷ []) (gives (textOf (recordOf ns)))

@@ -12,6 +12,7 @@ use Rattle.codes.specs.Codes.{DAMR}
 use Rattle.wire.proofs.Clauses.{is-eq, is-lt, holds, done, one}
 use Rattle.wire.proofs.Numbers.{word-fits}
 use Rattle.wire.proofs.Putting.{grow}
+use Rattle.release.specs.declared.Release.{Release}
 use Rattle.entry_heads.specs.Kinds.{kindOf, codeOf}
 use Rattle.entry_heads.specs.Heads.{audioHead}
 use Rattle.entry_heads.proofs.Coding.{kind-code}
@@ -20,8 +21,8 @@ use Rattle.entry_rules.proofs.Speech.{Spoken, SpeechAt}
 use Rattle.entry_records.specs.Fields.{amrIn, amrRule}
 use Rattle.entry_records.specs.Texts.{amrText}
 
-module _ (most kind : ℕ) (xs : List ℕ) (b : Bytes xs) (s : Spoken kind) (k : kindOf (word 4 xs 4) ≡ kind) (p : SpeechAt kind most xs) where
-  pub amr-read-rule : amrRule most (amrIn kind xs) ≡ true
+module _ (release : Release) (kind : ℕ) (xs : List ℕ) (b : Bytes xs) (s : Spoken kind) (k : kindOf (word 4 xs 4) ≡ kind) (p : SpeechAt kind release xs) where
+  pub amr-read-rule : amrRule release (amrIn kind xs) ≡ true
   unfolding amrRule
   amr-read-rule =
       sym

@@ -8,3 +8,4 @@ pub mod Showing
 pub mod Seeing
 pub mod Reading
 pub mod Rewriting
+pub mod Wider

@@ -11,6 +11,7 @@ use Rattle.wire.specs.Numbers.{bytesOn, bytes, word}
 use Rattle.codes.specs.Codes.{DAMR}
 use Rattle.wire.proofs.Clauses.{lt-is, clause}
 use Rattle.wire.proofs.Numbers.{word-bytes}
+use Rattle.release.specs.declared.Release.{Release}
 use Rattle.entry_heads.specs.Kinds.{codeOf}
 use Rattle.entry_heads.specs.Heads.{boxHeader, commonHead, audioHead}
 use Rattle.entry_heads.proofs.Heading.{audio-made}
@@ -38,7 +39,7 @@ pub record AmrWords (f : Amr) (xs : List ℕ) : Type 0 where
   pub period : word 1 xs 51 ≡ f .period
   pub frames : word 1 xs 52 ≡ f .frames
 
-module _ (most : ℕ) (f : Amr) (s : Spoken (f .kind)) (a : amrRule most f ≡ true) where
+module _ (release : Release) (f : Amr) (s : Spoken (f .kind)) (a : amrRule release f ≡ true) where
   pub amr-words : AmrWords f (amrText f)
   unfolding amrRule amrText audioHead commonHead boxHeader bytes bytesOn word ifLe
   amr-words =
@@ -60,7 +61,7 @@ module _ (most : ℕ) (f : Amr) (s : Spoken (f .kind)) (a : amrRule most f ≡ t
   unfolding amrText audioHead commonHead boxHeader bytes bytesOn
   amr-front = refl
 
-  pub amr-at : SpeechAt (f .kind) most (amrText f)
+  pub amr-at : SpeechAt (f .kind) release (amrText f)
   unfolding amrRule
   amr-at =
       let w = amr-words in

@@ -6,6 +6,7 @@ use lib.ListN.{length}
 use Rattle.wire.specs.Tests.{ifEq}
 use Rattle.wire.specs.Clauses.{isEq, isLt, every, either}
 use Rattle.wire.specs.Numbers.{word}
+use Rattle.release.specs.declared.Release.{Release}
 use Rattle.entry_heads.specs.Kinds.{SamrKind, SawbKind, S263Kind}
 use Rattle.entry_rules.specs.Decoders.{framesRule}
 use Rattle.entry_records.specs.declared.field.Amr.{Amr}
@@ -55,8 +56,8 @@ recordIn kind xs =
 -- ---- their rule: every number fits its place, and the decoder record's own rule holds
 
 -- a `samr` or a `sawb`
-unfoldable pub amrRule : ℕ → Amr → Bool
-amrRule most f =
+unfoldable pub amrRule : Release → Amr → Bool
+amrRule release f =
     every
     (either (isEq (f .kind) SamrKind ∷ isEq (f .kind) SawbKind ∷ [])
     ∷ isLt (f .reference) 65536
@@ -66,7 +67,7 @@ amrRule most f =
     ∷ isLt (f .modes) 65536
     ∷ isLt (f .period) 256
     ∷ isLt (f .frames) 256
-    ∷ framesRule (f .kind) most (f .modes) (f .period) (f .frames)
+    ∷ framesRule (f .kind) release (f .modes) (f .period) (f .frames)
     ∷ [])
 
 -- the rates of a `bitr` fit their places; without one they are 0
@@ -91,7 +92,7 @@ h263Rule f =
     ∷ ratesRule (f .rates)
     ∷ [])
 
-abbrev pub fieldsRule : ℕ → Record → Bool
-fieldsRule most (Speech f) = amrRule most f
-fieldsRule most (Picture f) = h263Rule f
-fieldsRule most Broken = false
+abbrev pub fieldsRule : Release → Record → Bool
+fieldsRule release (Speech f) = amrRule release f
+fieldsRule release (Picture f) = h263Rule f
+fieldsRule release Broken = false

@@ -4,6 +4,7 @@ use mathlib.Core.List.{List, [], _∷_, _++_}
 use lib.ListN.{length, drop}
 use Rattle.wire.specs.Tests.{pick, ifLt}
 use Rattle.wire.specs.Numbers.{word}
+use Rattle.release.specs.declared.Release.{Release}
 use Rattle.entry_heads.specs.Kinds.{S263Kind, kindOf}
 use Rattle.entry_rules.specs.declared.entry.Around.the-variants.{Alone}
 use Rattle.entry_rules.specs.Entries.{entryRule}
@@ -44,17 +45,17 @@ writtenValue TooShort = 0
 -- ---- the reader
 
 -- the fields of an entry of one of the three kinds that meets its rule alone
-unfoldable pub readOf : ℕ → List ℕ → Record
-readOf most xs = pick (entryRule Alone most xs) (recordIn (kindOf (word 4 xs 4)) xs) Broken
+unfoldable pub readOf : Release → List ℕ → Record
+readOf release xs = pick (entryRule Alone release xs) (recordIn (kindOf (word 4 xs 4)) xs) Broken
 
 -- ---- the writer
 
 -- fields that break the rule are refused first, then a buffer that is too short
-unfoldable pub writtenOf : ℕ → Record → List ℕ → Written
-writtenOf most r out =
-    pick (fieldsRule most r) (ifLt (length out) (length (textOf r)) TooShort (Done (length (textOf r)))) BadFields
+unfoldable pub writtenOf : Release → Record → List ℕ → Written
+writtenOf release r out =
+    pick (fieldsRule release r) (ifLt (length out) (length (textOf r)) TooShort (Done (length (textOf r)))) BadFields
 
 -- a refusal writes nothing; else the entry stands at the front, and what lies past it stays
-unfoldable pub outOf : ℕ → Record → List ℕ → List ℕ
-outOf most r out =
-    pick (fieldsRule most r) (ifLt (length out) (length (textOf r)) out (textOf r ++ drop (length (textOf r)) out)) out
+unfoldable pub outOf : Release → Record → List ℕ → List ℕ
+outOf release r out =
+    pick (fieldsRule release r) (ifLt (length out) (length (textOf r)) out (textOf r ++ drop (length (textOf r)) out)) out

@@ -1,6 +1,7 @@
 // The fields of a record, and their rule.
 use entry_heads::kind;
 use entry_rules::decoder;
+use release::Release;
 use wire::number;
 use wire::test;
 ghost use mathlib.Core.Path.{_≡_};
@@ -120,8 +121,8 @@ fn spoken(kind: usize) -> usize
 }
 
 // Whether each field of a `samr` or `sawb` fits its place and the modes, period and frames meet their rule: 1 or 0.
-fn amr_rule(most: usize, f: Amr) -> usize
-    ensures { λ r. ⌜ r ≡ oneIf (amrRule most f) ⌝ }
+fn amr_rule(release: Release, f: Amr) -> usize
+    ensures { λ r. ⌜ r ≡ oneIf (amrRule release f) ⌝ }
 {
     if spoken(f.kind) == 0 {
         return 0;
@@ -147,7 +148,7 @@ fn amr_rule(most: usize, f: Amr) -> usize
     if f.frames >= 256 {
         return 0;
     }
-    decoder::frames_rule(f.kind, most, f.modes, f.period, f.frames)
+    decoder::frames_rule(f.kind, release, f.modes, f.period, f.frames)
 }
 
 // Whether rates fit their places, or are 0 where no `bitr` follows: 1 or 0.
@@ -204,11 +205,11 @@ fn h263_rule(f: H263) -> usize
 }
 
 // Whether fields meet the rule: 1 or 0.
-pub fn rule(most: usize, fields: Record) -> usize
-    ensures { λ r. ⌜ r ≡ oneIf (fieldsRule most fields) ⌝ }
+pub fn rule(release: Release, fields: Record) -> usize
+    ensures { λ r. ⌜ r ≡ oneIf (fieldsRule release fields) ⌝ }
 {
     match fields {
-        Record::Speech(f) => amr_rule(most, f),
+        Record::Speech(f) => amr_rule(release, f),
         Record::Picture(f) => h263_rule(f),
         Record::Broken => 0,
     }

@@ -10,6 +10,7 @@ use Rattle.wire.specs.Tests.{ifEq}
 use Rattle.wire.specs.Numbers.{word}
 use Rattle.wire.proofs.Tests.{eq-ways}
 use Rattle.wire.proofs.Clauses.{eq-is, clause, of-two}
+use Rattle.release.specs.declared.Release.{Release}
 use Rattle.entry_heads.specs.Kinds.{SamrKind, SawbKind, S263Kind, kindOf, handlerOf}
 use Rattle.entry_heads.specs.Heads.{headSize}
 use Rattle.entry_heads.proofs.Heading.{head-inside, head-alike}
@@ -29,20 +30,20 @@ pub record Recorded (kind : ℕ) (ys : List ℕ) : Type 0 where
   pub room : headSize kind ≤ 86
   pub short : length ys ≤ 31
 
-damr-short : (kind most : ℕ) (ys : List ℕ) → damrRule kind most ys ≡ true → length ys ≤ 31
+damr-short : (kind : ℕ) (release : Release) (ys : List ℕ) → damrRule kind release ys ≡ true → length ys ≤ 31
 unfolding damrRule
-damr-short kind most ys e = omega (arith, eq-is _ _ (clause 1 _ e))
+damr-short kind release ys e = omega (arith, eq-is _ _ (clause 1 _ e))
 
 d263-short : (ys : List ℕ) → d263Rule ys ≡ true → length ys ≤ 31
 unfolding d263Rule ratedRule
 d263-short ys e = of-two _ _ (clause 1 _ e) (λ w. omega (arith, eq-is _ _ w)) (λ w. omega (arith, eq-is _ _ (clause 0 _ w)))
 
-pub recorded : (kind most : ℕ) (ys : List ℕ) → recordRule kind most ys ≡ true → Recorded kind ys
+pub recorded : (kind : ℕ) (release : Release) (ys : List ℕ) → recordRule kind release ys ≡ true → Recorded kind ys
 unfolding recordRule headSize handlerOf ifEq
-recorded kind most ys e =
-    ⊎-elim (λ w. told SamrKind (omega arith) (omega arith) (omega arith) (omega arith) (w .0) (damr-short kind most ys (w .1)))
+recorded kind release ys e =
+    ⊎-elim (λ w. told SamrKind (omega arith) (omega arith) (omega arith) (omega arith) (w .0) (damr-short kind release ys (w .1)))
     (λ u.
-    ⊎-elim (λ w. told SawbKind (omega arith) (omega arith) (omega arith) (omega arith) (w .0) (damr-short kind most ys (w .1)))
+    ⊎-elim (λ w. told SawbKind (omega arith) (omega arith) (omega arith) (omega arith) (w .0) (damr-short kind release ys (w .1)))
     (λ v. ⊎-elim (λ w. told S263Kind (omega arith) (omega arith) (omega arith) (omega arith) (w .0) (d263-short ys (w .1))) (λ w. absurd (false≢true (w .1))) (eq-ways kind S263Kind _ _ _ (v .1)))
     (eq-ways kind SawbKind _ _ _ (u .1)))
     (eq-ways kind SamrKind _ _ _ e)
@@ -59,26 +60,26 @@ around-same (Track scale handler references) kind xs ys p q = rw (p, q)
 around-same Alone kind xs ys p q = refl
 
 -- the head of an entry that meets its rule lies inside
-pub entry-head : (around : Around) (most kind : ℕ) (xs : List ℕ) → kindOf (word 4 xs 4) ≡ kind → entryRule around most xs ≡ true → headSize kind ≤ length xs
+pub entry-head : (around : Around) (release : Release) (kind : ℕ) (xs : List ℕ) → kindOf (word 4 xs 4) ≡ kind → entryRule around release xs ≡ true → headSize kind ≤ length xs
 unfolding entryRule
-entry-head around most kind xs k e = head-inside kind xs (rule-met kind around most xs (rw k at e) .head)
+entry-head around release kind xs k e = head-inside kind xs (rule-met kind around release xs (rw k at e) .head)
 
-pub entry-kept : (around : Around) (most kind : ℕ) (xs ys : List ℕ) → kindOf (word 4 xs 4) ≡ kind → entryRule around most xs ≡ true
-    → recordRule kind most ys ≡ true → entryRule around most (behindHead (headSize kind) xs ys) ≡ true
+pub entry-kept : (around : Around) (release : Release) (kind : ℕ) (xs ys : List ℕ) → kindOf (word 4 xs 4) ≡ kind → entryRule around release xs ≡ true
+    → recordRule kind release ys ≡ true → entryRule around release (behindHead (headSize kind) xs ys) ≡ true
 unfolding entryRule
-entry-kept around most kind xs ys k e r =
-    let m = rule-met kind around most xs (rw k at e) in
-    let d = recorded kind most ys r in
-    let i = entry-head around most kind xs k e in
+entry-kept around release kind xs ys k e r =
+    let m = rule-met kind around release xs (rw k at e) in
+    let d = recorded kind release ys r in
+    let i = entry-head around release kind xs k e in
     let s : headSize kind + length ys < 4294967296 = omega arith in
     let h : 4 ≤ headSize kind = omega arith in
     let w = new-word (headSize kind) xs ys h i s in
     let l = new-length (headSize kind) xs ys h i s in
     rw (w 4 0 (omega arith), k)
-    (rule-is kind around most (behindHead (headSize kind) xs ys)
+    (rule-is kind around release (behindHead (headSize kind) xs ys)
     (record {
       span = new-size (headSize kind) xs ys h i s ∙ sym l;
       head = head-alike kind xs (behindHead (headSize kind) xs ys) (omega arith) w (m .head);
       fits = around-same around kind xs (behindHead (headSize kind) xs ys) (w 2 10 (omega arith)) (w 2 28 (omega arith)) ∙ m .fits;
-      inside = rw (new-rest (headSize kind) xs ys h i s) (inside-record kind most ys (d .least) (d .most) ∙ r);
+      inside = rw (new-rest (headSize kind) xs ys h i s) (inside-record kind release ys (d .least) (d .most) ∙ r);
     }))

@@ -4,3 +4,4 @@ pub mod Speech
 pub mod Picture
 pub mod Replacing
 pub mod Kept
+pub mod Widening

@@ -11,6 +11,7 @@ use Rattle.wire.specs.Numbers.{word}
 use Rattle.codes.specs.Codes.{VIDE, D263, BITR}
 use Rattle.wire.proofs.Clauses.{is-eq, eq-is, holds, done, clause, one, of-two}
 use Rattle.wire.proofs.Numbers.{word-drop}
+use Rattle.release.specs.declared.Release.{Release}
 use Rattle.entry_heads.specs.Kinds.{S263Kind, handlerOf}
 use Rattle.entry_heads.specs.Heads.{visualRule}
 use Rattle.entry_heads.proofs.Heading.{visual-size, visual-rule}
@@ -33,14 +34,14 @@ pub record RatedAt (xs : List ℕ) : Type 0 where
   pub span : word 4 xs 101 ≡ 16
   pub code : word 4 xs 105 ≡ BITR
 
-module _ (most : ℕ) (xs : List ℕ) where
+module _ (release : Release) (xs : List ℕ) where
   vide : handlerOf S263Kind ≡ VIDE
   unfolding handlerOf ifEq
   vide = refl
 
-  inside : insideRule S263Kind most (drop 86 xs) ≡ d263Rule (drop 86 xs)
+  inside : insideRule S263Kind release (drop 86 xs) ≡ d263Rule (drop 86 xs)
   unfolding recordRule ifEq
-  inside = inside-record S263Kind most (drop 86 xs) (omega arith) (omega arith)
+  inside = inside-record S263Kind release (drop 86 xs) (omega arith) (omega arith)
 
   -- a word behind the start of the `d263`
   further : (at : ℕ) → word 4 (drop 15 (drop 86 xs)) at ≡ word 4 xs (86 + (15 + at))
@@ -48,7 +49,7 @@ module _ (most : ℕ) (xs : List ℕ) where
 
   module _ (around : Around) where
     -- the start, from the rule
-    start-met : (n : ℕ) → Met S263Kind around most xs → length (drop 86 xs) ≡ 15 + n → boxRule D263 (drop 86 xs) ≡ true → PictureAt (15 + n) xs
+    start-met : (n : ℕ) → Met S263Kind around release xs → length (drop 86 xs) ≡ 15 + n → boxRule D263 (drop 86 xs) ≡ true → PictureAt (15 + n) xs
     start-met n m l e =
         let b = box-met D263 (drop 86 xs) e in
         let k : length xs ≡ 86 + (15 + n) = omega (arith, length-drop 86 xs) in
@@ -60,10 +61,10 @@ module _ (most : ℕ) (xs : List ℕ) where
           code = sym (word-drop 4 86 xs 4) ∙ b .1;
         }
 
-    pub picture-met : ruleAs S263Kind around most xs ≡ true → PictureAt 15 xs ⊎ RatedAt xs
+    pub picture-met : ruleAs S263Kind around release xs ≡ true → PictureAt 15 xs ⊎ RatedAt xs
     unfolding d263Rule ratedRule
     picture-met e =
-        let m = rule-met S263Kind around most xs e in
+        let m = rule-met S263Kind around release xs e in
         let d = sym inside ∙ (rw (visual-size S263Kind vide) at (m .inside)) in
         of-two _ _ (clause 1 _ d) (λ w. inl (start-met 0 m (eq-is _ _ w) (clause 0 _ d)))
         (λ w.
@@ -78,12 +79,12 @@ module _ (most : ℕ) (xs : List ℕ) where
 
     module _ (f : aroundRule around S263Kind xs ≡ true) where
       -- the rule, from the start and what follows it
-      start-is : (n : ℕ) → PictureAt n xs → ratedRule (drop 86 xs) ≡ true → ruleAs S263Kind around most xs ≡ true
+      start-is : (n : ℕ) → PictureAt n xs → ratedRule (drop 86 xs) ≡ true → ruleAs S263Kind around release xs ≡ true
       unfolding d263Rule
       start-is n p r =
           let l : length (drop 86 xs) ≡ n = rw (length-drop, p .long) (omega arith) in
           let b = box-is D263 (drop 86 xs) (word-drop 4 86 xs 0 ∙ p .inner ∙ sym l) (word-drop 4 86 xs 4 ∙ p .code) in
-          rule-is S263Kind around most xs
+          rule-is S263Kind around release xs
           (record {
             span = p .span ∙ sym (p .long);
             head = visual-rule S263Kind vide xs ∙ p .head;
@@ -91,11 +92,11 @@ module _ (most : ℕ) (xs : List ℕ) where
             inside = rw (visual-size S263Kind vide) (inside ∙ sym (holds _ _ b (holds _ _ r done)));
           })
 
-      pub picture-is : PictureAt 15 xs → ruleAs S263Kind around most xs ≡ true
+      pub picture-is : PictureAt 15 xs → ruleAs S263Kind around release xs ≡ true
       unfolding ratedRule
       picture-is p = start-is 15 p (sym (one 0 _ (is-eq _ _ (rw (length-drop, p .long)))))
 
-      pub rated-is : RatedAt xs → ruleAs S263Kind around most xs ≡ true
+      pub rated-is : RatedAt xs → ruleAs S263Kind around release xs ≡ true
       unfolding ratedRule
       rated-is p =
           let l : length (drop 86 xs) ≡ 31 = rw (length-drop, p .start .long) in

@@ -9,15 +9,12 @@ use Rattle.wire.specs.Numbers.{bytes, word}
 use Rattle.codes.specs.Codes.{ESDS, AVCC, SOUN}
 use Rattle.boxes.specs.Boxes.{boxes}
 use Rattle.boxes.specs.Seek.{count, plainTiles}
+use Rattle.release.specs.declared.Release.{Release}
 use Rattle.entry_heads.specs.Kinds.{OtherKind, Mp4vKind, Mp4aKind, Avc1Kind, kindOf, handlerOf}
 use Rattle.entry_heads.specs.Heads.{headSize, headRule}
 use Rattle.entry_rules.specs.declared.entry.Around.{Around}
 use Rattle.entry_rules.specs.declared.entry.Around.the-variants.{Track, Alone}
 use Rattle.entry_rules.specs.Decoders.{boxRule, recordRule}
-
--- the largest frames_per_sample
-abbrev pub FRAMES : ℕ
-FRAMES = 15
 
 -- ---- what a track says of its entries
 
@@ -50,25 +47,25 @@ unfoldable pub avcRule : List ℕ → Bool
 avcRule xs = every (plainTiles xs ∷ isEq (count AVCC (boxes xs)) 1 ∷ [])
 
 -- by the kind; after another code's head the "rest [is] opaque"
-unfoldable pub insideRule : ℕ → ℕ → List ℕ → Bool
-insideRule kind most xs =
+unfoldable pub insideRule : ℕ → Release → List ℕ → Bool
+insideRule kind release xs =
     ifEq kind OtherKind true
-    (ifEq kind Mp4vKind (esdsRule xs) (ifEq kind Mp4aKind (esdsRule xs) (ifEq kind Avc1Kind (avcRule xs) (recordRule kind most xs))))
+    (ifEq kind Mp4vKind (esdsRule xs) (ifEq kind Mp4aKind (esdsRule xs) (ifEq kind Avc1Kind (avcRule xs) (recordRule kind release xs))))
 
 -- ---- the whole
 
--- the size field is the length, the head that of the kind, and so is what follows it; `most` is the largest frames_per_sample
-unfoldable pub ruleAs : ℕ → Around → ℕ → List ℕ → Bool
-ruleAs kind around most xs =
+-- the size field is the length, the head that of the kind, and so is what follows it
+unfoldable pub ruleAs : ℕ → Around → Release → List ℕ → Bool
+ruleAs kind around release xs =
     every
     (isEq (word 4 xs 0) (length xs)
     ∷ headRule kind xs
     ∷ aroundRule around kind xs
-    ∷ insideRule kind most (drop (headSize kind) xs)
+    ∷ insideRule kind release (drop (headSize kind) xs)
     ∷ [])
 
-unfoldable pub entryRule : Around → ℕ → List ℕ → Bool
-entryRule around most xs = ruleAs (kindOf (word 4 xs 4)) around most xs
+unfoldable pub entryRule : Around → Release → List ℕ → Bool
+entryRule around release xs = ruleAs (kindOf (word 4 xs 4)) around release xs
 
 -- ---- another decoder record
 

@@ -1,5 +1,6 @@
 // Decoder records: the `damr` and `d263` boxes of an entry. Each answer is 1 or 0.
 use entry_heads::kind;
+use release::Release;
 use wire::lend;
 use wire::number;
 use wire::test;
@@ -50,8 +51,14 @@ fn period_rule(period: usize, frames: usize) -> usize
 }
 
 // Whether modes, period and frames meet the rule.
-pub fn frames_rule(kind: usize, most: usize, modes: usize, period: usize, frames: usize) -> usize
-    ensures { λ r. ⌜ r ≡ oneIf (framesRule kind most modes period frames) ⌝ }
+pub fn frames_rule(
+    kind: usize,
+    release: Release,
+    modes: usize,
+    period: usize,
+    frames: usize,
+) -> usize
+    ensures { λ r. ⌜ r ≡ oneIf (framesRule kind release modes period frames) ⌝ }
 {
     if modes_rule(kind, modes) == 0 {
         return 0;
@@ -59,15 +66,15 @@ pub fn frames_rule(kind: usize, most: usize, modes: usize, period: usize, frames
     if frames == 0 {
         return 0;
     }
-    if most < frames {
+    if release::most_frames(release) < frames {
         return 0;
     }
     period_rule(period, frames)
 }
 
 // Whether a part is the `damr` of a kind.
-fn damr_rule(kind: usize, most: usize, part: &[u8]) -> usize
-    ensures { λ r. ⌜ r ≡ oneIf (damrRule kind most (now (part .entry))) ⌝ }
+fn damr_rule(kind: usize, release: Release, part: &[u8]) -> usize
+    ensures { λ r. ⌜ r ≡ oneIf (damrRule kind release (now (part .entry))) ⌝ }
 {
     if box_rule(codes::DAMR, part) == 0 {
         return 0;
@@ -77,7 +84,7 @@ fn damr_rule(kind: usize, most: usize, part: &[u8]) -> usize
     }
     frames_rule(
         kind,
-        most,
+        release,
         number::word16(part, 13),
         number::byte(part, 15),
         number::byte(part, 16),
@@ -111,14 +118,14 @@ fn d263_rule(part: &[u8]) -> usize
 }
 
 // Whether a part is the decoder record of an entry of a kind.
-pub fn record_rule(kind: usize, most: usize, part: &[u8]) -> usize
-    ensures { λ r. ⌜ r ≡ oneIf (recordRule kind most (now (part .entry))) ⌝ }
+pub fn record_rule(kind: usize, release: Release, part: &[u8]) -> usize
+    ensures { λ r. ⌜ r ≡ oneIf (recordRule kind release (now (part .entry))) ⌝ }
 {
     if kind == kind::SAMR {
-        return damr_rule(kind, most, part);
+        return damr_rule(kind, release, part);
     }
     if kind == kind::SAWB {
-        return damr_rule(kind, most, part);
+        return damr_rule(kind, release, part);
     }
     if kind == kind::S263 {
         return d263_rule(part);

@@ -3,14 +3,12 @@ use crate::decoder;
 use boxes::seek;
 use entry_heads::head;
 use entry_heads::kind;
+use release::Release;
 use wire::lend;
 use wire::number;
 ghost use mathlib.Core.Path.{_≡_};
 ghost use Rattle.wire.specs.Clauses.{oneIf};
 ghost use Rattle.entry_rules.specs.Entries.{handlerRule, scaleRule, trackRule, aroundRule, esdsRule, avcRule, insideRule, ruleAs, entryRule};
-
-// The largest frames_per_sample.
-pub const FRAMES: usize = 15;
 
 // What stands around an entry: a track with its time scale, its handler and its count of data references, or nothing.
 pub enum Around {
@@ -107,8 +105,8 @@ fn avc_rule(part: &[u8]) -> usize
 }
 
 // Whether a part follows the head of a kind rightly.
-fn inside_rule(kind: usize, most: usize, part: &[u8]) -> usize
-    ensures { λ r. ⌜ r ≡ oneIf (insideRule kind most (now (part .entry))) ⌝ }
+fn inside_rule(kind: usize, release: Release, part: &[u8]) -> usize
+    ensures { λ r. ⌜ r ≡ oneIf (insideRule kind release (now (part .entry))) ⌝ }
 {
     if kind == kind::OTHER {
         return 1;
@@ -122,12 +120,12 @@ fn inside_rule(kind: usize, most: usize, part: &[u8]) -> usize
     if kind == kind::AVC1 {
         return avc_rule(part);
     }
-    decoder::record_rule(kind, most, part)
+    decoder::record_rule(kind, release, part)
 }
 
 // Whether an entry meets the rule of a kind.
-fn rule_as(kind: usize, around: Around, most: usize, entry: &[u8]) -> usize
-    ensures { λ r. ⌜ r ≡ oneIf (ruleAs kind around most (now (entry .entry))) ⌝ }
+fn rule_as(kind: usize, around: Around, release: Release, entry: &[u8]) -> usize
+    ensures { λ r. ⌜ r ≡ oneIf (ruleAs kind around release (now (entry .entry))) ⌝ }
 {
     if number::word32(entry, 0) != entry.len() {
         return 0;
@@ -138,12 +136,17 @@ fn rule_as(kind: usize, around: Around, most: usize, entry: &[u8]) -> usize
     if around_rule(around, kind, entry) == 0 {
         return 0;
     }
-    inside_rule(kind, most, lend::rest(entry, head::size(kind)))
+    inside_rule(kind, release, lend::rest(entry, head::size(kind)))
 }
 
-// Whether an entry meets rule 10; `most` is the largest frames_per_sample.
-pub fn entry_rule(entry: &[u8], around: Around, most: usize) -> usize
-    ensures { λ r. ⌜ r ≡ oneIf (entryRule around most (now (entry .entry))) ⌝ }
+// Whether an entry meets rule 10 of a release.
+pub fn entry_rule(entry: &[u8], around: Around, release: Release) -> usize
+    ensures { λ r. ⌜ r ≡ oneIf (entryRule around release (now (entry .entry))) ⌝ }
 {
-    rule_as(kind::of_code(number::word32(entry, 4)), around, most, entry)
+    rule_as(
+        kind::of_code(number::word32(entry, 4)),
+        around,
+        release,
+        entry,
+    )
 }

@@ -8,6 +8,7 @@ use Rattle.wire.specs.Tests.{ifEq, ifLt}
 use Rattle.wire.proofs.Tests.{eq-or}
 use Rattle.boxes.specs.Boxes.{boxes}
 use Rattle.boxes.specs.Containers.{FILE, DEPTH, LONGEST}
+use Rattle.release.specs.Releases.{releaseOf}
 use Rattle.rule.specs.Rule.{Rule}
 use Rattle.rule.proofs.Places.{placed-says}
 use Rattle.rule.proofs.Acceptance.{each-says}
@@ -39,7 +40,7 @@ split r s xs h = (also-first r s DEPTH FILE xs h, also-second r s DEPTH FILE xs 
 
 module _ (xs : List ℕ) (least : 8 ≤ length xs) (most : length xs ≤ LONGEST) where
   -- rule 1 and rules 2 to 9
-  nine-passed : Holds (rulesToNine (boxes xs)) xs → judged xs ≡ judgedFrom 10 (ten ∷ []) xs
+  nine-passed : Holds (rulesToNine (boxes xs)) xs → judged xs ≡ judgedFrom 10 (ten (releaseOf (boxes xs)) ∷ []) xs
   unfolding judged
   nine-passed h =
       let l = boxes xs in
@@ -60,5 +61,5 @@ module _ (xs : List ℕ) (least : 8 ≤ length xs) (most : length xs ≤ LONGEST
   unfolding leafBy nodeBy judgeBy ifEq ifLt
   sure-passed {r} s =
       eq-or r 10 (λ e. rw e (record { most = omega arith; is = nine-passed (s .nine (omega arith)) }))
-      (λ n. eq-or r 11 (λ e. rw e (record { most = omega arith; is = nine-passed (s .nine (omega arith)) ∙ skip ten-says 10 [] xs (s .ten (omega arith)) }))
+      (λ n. eq-or r 11 (λ e. rw e (record { most = omega arith; is = nine-passed (s .nine (omega arith)) ∙ skip (ten-says (releaseOf (boxes xs))) 10 [] xs (s .ten (omega arith)) }))
       (λ m. let e : r ≡ 2 = s .low (omega (arith, s .most)) in rw e (passed-none xs least most)))

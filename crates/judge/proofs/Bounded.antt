@@ -17,6 +17,7 @@ use Rattle.movie.specs.Movie.{storedCount}
 use Rattle.movie.specs.Stsds.{Stsd, stsdsFrom}
 use Rattle.movie.proofs.Stsds.{Each, each-from}
 use Rattle.movie.proofs.Stsds.Each.{none as no-more, more}
+use Rattle.release.specs.declared.Release.{Release}
 use Rattle.entry_rules.specs.declared.entry.Around.{Around}
 use Rattle.rule.specs.declared.Verdict.{Verdict}
 use Rattle.rule.specs.declared.Verdict.the-variants.{Fine}
@@ -98,20 +99,20 @@ nine-bounded =
 
 -- ---- rule 10
 
-entries-most : (m : ℕ) (a : Around) (s : Stsd) → Within m s → named (entriesJudged a (drop FRONT (s .body)) (s .start + FRONT)) ≤ m
+entries-most : (m : ℕ) (a : Around) (release : Release) (s : Stsd) → Within m s → named (entriesJudged a release (drop FRONT (s .body)) (s .start + FRONT)) ≤ m
 unfolding entriesJudged
-entries-most m a s w = omega (arith, w .whole, listed-most (λ x i. unless (entryFine a x) i) (λ x i. unless-most _ (entryFine a x) i (omega arith)) FRONT (s .body) (s .start))
+entries-most m a release s w = omega (arith, w .whole, listed-most (λ x i. unless (entryFine a release x) i) (λ x i. unless-most _ (entryFine a release x) i (omega arith)) FRONT (s .body) (s .start))
 
-judged-most : (m : ℕ) {t : ℕ} {l : List Stsd} → Each (Within m) t l → named (stsdsJudged l) ≤ m
+judged-most : (m : ℕ) (release : Release) {t : ℕ} {l : List Stsd} → Each (Within m) t l → named (stsdsJudged release l) ≤ m
 unfolding stsdsJudged
-judged-most m no-more = omega arith
-judged-most m (more {s = s} e w a) = sooner-most m _ _ (entries-most m (aroundOf (s .trak)) s w) (judged-most m a)
+judged-most m release no-more = omega arith
+judged-most m release (more {s = s} e w a) = sooner-most m _ _ (entries-most m (aroundOf (s .trak)) release s w) (judged-most m release a)
 
-pub ten-bounded : Bounded ten
+pub ten-bounded : (release : Release) → Bounded (ten release)
 unfolding tenAt
-ten-bounded =
+ten-bounded release =
     record {
       leaf = λ k c b p q h. omega arith;
-      node = λ k xs home p h. if-most _ k MOOV _ (judged-most _ (within-each _ 0 (boxes xs) p (omega (arith, total-is xs))));
+      node = λ k xs home p h. if-most _ k MOOV _ (judged-most _ release (within-each _ 0 (boxes xs) p (omega (arith, total-is xs))));
       end = λ xs p. omega arith;
     }

@@ -6,6 +6,7 @@ use mathlib.Core.List.{List, [], _∷_}
 use Rattle.boxes.specs.Box.{Box}
 use Rattle.boxes.specs.Boxes.{boxes}
 use Rattle.boxes.specs.Containers.{FILE, DEPTH}
+use Rattle.release.specs.Releases.{releaseOf}
 use Rattle.rule.specs.declared.Verdict.{Verdict}
 use Rattle.rule.specs.declared.Verdict.the-variants.{Fine, Bad}
 use Rattle.rule.specs.Judge.{Judge}
@@ -68,7 +69,7 @@ hold-all (more {j} {r} {js} s t) n xs (cons h g) = skip s n js xs h ∙ hold-all
 pub rules-say : (l : List Box) → Say (judges l) (rules l)
 rules-say l =
     more (placed-says oneRule) (more (each-says shutIn tiledRule) (more (placed-says threeRule) (more four-says (more five-says (more (placed-says sixRule)
-    (more (placed-says sevenRule) (more (eight-says l) (more nine-says (more ten-says none)))))))))
+    (more (placed-says sevenRule) (more (eight-says l) (more nine-says (more (ten-says (releaseOf l)) none)))))))))
 
 all-meet : (xs : List ℕ) → Hold xs (rules (boxes xs)) → Meets xs
 all-meet xs (cons b (cons c (cons d (cons e (cons f (cons g (cons h (cons i (cons j (cons k nil)))))))))) =

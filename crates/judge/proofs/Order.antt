@@ -8,6 +8,7 @@ use Rattle.wire.specs.Tests.{ifEq, ifLt}
 use Rattle.boxes.specs.Box.{Box}
 use Rattle.boxes.specs.Boxes.{boxes}
 use Rattle.boxes.specs.Containers.{FILE, DEPTH, LONGEST}
+use Rattle.release.specs.Releases.{releaseOf}
 use Rattle.rule.specs.declared.Verdict.{Verdict}
 use Rattle.rule.specs.declared.Verdict.the-variants.{Fine, Bad}
 use Rattle.rule.specs.Verdict.{unless}
@@ -40,7 +41,7 @@ asked (suc k) n l = judgeBy n l ∷ asked k (n + 1) l
 
 -- rules 2 to 10 so
 abbrev readJudges : List Box → List Judge
-readJudges l = two ∷ firstBy 3 ∷ four ∷ five ∷ six ∷ askedSeven ∷ askedEight l ∷ nine ∷ ten ∷ []
+readJudges l = two ∷ firstBy 3 ∷ four ∷ five ∷ six ∷ askedSeven ∷ askedEight l ∷ nine ∷ ten (releaseOf l) ∷ []
 
 by-number : (l : List Box) → readJudges l ≡ asked 9 2 l
 unfolding shapedBy tiledBy formedBy leafBy nodeBy judgeBy ifEq ifLt unless

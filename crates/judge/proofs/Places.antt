@@ -8,6 +8,7 @@ use Rattle.wire.proofs.Tests.{lt-or}
 use Rattle.boxes.specs.Box.{Box}
 use Rattle.boxes.specs.Boxes.{boxes}
 use Rattle.boxes.specs.Containers.{FILE, DEPTH, LONGEST}
+use Rattle.release.specs.Releases.{releaseOf}
 use Rattle.rule.specs.declared.Verdict.{Verdict}
 use Rattle.rule.specs.declared.Verdict.the-variants.{Fine, Bad}
 use Rattle.rule.specs.Judge.{Judge}
@@ -34,7 +35,7 @@ data AllBounded : List Judge → Type 0 where
 all-bounded : (l : List Box) → AllBounded (judges l)
 all-bounded l =
     more (placed-bounded oneRule) (more (each-bounded shutIn tiledRule) (more (placed-bounded threeRule) (more four-bounded (more five-bounded
-    (more (placed-bounded sixRule) (more (placed-bounded sevenRule) (more (eight-bounded l) (more nine-bounded (more ten-bounded none)))))))))
+    (more (placed-bounded sixRule) (more (placed-bounded sevenRule) (more (eight-bounded l) (more nine-bounded (more (ten-bounded (releaseOf l)) none)))))))))
 
 first-most : (m n : ℕ) (v : Verdict) (j : Judgement) → named v ≤ m → judgedPlace j ≤ m → judgedPlace (unlessBroken n v j) ≤ m
 unfolding unlessBroken

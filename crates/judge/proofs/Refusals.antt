@@ -12,7 +12,7 @@ use Rattle.rule.specs.declared.Verdict.the-variants.{Fine, Bad}
 use Rattle.rule.specs.Judge.{Judge}
 use Rattle.rule.specs.Rule.{Rule, Says}
 use Rattle.rule.proofs.Acceptance.{fine-all, all-fine}
-use Rattle.rule_entries.specs.Ten.{ten, tenRule}
+use Rattle.judge.specs.One.{one, oneRule}
 use Rattle.judge.specs.declared.Judgement.{Judgement}
 use Rattle.judge.specs.declared.Judgement.the-variants.{Accepted, Refused}
 use Rattle.judge.specs.Judgement.{verdictBy, unlessBroken, judgedFrom, judged}
@@ -36,9 +36,9 @@ bad-same e f = cc
 record From (js : List Judge) (rs : List Rule) (xs : List ℕ) (m n p : ℕ) : Type 0 where
   pub least : m ≤ n
   pub most : n < m + length js
-  pub below : (i : ℕ) → m ≤ i → i < n → Holds (getD rs (i - m) tenRule) xs
-  pub broken : Holds (getD rs (n - m) tenRule) xs → ⊥
-  pub first : verdictBy (getD js (n - m) ten) xs ≡ Bad p
+  pub below : (i : ℕ) → m ≤ i → i < n → Holds (getD rs (i - m) oneRule) xs
+  pub broken : Holds (getD rs (n - m) oneRule) xs → ⊥
+  pub first : verdictBy (getD js (n - m) one) xs ≡ Bad p
 
 module _ {j : Judge} {r : Rule} {js : List Judge} {rs : List Rule} (s : Says j r) (xs : List ℕ) (m n p : ℕ) where
   from-here : verdictBy j xs ≡ Bad p → m ≡ n → From (j ∷ js) (r ∷ rs) xs m n p
@@ -95,7 +95,7 @@ refused-length xs p e =
     )
 
 -- and back: the first rule that is broken is the one that is told
-hold-at : {xs : List ℕ} {rs : List Rule} → Hold xs rs → (i : ℕ) → i < length rs → Holds (getD rs i tenRule) xs
+hold-at : {xs : List ℕ} {rs : List Rule} → Hold xs rs → (i : ℕ) → i < length rs → Holds (getD rs i oneRule) xs
 hold-at nil i h = absurd (omega arith)
 hold-at (cons r a) zero h = r
 hold-at (cons r a) (suc i) h = hold-at a i (omega arith)

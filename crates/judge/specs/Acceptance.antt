@@ -7,6 +7,7 @@ use lib.ListN.{length}
 use Rattle.boxes.specs.Box.{Box}
 use Rattle.boxes.specs.Boxes.{boxes}
 use Rattle.boxes.specs.Containers.{FILE, DEPTH, LONGEST}
+use Rattle.release.specs.Releases.{releaseOf}
 use Rattle.rule.specs.Rule.{Rule, allIn}
 use Rattle.rule_shape.specs.Two.{twoRule}
 use Rattle.rule_shape.specs.Three.{threeRule}
@@ -24,9 +25,9 @@ use Rattle.judge.specs.One.{oneRule}
 abbrev pub Holds : Rule → List ℕ → Type 0
 Holds r xs = allIn r DEPTH FILE xs ≡ true
 
--- rules 1 to 10 in their order, rule 8 in a file with the boxes l
+-- rules 1 to 10 in their order, rules 8 and 10 in a file with the boxes l
 abbrev pub rules : List Box → List Rule
-rules l = oneRule ∷ twoRule ∷ threeRule ∷ fourRule ∷ fiveRule ∷ sixRule ∷ sevenRule ∷ eightRule l ∷ nineRule ∷ tenRule ∷ []
+rules l = oneRule ∷ twoRule ∷ threeRule ∷ fourRule ∷ fiveRule ∷ sixRule ∷ sevenRule ∷ eightRule l ∷ nineRule ∷ tenRule (releaseOf l) ∷ []
 
 -- each of them, rule 1 as the two facts of the length
 pub record Meets (xs : List ℕ) : Type 0 where
@@ -40,7 +41,7 @@ pub record Meets (xs : List ℕ) : Type 0 where
   pub seven : Holds sevenRule xs
   pub eight : Holds (eightRule (boxes xs)) xs
   pub nine : Holds nineRule xs
-  pub ten : Holds tenRule xs
+  pub ten : Holds (tenRule (releaseOf (boxes xs))) xs
 
 -- an edit takes the file: refusal 23 lets it pass
 abbrev pub editable : List ℕ → Bool

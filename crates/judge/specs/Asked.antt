@@ -6,6 +6,7 @@ use Rattle.wire.specs.Tests.{ifEq, ifLt}
 use Rattle.boxes.specs.declared.walk.Form.{Form}
 use Rattle.boxes.specs.Box.{Box}
 use Rattle.boxes.specs.Boxes.{boxes}
+use Rattle.release.specs.Releases.{releaseOf}
 use Rattle.rule.specs.declared.Verdict.{Verdict}
 use Rattle.rule.specs.declared.Verdict.the-variants.{Fine, Bad}
 use Rattle.rule.specs.Verdict.{sooner, unless}
@@ -54,14 +55,14 @@ leafBy n k c b p q =
     (ifEq n 6 (six .leaf k c b p q)
     (ifEq n 9 (nine .leaf k c b p q) Fine)))
 
--- rules 4, 5, 7, 8 and 10 look at containers, rule 8 in a file with the boxes l
+-- rules 4, 5, 7, 8 and 10 look at containers, 8 and 10 in a file with the boxes l
 unfoldable pub nodeBy : ℕ → List Box → ℕ → List ℕ → ℕ → ℕ → Verdict
 nodeBy n l k xs home p =
     ifEq n 4 (four .node k xs home p)
     (ifEq n 5 (five .node k xs home p)
     (ifEq n 7 (askedSeven .node k xs home p)
     (ifEq n 8 (askedEight l .node k xs home p)
-    (ifEq n 10 (ten .node k xs home p) Fine))))
+    (ifEq n 10 (ten (releaseOf l) .node k xs home p) Fine))))
 
 abbrev pub ruleBy : ℕ → List Box → Judge
 ruleBy n l = record { leaf = leafBy n; node = nodeBy n l; end = λ xs p. Fine }

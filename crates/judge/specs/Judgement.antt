@@ -4,6 +4,7 @@ use mathlib.Core.List.{List, [], _∷_}
 use Rattle.boxes.specs.Box.{Box}
 use Rattle.boxes.specs.Boxes.{boxes}
 use Rattle.boxes.specs.Containers.{FILE, DEPTH}
+use Rattle.release.specs.Releases.{releaseOf}
 use Rattle.rule.specs.declared.Verdict.{Verdict}
 use Rattle.rule.specs.declared.Verdict.the-variants.{Fine, Bad}
 use Rattle.rule.specs.Judge.{Judge, judgeIn}
@@ -29,9 +30,9 @@ abbrev pub judgedPlace : Judgement → ℕ
 judgedPlace Accepted = 0
 judgedPlace (Refused n p) = p
 
--- rules 1 to 10 in their order; rule 8 is asked in a file with the boxes l
+-- rules 1 to 10 in their order; rules 8 and 10 are asked in a file with the boxes l
 abbrev pub judges : List Box → List Judge
-judges l = one ∷ two ∷ three ∷ four ∷ five ∷ six ∷ seven ∷ eight l ∷ nine ∷ ten ∷ []
+judges l = one ∷ two ∷ three ∷ four ∷ five ∷ six ∷ seven ∷ eight l ∷ nine ∷ ten (releaseOf l) ∷ []
 
 -- what a rule says of a file
 abbrev pub verdictBy : Judge → List ℕ → Verdict

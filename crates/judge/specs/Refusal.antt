@@ -8,16 +8,16 @@ use Rattle.boxes.specs.Boxes.{boxes}
 use Rattle.rule.specs.declared.Verdict.the-variants.{Bad}
 use Rattle.rule.specs.Judge.{Judge}
 use Rattle.rule.specs.Rule.{Rule}
-use Rattle.rule_entries.specs.Ten.{ten, tenRule}
+use Rattle.judge.specs.One.{one, oneRule}
 use Rattle.judge.specs.Judgement.{judges, verdictBy}
 use Rattle.judge.specs.Acceptance.{rules, Holds}
 
 -- rule n, from 1 to 10, with places and without, in a file with the boxes l
 abbrev pub judgeOf : List Box → ℕ → Judge
-judgeOf l n = getD (judges l) (n - 1) ten
+judgeOf l n = getD (judges l) (n - 1) one
 
 abbrev pub ruleOf : List Box → ℕ → Rule
-ruleOf l n = getD (rules l) (n - 1) tenRule
+ruleOf l n = getD (rules l) (n - 1) oneRule
 
 pub record Breaks (xs : List ℕ) (n p : ℕ) : Type 0 where
   pub least : 1 ≤ n

@@ -62,7 +62,7 @@ fn node_by(n: usize, file: &[u8], k: usize, part: &[u8], home: usize, base: usiz
         return rule_tracks::eight_at(file, k, part, base);
     }
     if n == 10 {
-        return rule_entries::ten_at(k, part, base);
+        return rule_entries::ten_at(file, k, part, base);
     }
     Verdict::Fine
 }

@@ -9,13 +9,14 @@ use lib.ListN.{length, length-append}
 use Rattle.wire.specs.Clauses.{every}
 use Rattle.wire.specs.Numbers.{Bytes}
 use Rattle.wire.proofs.Tests.{lt-yea, lt-nay, lt-or}
+use Rattle.boxes.specs.Boxes.{boxes}
 use Rattle.boxes.specs.Containers.{LONGEST}
 use Rattle.movie.specs.declared.entry.Spot.{Spot}
 use Rattle.movie.specs.declared.entry.Spot.the-variants.{In, Past}
 use Rattle.movie.specs.Stsds.{Stsd, stsds}
 use Rattle.movie.specs.Entries.{entriesOf, entriesIn, entries}
 use Rattle.movie.specs.Named.{spotIn}
-use Rattle.entry_rules.specs.Entries.{FRAMES}
+use Rattle.release.specs.Releases.{releaseOf}
 use Rattle.entry_rules.specs.Decoders.{recordRule}
 use Rattle.judge.specs.Acceptance.{Meets}
 use Rattle.edit_offsets.specs.Close.{closed}
@@ -46,7 +47,7 @@ nowhere-past (s ∷ l) i e =
     (λ h. let k = nowhere-past l (i - length (entriesOf s)) (lt-nay _ _ _ _ _ h refl ∙ e) in rw length-append (omega arith))
 
 -- "Replace decoder record of entry i": one that meets its rule, where the result is not too long
-pub replace-differs : (xs : List ℕ) (i : ℕ) (new : List ℕ) → Bytes xs → Bytes new → Meets xs → recordRule (kindAt xs i) FRAMES new ≡ true → length (replaceOf xs i new) ≤ LONGEST → Replaces xs i new (replaceOf xs i new)
+pub replace-differs : (xs : List ℕ) (i : ℕ) (new : List ℕ) → Bytes xs → Bytes new → Meets xs → recordRule (kindAt xs i) (releaseOf (boxes xs)) new ≡ true → length (replaceOf xs i new) ≤ LONGEST → Replaces xs i new (replaceOf xs i new)
 unfolding replaceOf recordReplaced entries
 replace-differs xs i new w v m r h = go (spotIn (stsds xs) (i - 1)) refl (rw settled-length at h)
   where
@@ -56,7 +57,7 @@ replace-differs xs i new w v m r h = go (spotIn (stsds xs) (i - 1)) refl (rw set
     go : (s : Spot) → spotIn (stsds xs) (i - 1) ≡ s → length (recordAt s (keptOf xs i) new (closed xs)) ≤ LONGEST → Replaces xs i new (settled xs (recordAt s (keptOf xs i) new (closed xs)))
     go (In t n) e k =
         let s : length (recordAt (In t n) (keptOf xs i) new (closed xs)) < 4294967296 = omega arith in
-        let q = entry-in xs i w m (record-first xs i FRAMES (kindAt xs i) new refl r) t n e in
+        let q = entry-in xs i w m (record-first xs i (releaseOf (boxes xs)) (kindAt xs i) new refl r) t n e in
         let shut = bytes-closed xs w few in
         record {
           t = t;
@@ -66,11 +67,11 @@ replace-differs xs i new w v m r h = go (spotIn (stsds xs) (i - 1)) refl (rw set
           there = rw (closed-track xs w few t) at (record-there xs t n (keptOf xs i) new (closed xs) v shut s (rw (closed-track xs w few t) (omega (arith, q .room))));
           elsewhere = λ u z. rw (closed-track xs w few u) at (record-elsewhere xs t n (keptOf xs i) new (closed xs) v shut s u z);
         }
-    go Past e k = absurd (past-none xs i new (nowhere-past (stsds xs) (i - 1) e) refl r)
+    go Past e k = absurd (past-none xs i (releaseOf (boxes xs)) new (nowhere-past (stsds xs) (i - 1) e) refl r)
 
 -- so entry i has the given record, and every other entry has its bytes
-pub replace-entry : (xs : List ℕ) (i : ℕ) (new : List ℕ) → Bytes xs → Bytes new → Meets xs → recordRule (kindAt xs i) FRAMES new ≡ true → length (replaceOf xs i new) ≤ LONGEST
+pub replace-entry : (xs : List ℕ) (i : ℕ) (new : List ℕ) → Bytes xs → Bytes new → Meets xs → recordRule (kindAt xs i) (releaseOf (boxes xs)) new ≡ true → length (replaceOf xs i new) ≤ LONGEST
     → EntryReplaced xs i new (replaceOf xs i new)
 replace-entry xs i new w v m r h =
     let d = replace-differs xs i new w v m r h in
-    record { differs = d; entry = replaces-one xs i new (replaceOf xs i new) w m (record-first xs i FRAMES (kindAt xs i) new refl r) (omega arith) d }
+    record { differs = d; entry = replaces-one xs i new (replaceOf xs i new) w m (record-first xs i (releaseOf (boxes xs)) (kindAt xs i) new refl r) (omega arith) d }

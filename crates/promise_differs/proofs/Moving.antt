@@ -15,6 +15,7 @@ use Rattle.boxes.specs.Kin.{Kin}
 use Rattle.boxes.proofs.Kin.{Made, kin-edit, kin-less}
 use Rattle.boxes.proofs.Wording.{leaf-hit, leaf-code, leaf-kind}
 use Rattle.mdat.specs.Relocate.{relocate}
+use Rattle.release.specs.Releases.{releaseOf}
 use Rattle.judge.specs.Acceptance.{Meets}
 use Rattle.edit_offsets.specs.Close.{closed}
 use Rattle.edit_offsets.specs.Settle.{offsets, settled}
@@ -50,8 +51,8 @@ settled-differs xs zs w n =
 -- ---- a move
 
 module _ (xs : List ℕ) (w : Bytes xs) (m : Meets xs) where
-  abbrev shut : Content xs (closed xs)
-  shut = content-closed xs w (m .most)
+  abbrev shut : Content (releaseOf (boxes xs)) xs (closed xs)
+  shut = content-closed (releaseOf (boxes xs)) xs w (m .most)
 
   tiled : after (closed xs) ≡ []
   tiled = sym (shut .kin .1) ∙ file-tiled xs m

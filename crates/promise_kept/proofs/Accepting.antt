@@ -1,6 +1,7 @@
--- An edit keeps every rule, and refusal 23 lets the file pass again. Assumes nothing.
+-- An edit keeps the release and every rule, and refusal 23 lets the file pass again. Assumes nothing.
 use Prim.Native.Nat.{ℕ, _≤_}
-use mathlib.Core.Path.{_≡_, refl}
+use native.Mathlib.Omega.{arith}
+use mathlib.Core.Path.{_≡_, refl, sym, ap, _∙_}
 use mathlib.Core.Bool.{true}
 use mathlib.Core.List.{List, [], _∷_}
 use lib.ListN.{length}
@@ -8,7 +9,10 @@ use Rattle.wire.specs.Tests.{ifEq}
 use Rattle.wire.specs.Numbers.{Bytes}
 use Rattle.boxes.specs.Box.{Box, write}
 use Rattle.boxes.specs.Boxes.{boxes}
-use Rattle.boxes.specs.Containers.{FILE, DEPTH, LONGEST}
+use Rattle.codes.specs.Codes.{FTYP}
+use Rattle.boxes.specs.Containers.{FILE, DEPTH, LONGEST, parent, kindIn}
+use Rattle.boxes.specs.Seek.{find}
+use Rattle.boxes.proofs.Kin.{kin-find}
 use Rattle.rule.specs.Rule.{Rule, allList}
 use Rattle.rule_shape.specs.Three.{needed, besides, shape, threeRule}
 use Rattle.rule_shape.specs.Two.{mayHave, shutIn, twoRule}
@@ -26,6 +30,7 @@ use Rattle.rule_tracks.proofs.Kept.{kin-6, kin-7}
 use Rattle.rule_tracks.proofs.KeptEight.{kin-8}
 use Rattle.rule_entries.specs.Ten.{tenIn, tenRule}
 use Rattle.rule_entries.proofs.Kept.{kin-10}
+use Rattle.release.specs.Releases.{releaseIn, releaseOf}
 use Rattle.judge.specs.Acceptance.{Holds, Meets, editable}
 use Rattle.promise_kept.proofs.Content.{Content}
 use Rattle.promise_kept.proofs.Forms.{six-forms}
@@ -45,7 +50,7 @@ shape-arranged : {A : List Box → List Box} → Arranges A → (l : List Box) �
 unfolding shape besides ifEq
 shape-arranged {A} a l = rw (same-exactly (A l) l (λ c. a .counts c l) 1 (needed FILE), a .first l)
 
-module _ {A : List Box → List Box} (a : Arranges A) (xs ys : List ℕ) (w : Bytes xs) (m : Meets xs) (c : Content xs ys) where
+module _ {A : List Box → List Box} (a : Arranges A) (xs ys : List ℕ) (w : Bytes xs) (m : Meets xs) (c : Content (releaseOf (boxes xs)) xs ys) where
   abbrev mid : List ℕ
   mid = new a xs ys w m c
 
@@ -61,6 +66,13 @@ module _ {A : List Box → List Box} (a : Arranges A) (xs ys : List ℕ) (w : By
   edit-plain q =
       to-file editableRule (λ p. rw (in-order a xs ys w m c, same-exactly (A (boxes mid)) (boxes mid) (λ d. a .counts d (boxes mid)) 0) p)
       (kin-editable (Changes a xs ys w m c) DEPTH FILE xs mid (edit-kin a xs ys w m c) q)
+
+  -- it has the same `ftyp`, and so it is of the same release
+  pub same-release : releaseOf (boxes (write (A (boxes (new a xs ys w m c))))) ≡ releaseOf (boxes xs)
+  unfolding kindIn parent ifEq
+  same-release =
+      let e = kin-find (Changes a xs ys w m c) 5 FILE xs mid (edit-kin a xs ys w m c) FTYP (λ z. omega arith) (λ b b′. b ≡ b′) refl refl (edit-sound a xs ys w m c .ftyp) 0 in
+      ap releaseIn (ap (find FTYP) (in-order a xs ys w m c) ∙ a .found FTYP (λ z. omega arith) (boxes mid) ∙ sym e)
 
   -- every rule holds of it
   pub edit-meets : 8 ≤ length result → length result ≤ LONGEST → Meets result
@@ -82,5 +94,5 @@ module _ {A : List Box → List Box} (a : Arranges A) (xs ys : List ℕ) (w : By
             rw (in-order a xs ys w m c) (to-file (eightRule (A (boxes mid))) (λ p. refl)
             (kin-8 G (s .tables) (boxes xs) (A (boxes mid)) (same-payloads a xs ys w m c) (edit-moved a xs ys w m c) DEPTH FILE xs mid h (m .eight)));
         nine = to-file nineRule (λ p. p) (kin-9 G (s .urls) DEPTH FILE xs mid h (m .nine));
-        ten = to-file tenRule (λ p. refl) (kin-10 G (s .described) DEPTH FILE xs mid h (m .ten));
+        ten = rw same-release (to-file (tenRule (releaseOf (boxes xs))) (λ p. refl) (kin-10 (releaseOf (boxes xs)) G (s .described) DEPTH FILE xs mid h (m .ten)));
       }

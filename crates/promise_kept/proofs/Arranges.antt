@@ -3,9 +3,8 @@ use Prim.Native.Nat.{ℕ}
 use mathlib.Core.Path.{_≡_, refl}
 use mathlib.Core.List.{List, [], map}
 use lib.ListN.{length}
-use Rattle.codes.specs.Codes.{MOOV}
 use Rattle.boxes.specs.Box.{Box, write}
-use Rattle.boxes.specs.Seek.{count, find}
+use Rattle.boxes.specs.Seek.{ANY, count, find}
 use Rattle.boxes.specs.Rewrite.{Bodies, over}
 use Rattle.boxes.proofs.Reading.{All, Shut}
 use Rattle.mdat.specs.Payloads.{mdats}
@@ -20,7 +19,7 @@ pub record Arranges (A : List Box → List Box) : Type 1 where
   pub payloads : (l : List Box) → mdats (A l) ≡ mdats l
   pub counts : (c : ℕ) (l : List Box) → count c (A l) ≡ count c l
   pub first : (l : List Box) → first (A l) ≡ first l
-  pub movie : (l : List Box) → find MOOV (A l) ≡ find MOOV l
+  pub found : (c : ℕ) → (c ≡ ANY → ⊥) → (l : List Box) → find c (A l) ≡ find c l
   pub maps : (f : Bodies) (l : List Box) → A (map (over f) l) ≡ map (over f) (A l)
 
 -- the order stays
@@ -33,6 +32,6 @@ stay =
       payloads = λ l. refl;
       counts = λ c l. refl;
       first = λ l. refl;
-      movie = λ l. refl;
+      found = λ c n l. refl;
       maps = λ f l. refl;
     }

@@ -22,7 +22,7 @@ use Rattle.boxes.proofs.Tallying.{PlainBox, each-plain, plain-each}
 use Rattle.boxes.proofs.Numbered.{count-append}
 use Rattle.entry_heads.specs.Kinds.{kindOf}
 use Rattle.entry_heads.specs.Heads.{headSize}
-use Rattle.entry_rules.specs.Entries.{FRAMES}
+use Rattle.release.specs.declared.Release.{Release}
 use Rattle.entry_rules.specs.declared.entry.Around.{Around}
 use Rattle.entry_rules.specs.Decoders.{recordRule}
 use Rattle.rule.specs.Rule.{allList}
@@ -31,8 +31,8 @@ use Rattle.rule_lists.specs.Five.{listForm}
 use Rattle.rule_entries.specs.Ten.{entryFine, entriesFine}
 use Rattle.promise_kept.proofs.Entry.{entry-changed}
 
--- b′ is b with the given record behind the head of one entry, which is of a kind that has one
-pub record Changed (new b b′ : List ℕ) : Type 0 where
+-- b′ is b with the given record, one of a release, behind the head of one entry, which is of a kind that has one
+pub record Changed (release : Release) (new b b′ : List ℕ) : Type 0 where
   pub kind : ℕ
   pub before : List Box
   pub entry : Box
@@ -45,7 +45,7 @@ pub record Changed (new b b′ : List ℕ) : Type 0 where
   pub good : Good entry
   pub plain : entry .form ≡ Plain
   pub is : kindOf (entry .code) ≡ kind
-  pub meets : recordRule kind FRAMES new ≡ true
+  pub meets : recordRule kind release new ≡ true
 
 -- one box of a list for another
 all-swap : (f : Box → Bool) (t : Bool) (p : List Box) (x y : Box) (q : List Box) → (f x ≡ true → f y ≡ true) → allList f t (p ++ x ∷ q) ≡ true → allList f t (p ++ y ∷ q) ≡ true
@@ -57,15 +57,15 @@ in-front : (xs : List ℕ) (at : ℕ) → FRONT ≤ length xs → at + 4 ≤ FRO
 in-front xs at k h =
     sym (word-left 4 (take FRONT xs) (drop FRONT xs) at (omega (arith, length-take-le FRONT xs k))) ∙ ap (λ (u : List ℕ). word 4 u at) (take-append-drop FRONT xs)
 
-module _ (new b b′ : List ℕ) (c : Changed new b b′) where
+module _ (release : Release) (new b b′ : List ℕ) (c : Changed release new b b′) where
   abbrev after-it : Box
   after-it = remade (c .entry) (tailBy (headSize (c .kind) - HEAD) new (c .entry .body))
 
   -- rule 10: the entries are still fine, around whichever track
-  pub changed-fine : (a : Around) → entriesFine a (drop FRONT b) ≡ true → entriesFine a (drop FRONT b′) ≡ true
+  pub changed-fine : (a : Around) → entriesFine a release (drop FRONT b) ≡ true → entriesFine a release (drop FRONT b′) ≡ true
   unfolding entriesFine
   changed-fine a q =
-      rw (c .made) (all-swap (entryFine a) true (c .before) (c .entry) after-it (c .past) (entry-changed (c .entry) (c .good) (c .plain) a (c .kind) new (c .is) (c .meets)) (rw (c .old) at q))
+      rw (c .made) (all-swap (entryFine a release) true (c .before) (c .entry) after-it (c .past) (entry-changed (c .entry) (c .good) (c .plain) a release (c .kind) new (c .is) (c .meets)) (rw (c .old) at q))
 
   -- ---- rule 5
 

@@ -7,6 +7,7 @@ use lib.ListN.{length, getD}
 use Rattle.wire.specs.Clauses.{isEq, every, either}
 use Rattle.wire.specs.Numbers.{word}
 use Rattle.codes.specs.Codes.{DINF, DREF, STBL, STSD, STTS, STSC, STSZ, STCO}
+use Rattle.release.specs.declared.Release.{Release}
 use Rattle.rule_headers.specs.Forms.{brandsForm, headForm, handlerForm, form}
 use Rattle.edit_shift.specs.Shift.{hasTimes}
 use Rattle.promise_kept.proofs.Sound.{Sound}
@@ -37,10 +38,11 @@ unfolding hasTimes either every isEq
 in-dinf c b b′ r = r .rest refl
 
 -- an edit of times alone is sound
-pub clocked-sound : Sound Clocked
+pub clocked-sound : (release : Release) → Sound release Clocked
 unfolding hasTimes either every isEq
-clocked-sound =
+clocked-sound release =
     record {
+      ftyp = λ b b′ r. r .rest refl;
       mdat = λ b b′ r. r .rest refl;
       forms = λ k c b b′ z r q. sym (clocked-form k c b b′ r) ∙ q;
       tkhd = λ b b′ r. r .number;

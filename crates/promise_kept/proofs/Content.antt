@@ -17,16 +17,17 @@ use Rattle.boxes.specs.Kin.All2.{nil, cons}
 use Rattle.boxes.proofs.Reading.{All}
 use Rattle.boxes.proofs.Reading.All.{none, some}
 use Rattle.boxes.proofs.Kin.{Then, kin-then}
+use Rattle.release.specs.declared.Release.{Release}
 use Rattle.edit_offsets.specs.Close.{closed}
 use Rattle.edit_offsets.proofs.Closing.{Equal, ShutMoov, moovs-shut}
 use Rattle.edit_offsets.proofs.ClosedFile.{length-closed, boxes-closed, bytes-closed, kin-closed}
 use Rattle.promise_kept.proofs.Sound.{Sound, sound-then}
 
--- the content of xs was edited to ys
-pub record Content (xs ys : List ℕ) : Type 1 where
+-- the content of xs was edited to ys, which keeps the rules of a release
+pub record Content (release : Release) (xs ys : List ℕ) : Type 1 where
   pub leaf : Leaf
   pub kin : Kin leaf DEPTH FILE xs ys
-  pub sound : Sound leaf
+  pub sound : Sound release leaf
   pub stco : (b b′ : List ℕ) → leaf STBL STCO b b′ → b ≡ b′
   pub shut : All ShutMoov (boxes ys)
   pub bytes : Bytes ys
@@ -48,9 +49,10 @@ kin-shut (cons {x} {y} r a) (some h b) = some {x = y} (stays-shut x y (r .form) 
 -- ---- the file with its `moov` closed: no body changes
 
 -- which is sound
-pub equal-sound : Sound Equal
-equal-sound =
+pub equal-sound : (release : Release) → Sound release Equal
+equal-sound release =
     record {
+      ftyp = λ b b′ r. r;
       mdat = λ b b′ r. r;
       forms = λ k c b b′ z r q. rw (← r) q;
       tkhd = λ b b′ r. rw r;
@@ -61,12 +63,12 @@ equal-sound =
       described = record { mdhd = λ b b′ r. rw r; hdlr = λ b b′ r. rw r; dref = λ b b′ r. rw r; stsd = λ b b′ r a q. rw (← r) q };
     }
 
-pub content-closed : (xs : List ℕ) → Bytes xs → length xs ≤ LONGEST → Content xs (closed xs)
-content-closed xs w n =
+pub content-closed : (release : Release) (xs : List ℕ) → Bytes xs → length xs ≤ LONGEST → Content release xs (closed xs)
+content-closed release xs w n =
     record {
       leaf = Equal;
       kin = kin-closed xs w (omega arith);
-      sound = equal-sound;
+      sound = equal-sound release;
       stco = λ b b′ r. r;
       shut = rw (boxes-closed xs w (omega arith)) (moovs-shut (boxes xs));
       bytes = bytes-closed xs w (omega arith);
@@ -74,8 +76,8 @@ content-closed xs w n =
     }
 
 -- one after the other
-pub content-then : {xs ys zs : List ℕ} → Content xs ys → Content ys zs → Content xs zs
-content-then {xs} {ys} {zs} c d =
+pub content-then : {release : Release} {xs ys zs : List ℕ} → Content release xs ys → Content release ys zs → Content release xs zs
+content-then {release} {xs} {ys} {zs} c d =
     record {
       leaf = Then (c .leaf) (d .leaf);
       kin = kin-then (c .leaf) (d .leaf) DEPTH FILE xs ys zs (c .kin) (d .kin);

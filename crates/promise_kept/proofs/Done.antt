@@ -7,9 +7,10 @@ use lib.IntN.{ℤ}
 use lib.ListN.{length, take}
 use Rattle.wire.specs.Numbers.{Bytes}
 use Rattle.wire.proofs.Clauses.{le-is, clause}
+use Rattle.boxes.specs.Boxes.{boxes}
 use Rattle.boxes.specs.Containers.{LONGEST}
 use Rattle.clocks.specs.Clocks.{mayShift}
-use Rattle.entry_rules.specs.Entries.{FRAMES}
+use Rattle.release.specs.Releases.{releaseOf}
 use Rattle.entry_rules.specs.Decoders.{recordRule}
 use Rattle.rule.specs.declared.Answer.the-variants.{Done}
 use Rattle.rule.specs.Results.{answerIn, leftIn}
@@ -44,7 +45,7 @@ module _ (z : ℤ) (xs out : List ℕ) {n : ℕ} (e : answerIn (shiftResult z xs
 -- ---- a replacement
 
 module _ (xs : List ℕ) (i : ℕ) (new out : List ℕ) {n : ℕ} (e : answerIn (replaceResult xs i new) out ≡ Done n) where
-  pub replace-passed : Meets xs × (recordRule (kindAt xs i) FRAMES new ≡ true) × (length (replaceOf xs i new) ≤ LONGEST)
+  pub replace-passed : Meets xs × (recordRule (kindAt xs i) (releaseOf (boxes xs)) new ≡ true) × (length (replaceOf xs i new) ≤ LONGEST)
   unfolding replaceResult
   replace-passed = let d = result-done xs _ _ out n e in (d .meets, clause 1 _ (d .tests), le-is _ _ (clause 3 _ (d .tests)))
 

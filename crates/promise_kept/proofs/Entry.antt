@@ -17,11 +17,12 @@ use Rattle.boxes.specs.Way.{tailBy}
 use Rattle.boxes.proofs.Whole.{Good, length-header}
 use Rattle.entry_heads.specs.Kinds.{kindOf}
 use Rattle.entry_heads.specs.Heads.{headSize}
+use Rattle.release.specs.declared.Release.{Release}
 use Rattle.entry_rules.specs.declared.entry.Around.{Around}
 use Rattle.entry_rules.specs.Decoders.{recordRule}
-use Rattle.entry_rules.specs.Entries.{behindHead, FRAMES}
+use Rattle.entry_rules.specs.Entries.{behindHead}
 use Rattle.entry_rules.proofs.Kept.{recorded, entry-head, entry-kept}
-use Rattle.rule_entries.specs.Ten.{meets, entryFine}
+use Rattle.rule_entries.specs.Ten.{entryFine}
 use Rattle.edit_replace.proofs.Taking.{code-told}
 
 -- ---- the box
@@ -44,11 +45,10 @@ module _ (x : Box) (g : Good x) (p : x .form ≡ Plain) where
       rw (t, d, plain-header (take keep b ++ new), n) (simp append-assoc)
 
   -- a given record that meets its rule, in the place of the entry's own
-  pub entry-changed : (a : Around) (kind : ℕ) (new : List ℕ) → kindOf (x .code) ≡ kind → recordRule kind FRAMES new ≡ true → entryFine a x ≡ true → entryFine a (remade x (tailBy (headSize kind - HEAD) new (x .body))) ≡ true
-  unfolding meets
-  entry-changed a kind new k r e =
+  pub entry-changed : (a : Around) (release : Release) (kind : ℕ) (new : List ℕ) → kindOf (x .code) ≡ kind → recordRule kind release new ≡ true → entryFine a release x ≡ true → entryFine a release (remade x (tailBy (headSize kind - HEAD) new (x .body))) ≡ true
+  entry-changed a release kind new k r e =
       let c : kindOf (word 4 (header x ++ x .body) 4) ≡ kind = ap kindOf (code-told x g) ∙ k in
-      let d = recorded kind FRAMES new r in
-      let i = entry-head a FRAMES kind (header x ++ x .body) c e in
+      let d = recorded kind release new r in
+      let i = entry-head a release kind (header x ++ x .body) c e in
       let n : 8 + (headSize kind - HEAD) ≡ headSize kind = omega arith in
-      rw (tail-is (headSize kind - HEAD) new (omega (arith, length-append (header x) (x .body), length-header x, ap headOf p)), n) (entry-kept a FRAMES kind (header x ++ x .body) new c e r)
+      rw (tail-is (headSize kind - HEAD) new (omega (arith, length-append (header x) (x .body), length-header x, ap headOf p)), n) (entry-kept a release kind (header x ++ x .body) new c e r)

@@ -17,6 +17,7 @@ use Rattle.mdat.specs.Relocate.{relocate, Relocated}
 use Rattle.mdat.proofs.Mdats.{kin-mdats}
 use Rattle.mdat.proofs.Staying.{relocate-like, relocated-none}
 use Rattle.mdat.proofs.Relocating.{relocate-below}
+use Rattle.release.specs.Releases.{releaseOf}
 use Rattle.judge.specs.Acceptance.{Meets}
 use Rattle.promise_kept.proofs.Content.{Content}
 use Rattle.promise_kept.proofs.Offsets.{offsets-moved}
@@ -24,7 +25,7 @@ use Rattle.promise_kept.proofs.Arranges.{Arranges}
 use Rattle.promise_kept.proofs.Arranging.{arranged-boxes, arranged-length}
 use Rattle.promise_kept.proofs.Settling.{new, new-bytes, new-tiled, new-small, new-shut, new-alike, Changes, edit-kin, edit-sound}
 
-module _ {A : List Box → List Box} (a : Arranges A) (xs ys : List ℕ) (w : Bytes xs) (m : Meets xs) (c : Content xs ys) where
+module _ {A : List Box → List Box} (a : Arranges A) (xs ys : List ℕ) (w : Bytes xs) (m : Meets xs) (c : Content (releaseOf (boxes xs)) xs ys) where
   abbrev mid : List ℕ
   mid = new a xs ys w m c
 

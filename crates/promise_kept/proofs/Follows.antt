@@ -21,6 +21,7 @@ use Rattle.mdat.proofs.Relocating.{Lies, in-lies, relocate-to}
 use Rattle.mdat.proofs.Resolving.{resolved}
 use Rattle.movie.specs.Ways.{follow}
 use Rattle.movie.specs.Movie.{track, sampleTable}
+use Rattle.release.specs.Releases.{releaseOf}
 use Rattle.judge.specs.Acceptance.{Meets}
 use Rattle.promise_kept.specs.Follows.{Follows, AllFollow}
 use Rattle.promise_kept.proofs.Content.{Content}
@@ -49,7 +50,7 @@ follows l m same o n s =
       moved = omega arith;
     }
 
-module _ {A : List Box → List Box} (a : Arranges A) (xs ys : List ℕ) (w : Bytes xs) (m : Meets xs) (c : Content xs ys) where
+module _ {A : List Box → List Box} (a : Arranges A) (xs ys : List ℕ) (w : Bytes xs) (m : Meets xs) (c : Content (releaseOf (boxes xs)) xs ys) where
   abbrev result : List ℕ
   result = write (A (boxes (new a xs ys w m c)))
 

@@ -12,6 +12,7 @@ use Rattle.boxes.specs.Kin.All2.{nil, cons}
 use Rattle.boxes.proofs.Whole.{head-least}
 use Rattle.boxes.proofs.Reading.{lengths, length-cons}
 use Rattle.mdat.proofs.Keeping.{tiled}
+use Rattle.release.specs.Releases.{releaseOf}
 use Rattle.judge.specs.declared.Judgement.the-variants.{Accepted}
 use Rattle.judge.specs.Judgement.{judged}
 use Rattle.judge.specs.Acceptance.{Meets}
@@ -22,7 +23,7 @@ use Rattle.promise_kept.proofs.Content.{Content}
 use Rattle.promise_kept.proofs.Arranges.{Arranges, stay}
 use Rattle.promise_kept.proofs.Arranging.{arranged-length, arranged-bytes}
 use Rattle.promise_kept.proofs.Settling.{xs-tiled, new, new-bytes, new-tiled, new-small, new-shut, new-length, edit-kin, settled-is, ys-tiled}
-use Rattle.promise_kept.proofs.Accepting.{edit-plain, edit-meets}
+use Rattle.promise_kept.proofs.Accepting.{same-release, edit-plain, edit-meets}
 use Rattle.promise_kept.proofs.Sampling.{edit-tracks, edit-samples}
 use Rattle.promise_kept.proofs.Follows.{edit-follows}
 
@@ -30,13 +31,14 @@ use Rattle.promise_kept.proofs.Follows.{edit-follows}
 
 -- a file keeps itself
 pub kept-refl : (xs : List ℕ) → Bytes xs → judged xs ≡ Accepted → Kept xs xs
-kept-refl xs w m = record { accepted = m; editable = λ q. q; tracks = refl; samples = λ t. refl; bytes = w }
+kept-refl xs w m = record { accepted = m; release = refl; editable = λ q. q; tracks = refl; samples = λ t. refl; bytes = w }
 
 -- what two edits in a row keep
 pub kept-then : (xs ys zs : List ℕ) → Kept xs ys → Kept ys zs → Kept xs zs
 kept-then xs ys zs k h =
     record {
       accepted = h .accepted;
+      release = h .release ∙ k .release;
       editable = λ q. h .editable (k .editable q);
       tracks = h .tracks ∙ k .tracks;
       samples = λ t. h .samples t ∙ k .samples t;
@@ -51,7 +53,7 @@ least-kept (cons {y = y} {m = m} r a) h = omega (arith, length-cons y m, head-le
 
 -- ---- the theorem
 
-module _ {A : List Box → List Box} (a : Arranges A) (xs ys : List ℕ) (w : Bytes xs) (m : Meets xs) (c : Content xs ys) where
+module _ {A : List Box → List Box} (a : Arranges A) (xs ys : List ℕ) (w : Bytes xs) (m : Meets xs) (c : Content (releaseOf (boxes xs)) xs ys) where
   abbrev mid : List ℕ
   mid = new a xs ys w m c
 
@@ -70,6 +72,7 @@ module _ {A : List Box → List Box} (a : Arranges A) (xs ys : List ℕ) (w : By
   kept =
       record {
         accepted = meets-accepted result (edit-meets a xs ys w m c (omega (arith, long, least)) (omega (arith, long, new-length a xs ys w m c, c .small)));
+        release = same-release a xs ys w m c;
         editable = edit-plain a xs ys w m c;
         tracks = edit-tracks a xs ys w m c;
         samples = edit-samples a xs ys w m c;
@@ -81,5 +84,5 @@ module _ {A : List Box → List Box} (a : Arranges A) (xs ys : List ℕ) (w : By
   keeps = subst (Keeps xs) (sym (settled-is a xs ys w m c)) (record { kept = kept; follow = edit-follows a xs ys w m c })
 
 -- the same of an edit that leaves the boxes in their order
-pub keeps-stay : (xs ys : List ℕ) → Bytes xs → Meets xs → Content xs ys → Keeps xs (settled xs ys)
+pub keeps-stay : (xs ys : List ℕ) → Bytes xs → Meets xs → Content (releaseOf (boxes xs)) xs ys → Keeps xs (settled xs ys)
 keeps-stay xs ys w m c = subst (λ (zs : List ℕ). Keeps xs (settled xs zs)) (tiled ys (c .bytes) (ys-tiled stay xs ys w m c)) (keeps stay xs ys w m c)

@@ -22,6 +22,7 @@ use Rattle.sample_tables.specs.Tables.{hasForm, tableForm}
 use Rattle.sample_tables.proofs.Tables.{form-is}
 use Rattle.mdat.specs.Relocate.{relocate, Relocated}
 use Rattle.mdat.proofs.Rewording.{relocated-reword}
+use Rattle.release.specs.declared.Release.{Release}
 use Rattle.rule_headers.specs.Forms.{ifBox, form}
 use Rattle.rule_tracks.specs.Six.{tableFine, tableIn, sixRule}
 use Rattle.edit_offsets.specs.Settle.{offsets}
@@ -50,10 +51,11 @@ module _ (f : ℕ → ℕ) where
   table-moved b = rw (byte-before f 8 LONGEST b 0 (omega arith), word-before f 8 LONGEST b 4 (omega arith), reword-length f 8 LONGEST b)
 
   -- an edit of chunk offsets alone is sound
-  pub offsets-sound : Sound (Made (rewordLeaf offsets f))
+  pub offsets-sound : (release : Release) → Sound release (Made (rewordLeaf offsets f))
   unfolding rewordLeaf ifEq
-  offsets-sound =
+  offsets-sound release =
       record {
+        ftyp = λ b b′ r. sym (r .0);
         mdat = λ b b′ r. sym (r .0);
         forms = λ k c b b′ z r q. rw (r .0) (form-moved k c b q);
         tkhd = λ b b′ r. rw (r .0);

@@ -8,7 +8,7 @@ use lib.ListN.{length, take, drop, length-append}
 use lib.Seq.{take-at, drop-at, length-take-le}
 use Rattle.codes.specs.Codes.{STBL, STSD}
 use Rattle.wire.specs.Numbers.{Bytes}
-use Rattle.boxes.specs.Boxes.{HEAD, FRONT}
+use Rattle.boxes.specs.Boxes.{HEAD, FRONT, boxes}
 use Rattle.boxes.specs.Containers.{FILE, DEPTH, LONGEST}
 use Rattle.boxes.specs.Seek.{ANY}
 use Rattle.boxes.specs.Kin.{Kin}
@@ -23,7 +23,7 @@ use Rattle.movie.specs.Movie.{track, sampleTable}
 use Rattle.movie.specs.Stsds.{stsds}
 use Rattle.movie.specs.Named.{spotIn}
 use Rattle.entry_heads.specs.Heads.{headSize}
-use Rattle.entry_rules.specs.Entries.{FRAMES}
+use Rattle.release.specs.Releases.{releaseOf}
 use Rattle.entry_rules.specs.Decoders.{recordRule}
 use Rattle.judge.specs.Acceptance.{Meets}
 use Rattle.edit_offsets.specs.Close.{closed}
@@ -36,7 +36,7 @@ use Rattle.promise_kept.proofs.Closed.{closed-track}
 use Rattle.promise_kept.proofs.Once.{once-content}
 use Rattle.promise_kept.proofs.Named.{EntryIn, entry-in}
 
-module _ (xs : List ℕ) (i : ℕ) (new : List ℕ) (w : Bytes xs) (m : Meets xs) (r : recordRule (kindAt xs i) FRAMES new ≡ true) (t n : ℕ) (e : spotIn (stsds xs) (i - 1) ≡ In t n) where
+module _ (xs : List ℕ) (i : ℕ) (new : List ℕ) (w : Bytes xs) (m : Meets xs) (r : recordRule (kindAt xs i) (releaseOf (boxes xs)) new ≡ true) (t n : ℕ) (e : spotIn (stsds xs) (i - 1) ≡ In t n) where
   abbrev keep : ℕ
   keep = headSize (kindAt xs i) - HEAD
 
@@ -45,7 +45,7 @@ module _ (xs : List ℕ) (i : ℕ) (new : List ℕ) (w : Bytes xs) (m : Meets xs
   stsd = sampleTable STSD (track xs t)
 
   abbrev s : EntryIn xs i t n
-  s = entry-in xs i w m (record-first xs i FRAMES (kindAt xs i) new refl r) t n e
+  s = entry-in xs i w m (record-first xs i (releaseOf (boxes xs)) (kindAt xs i) new refl r) t n e
 
   abbrev by : List ℕ → List ℕ
   by = tailBy keep new
@@ -61,13 +61,13 @@ module _ (xs : List ℕ) (i : ℕ) (new : List ℕ) (w : Bytes xs) (m : Meets xs
   small : length (overNth ANY n by (drop FRONT stsd)) < 4294967296
   small =
       let l = ap length open-it ∙ length-append (take FRONT stsd) (overNth ANY n by (drop FRONT stsd)) in
-      omega (arith, l, m .most, s .short, way-length (toEntry n) keep new stsd, record-short (kindAt xs i) FRAMES new r .1)
+      omega (arith, l, m .most, s .short, way-length (toEntry n) keep new stsd, record-short (kindAt xs i) (releaseOf (boxes xs)) new r .1)
 
   behind : drop FRONT changedStsd ≡ overNth ANY n by (drop FRONT stsd)
   behind = ap (drop FRONT) open-it ∙ drop-at (take FRONT stsd) (overNth ANY n by (drop FRONT stsd)) FRONT (length-take-le FRONT stsd (s .room))
 
   -- the entry has the given record, and all else stays
-  stsd-changed : Changed new (sampleTable STSD (track xs t)) changedStsd
+  stsd-changed : Changed (releaseOf (boxes xs)) new (sampleTable STSD (track xs t)) changedStsd
   stsd-changed =
       record {
         kind = kindAt xs i;
@@ -88,9 +88,9 @@ module _ (xs : List ℕ) (i : ℕ) (new : List ℕ) (w : Bytes xs) (m : Meets xs
   -- ---- the file, closed
 
   -- one entry of the file has another decoder record
-  pub record-content : Bytes new → length (recordAt (In t n) (headSize (kindAt xs i) - HEAD) new (closed xs)) ≤ LONGEST → Content xs (recordAt (In t n) (headSize (kindAt xs i) - HEAD) new (closed xs))
+  pub record-content : Bytes new → length (recordAt (In t n) (headSize (kindAt xs i) - HEAD) new (closed xs)) ≤ LONGEST → Content (releaseOf (boxes xs)) xs (recordAt (In t n) (headSize (kindAt xs i) - HEAD) new (closed xs))
   record-content v h =
-      let c = content-closed xs w (m .most) in
-      content-then c (once-content (sampleTable STSD (track xs t)) changedStsd new stsd-changed (closed xs) _
+      let c = content-closed (releaseOf (boxes xs)) xs w (m .most) in
+      content-then c (once-content (sampleTable STSD (track xs t)) changedStsd (releaseOf (boxes xs)) new stsd-changed (closed xs) _
       (subst (λ (b : List ℕ). Kin (Once STBL STSD b (editWay (toEntry n) by b)) DEPTH FILE (closed xs) (recordAt (In t n) keep new (closed xs))) (stsd-end t (closed xs) ∙ ap (sampleTable STSD) (closed-track xs w (omega (arith, m .most)) t)) (record-kin t n keep new (closed xs) v (c .bytes) (omega arith)))
       (record-bytes t n keep new (closed xs) v (c .bytes)) h (c .shut))

@@ -19,6 +19,7 @@ use Rattle.mdat.proofs.Keeping.{file-samples-kept}
 use Rattle.movie.specs.Ways.{follow}
 use Rattle.movie.specs.Movie.{movie, tracks, track, sampleTable}
 use Rattle.rule_tracks.proofs.Kept.{same-table}
+use Rattle.release.specs.Releases.{releaseOf}
 use Rattle.judge.specs.Acceptance.{Meets}
 use Rattle.promise_kept.specs.Samples.{samples}
 use Rattle.promise_kept.proofs.Content.{Content}
@@ -29,7 +30,7 @@ use Rattle.promise_kept.proofs.Tables.{track-eight}
 use Rattle.promise_kept.proofs.Settling.{xs-tiled, new, new-bytes, new-tiled, new-small, new-shut, Changes, edit-kin, edit-sound}
 use Rattle.promise_kept.proofs.Following.{in-order, stbl-moved, same-payloads}
 
-module _ {A : List Box → List Box} (a : Arranges A) (xs ys : List ℕ) (w : Bytes xs) (m : Meets xs) (c : Content xs ys) where
+module _ {A : List Box → List Box} (a : Arranges A) (xs ys : List ℕ) (w : Bytes xs) (m : Meets xs) (c : Content (releaseOf (boxes xs)) xs ys) where
   abbrev mid : List ℕ
   mid = new a xs ys w m c
 
@@ -38,7 +39,7 @@ module _ {A : List Box → List Box} (a : Arranges A) (xs ys : List ℕ) (w : By
 
   -- the same `moov`, and so the same tracks
   same-moov : find MOOV (boxes result) ≡ find MOOV (boxes mid)
-  same-moov = rw (in-order a xs ys w m c, a .movie (boxes mid))
+  same-moov = rw (in-order a xs ys w m c, a .found MOOV (λ z. omega arith) (boxes mid))
 
   pub same-track : (t : ℕ) → track (write (A (boxes (new a xs ys w m c)))) t ≡ track (new a xs ys w m c) t
   unfolding track

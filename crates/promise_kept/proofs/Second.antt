@@ -1,12 +1,13 @@
 -- `moov` right after the first box is an order that no rule sees. Assumes nothing.
 use Prim.Native.Nat.{ℕ}
 use native.Mathlib.Omega.{arith}
-use mathlib.Core.Path.{_≡_, refl}
+use mathlib.Core.Path.{_≡_, refl, sym, _∙_}
 use mathlib.Core.List.{List, [], _∷_}
 use Rattle.wire.specs.Tests.{ifEq}
+use Rattle.wire.proofs.Tests.{eq-or}
 use Rattle.codes.specs.Codes.{MOOV, MDAT}
 use Rattle.boxes.specs.Box.{Box}
-use Rattle.boxes.specs.Seek.{count, nth, find}
+use Rattle.boxes.specs.Seek.{ANY, count, nth, find}
 use Rattle.boxes.proofs.Meaning.{meant-no}
 use Rattle.mdat.specs.Payloads.{mdats}
 use Rattle.mdat.proofs.Payloads.{mdat-or, mdats-hit, mdats-miss}
@@ -24,9 +25,13 @@ second-counts : (c : ℕ) (l : List Box) → count c (moovSecond l) ≡ count c 
 unfolding count
 second-counts c = seconded (count c) (λ y l m e. rw e) (λ x y l h n. omega arith)
 
-second-movie : (l : List Box) → find MOOV (moovSecond l) ≡ find MOOV l
+-- a code means one of two boxes at most, where one is `moov` and the other isn't
+second-found : (c : ℕ) → (c ≡ ANY → ⊥) → (l : List Box) → find c (moovSecond l) ≡ find c l
 unfolding nth ifEq
-second-movie = seconded (find MOOV) (λ y l m e. rw e) (λ x y l h n. rw (← meant-no MOOV (y .code) (λ z. omega arith) n))
+second-found c z =
+    seconded (find c) (λ y l m e. rw e)
+    (λ x y l h n.
+    eq-or c MOOV (λ e. rw (← meant-no c (y .code) z (λ f. n (f ∙ e)))) (λ o. rw (← meant-no c (x .code) z (λ f. o (sym f ∙ h)))))
 
 second-payloads : (l : List Box) → mdats (moovSecond l) ≡ mdats l
 second-payloads =
@@ -45,4 +50,4 @@ second-first (x ∷ l) = refl
 
 -- the order of a move
 pub second : Arranges moovSecond
-second = record { each = each-second; shut = shut-second; span = second-length; payloads = second-payloads; counts = second-counts; first = second-first; movie = second-movie; maps = second-maps }
+second = record { each = each-second; shut = shut-second; span = second-length; payloads = second-payloads; counts = second-counts; first = second-first; found = second-found; maps = second-maps }

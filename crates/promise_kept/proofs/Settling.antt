@@ -17,6 +17,7 @@ use Rattle.boxes.proofs.Editing.{edit-length, edit-bytes}
 use Rattle.boxes.proofs.Wording.{leaf-length, leaf-bytes}
 use Rattle.mdat.specs.Relocate.{relocate, Alike}
 use Rattle.rule_tracks.specs.Six.{sixRule}
+use Rattle.release.specs.Releases.{releaseOf}
 use Rattle.judge.specs.Acceptance.{Meets}
 use Rattle.edit_offsets.specs.Settle.{offsets, settled}
 use Rattle.edit_offsets.proofs.Closing.{ShutMoov}
@@ -29,7 +30,7 @@ use Rattle.promise_kept.proofs.Arranges.{Arranges}
 use Rattle.promise_kept.proofs.Arranging.{arranged-boxes, arranged-edit, arranged-alike}
 
 -- the file xs, its content edited to ys, its boxes in the order A
-module _ {A : List Box → List Box} (a : Arranges A) (xs ys : List ℕ) (w : Bytes xs) (m : Meets xs) (c : Content xs ys) where
+module _ {A : List Box → List Box} (a : Arranges A) (xs ys : List ℕ) (w : Bytes xs) (m : Meets xs) (c : Content (releaseOf (boxes xs)) xs ys) where
   abbrev g : Leaves
   g = rewordLeaf offsets (relocate (boxes xs) (A (boxes ys)))
 
@@ -83,8 +84,8 @@ module _ {A : List Box → List Box} (a : Arranges A) (xs ys : List ℕ) (w : By
       made
 
   -- which keeps every rule but 8
-  pub edit-sound : Sound Changes
-  edit-sound = sound-then (sound-less (λ k d b b′ r. r .0 .0) (c .sound)) (offsets-sound (relocate (boxes xs) (A (boxes ys))))
+  pub edit-sound : Sound (releaseOf (boxes xs)) Changes
+  edit-sound = sound-then (sound-less (λ k d b b′ r. r .0 .0) (c .sound)) (offsets-sound (relocate (boxes xs) (A (boxes ys))) (releaseOf (boxes xs)))
 
   -- boxes tile it
   pub new-tiled : after new ≡ []

@@ -4,18 +4,20 @@ use mathlib.Core.Path.{_≡_, _∙_}
 use mathlib.Core.Bool.{true}
 use mathlib.Core.List.{List}
 use Rattle.wire.specs.Numbers.{word}
-use Rattle.codes.specs.Codes.{TRAK, TKHD, DINF, DREF, STBL, STSD, MDAT}
+use Rattle.codes.specs.Codes.{FTYP, TRAK, TKHD, DINF, DREF, STBL, STSD, MDAT}
 use Rattle.boxes.specs.Containers.{FILE, kindIn}
 use Rattle.boxes.specs.Kin.{Leaf}
 use Rattle.boxes.proofs.Kin.{Then}
+use Rattle.release.specs.declared.Release.{Release}
 use Rattle.rule_lists.specs.Five.{listForm}
 use Rattle.rule_lists.specs.Nine.{allUrls}
 use Rattle.rule_headers.specs.Forms.{form}
 use Rattle.rule_tracks.proofs.Kept.{Tables}
 use Rattle.rule_entries.proofs.Kept.{Described}
 
--- how a box is related to what it becomes, by its container's kind and its code: each rule but 8 is kept, and so are payloads
-pub record Sound (G : Leaf) : Type 0 where
+-- how a box is related to what it becomes, by its container's kind and its code: each rule of a release but 8 is kept, and so are brands and payloads
+pub record Sound (release : Release) (G : Leaf) : Type 0 where
+  pub ftyp : (b b′ : List ℕ) → G FILE FTYP b b′ → b ≡ b′
   pub mdat : (b b′ : List ℕ) → G FILE MDAT b b′ → b ≡ b′
   pub forms : (k c : ℕ) (b b′ : List ℕ) → kindIn k c ≡ 0 → G k c b b′ → form k c b ≡ true → form k c b′ ≡ true
   pub tkhd : (b b′ : List ℕ) → G TRAK TKHD b b′ → word 4 b 12 ≡ word 4 b′ 12
@@ -23,12 +25,13 @@ pub record Sound (G : Leaf) : Type 0 where
   pub dref : (b b′ : List ℕ) → G DINF DREF b b′ → listForm b ≡ true → listForm b′ ≡ true
   pub urls : (b b′ : List ℕ) → G DINF DREF b b′ → allUrls b ≡ true → allUrls b′ ≡ true
   pub tables : Tables G
-  pub described : Described G
+  pub described : Described release G
 
 -- a narrower relation is sound too
-pub sound-less : {G H : Leaf} → ((k c : ℕ) (b b′ : List ℕ) → H k c b b′ → G k c b b′) → Sound G → Sound H
+pub sound-less : {release : Release} {G H : Leaf} → ((k c : ℕ) (b b′ : List ℕ) → H k c b b′ → G k c b b′) → Sound release G → Sound release H
 sound-less h s =
     record {
+      ftyp = λ b b′ r. s .ftyp b b′ (h _ _ b b′ r);
       mdat = λ b b′ r. s .mdat b b′ (h _ _ b b′ r);
       forms = λ k c b b′ z r. s .forms k c b b′ z (h k c b b′ r);
       tkhd = λ b b′ r. s .tkhd b b′ (h _ _ b b′ r);
@@ -55,9 +58,10 @@ sound-less h s =
     }
 
 -- one after the other
-pub sound-then : {G H : Leaf} → Sound G → Sound H → Sound (Then G H)
+pub sound-then : {release : Release} {G H : Leaf} → Sound release G → Sound release H → Sound release (Then G H)
 sound-then s t =
     record {
+      ftyp = λ b b″ r. s .ftyp b (r .0) (r .1) ∙ t .ftyp (r .0) b″ (r .2);
       mdat = λ b b″ r. s .mdat b (r .0) (r .1) ∙ t .mdat (r .0) b″ (r .2);
       forms = λ k c b b″ z r q. t .forms k c (r .0) b″ z (r .2) (s .forms k c b (r .0) z (r .1) q);
       tkhd = λ b b″ r. s .tkhd b (r .0) (r .1) ∙ t .tkhd (r .0) b″ (r .2);

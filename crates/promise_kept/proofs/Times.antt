@@ -14,6 +14,7 @@ use Rattle.boxes.specs.Boxes.{boxes}
 use Rattle.boxes.proofs.Reading.{All}
 use Rattle.boxes.proofs.Kin.{Made, kin-edit}
 use Rattle.boxes.proofs.Wording.{reword-length}
+use Rattle.release.specs.declared.Release.{Release}
 use Rattle.edit_shift.specs.Shift.{hasTimes, timesLeaf, allTimesBy}
 use Rattle.edit_offsets.proofs.Closing.{ShutMoov}
 use Rattle.edit_shift.proofs.Passing.{all-length, all-bytes}
@@ -38,14 +39,14 @@ clocked-made f k c b = go (hasTimes k c) refl
     go false e = clocked-same k c b
 
 -- the times of every header
-pub shift-content : (f : ℕ → ℕ) (xs : List ℕ) → Bytes xs → length xs ≤ LONGEST → All ShutMoov (boxes xs) → Content xs (allTimesBy f xs)
+pub shift-content : (release : Release) (f : ℕ → ℕ) (xs : List ℕ) → Bytes xs → length xs ≤ LONGEST → All ShutMoov (boxes xs) → Content release xs (allTimesBy f xs)
 unfolding allTimesBy
-shift-content f xs w n o =
+shift-content release f xs w n o =
     let k = kin-edit (timesLeaf f) DEPTH FILE xs w (omega (arith, all-length f xs)) in
     record {
       leaf = Made (timesLeaf f);
       kin = k;
-      sound = sound-less (λ k c b b′ r. rw (r .0) (clocked-made f k c b)) clocked-sound;
+      sound = sound-less (λ k c b b′ r. rw (r .0) (clocked-made f k c b)) (clocked-sound release);
       stco = λ b b′ r. in-stbl STCO b b′ (rw (r .0) (clocked-made f STBL STCO b));
       shut = kin-shut (k .0) o;
       bytes = all-bytes f xs w;

@@ -23,6 +23,8 @@ use Rattle.movie.specs.Named.{stsdAt}
 use Rattle.movie.proofs.Naming.{bytes-follow, lies-track, stsd-lies}
 use Rattle.movie.proofs.Stsds.{Each, each-from, each-at, each-stsd}
 use Rattle.movie.proofs.Stsds.Each.{none, more}
+use Rattle.release.specs.declared.Release.{Release}
+use Rattle.release.specs.Releases.{releaseOf}
 use Rattle.rule_shape.proofs.Descent.{node-met, in-moov}
 use Rattle.rule_lists.specs.Five.{Listed}
 use Rattle.rule_entries.specs.Ten.{aroundOf, entriesFine, stsdsFine, tenIn, tenRule}
@@ -65,20 +67,20 @@ whole-along b v h =
 
 -- ---- rule 10
 
-abbrev Fine : Stsd → Type 0
-Fine s = entriesFine (aroundOf (s .trak)) (drop FRONT (s .body)) ≡ true
+abbrev Fine : Release → Stsd → Type 0
+Fine release s = entriesFine (aroundOf (s .trak)) release (drop FRONT (s .body)) ≡ true
 
-fine-each : {t : ℕ} {l : List Stsd} → Each (λ s. s .track ≡ s .track) t l → stsdsFine l ≡ true → Each Fine t l
+fine-each : (release : Release) {t : ℕ} {l : List Stsd} → Each (λ s. s .track ≡ s .track) t l → stsdsFine release l ≡ true → Each (Fine release) t l
 unfolding stsdsFine
-fine-each none q = none
-fine-each (more {s = s} {l = l} e h a) q = let w = both (entriesFine (aroundOf (s .trak)) (drop FRONT (s .body))) (stsdsFine l) q in more e (w .0) (fine-each a (w .1))
+fine-each release none q = none
+fine-each release (more {s = s} {l = l} e h a) q = let w = both (entriesFine (aroundOf (s .trak)) release (drop FRONT (s .body))) (stsdsFine release l) q in more e (w .0) (fine-each release a (w .1))
 
 module _ (xs : List ℕ) (m : Meets xs) where
-  fine-at : (n : ℕ) → n < tracks xs → entriesFine (aroundOf (track xs n)) (drop FRONT (follow toStsd (track xs n))) ≡ true
+  fine-at : (n : ℕ) → n < tracks xs → entriesFine (aroundOf (track xs n)) (releaseOf (boxes xs)) (drop FRONT (follow toStsd (track xs n))) ≡ true
   unfolding tenIn track ifEq
   fine-at n k =
-      let q : stsdsFine (stsdsFrom 0 (movie xs) 0) ≡ true = node-met (in-moov (file-met xs m tenRule (m .ten))) in
-      each-at Fine n (movie xs) 0 0 (fine-each (each-from (λ s. s .track ≡ s .track) (movie xs) 0 0 (λ i h. refl)) q) k
+      let q : stsdsFine (releaseOf (boxes xs)) (stsdsFrom 0 (movie xs) 0) ≡ true = node-met (in-moov (file-met xs m (tenRule (releaseOf (boxes xs))) (m .ten))) in
+      each-at (Fine (releaseOf (boxes xs))) n (movie xs) 0 0 (fine-each (releaseOf (boxes xs)) (each-from (λ s. s .track ≡ s .track) (movie xs) 0 0 (λ i h. refl)) q) k
 
   -- ---- each of them
 
@@ -89,7 +91,7 @@ module _ (xs : List ℕ) (m : Meets xs) where
         let g = listed-at xs m n k in
         record {
           listed = g;
-          meet = from-meet (aroundOf (track xs n)) (n + 1) (boxes (drop FRONT (follow toStsd (track xs n)))) _ (fine-at n k);
+          meet = from-meet (aroundOf (track xs n)) (releaseOf (boxes xs)) (n + 1) (boxes (drop FRONT (follow toStsd (track xs n)))) _ (fine-at n k);
           filled = bytes-follow toStsd (track xs n) (bytes-lies (lies-track xs n v) v);
           lies = stsd-lies xs n v;
           whole = let l = lies-track xs n v in lies-in l (whole-along (track xs n) (bytes-lies l v) (omega (arith, g .room)));

@@ -13,6 +13,8 @@ use Rattle.movie.specs.Movie.{tracks, track, sampleTable}
 use Rattle.movie.specs.Stsds.{stsds, standing}
 use Rattle.movie.specs.Entries.{Entry, entries}
 use Rattle.movie.specs.Named.{stsdAt}
+use Rattle.release.specs.declared.Release.{Release}
+use Rattle.release.specs.declared.Release.the-variants.{Release4}
 use Rattle.entry_records.specs.declared.field.Record.{Record}
 use Rattle.entry_records.specs.declared.field.Record.the-variants.{Broken}
 use Rattle.entry_records.specs.Fields.{fieldsRule}
@@ -20,6 +22,7 @@ use Rattle.entry_records.specs.Texts.{textOf}
 use Rattle.entry_records.specs.Records.{readOf}
 use Rattle.entry_records.proofs.Reading.{written-reads}
 use Rattle.entry_records.proofs.Rewriting.{read-writes}
+use Rattle.entry_records.proofs.Wider.{read-wider}
 use Rattle.rule.specs.declared.Answer.the-variants.{Done}
 use Rattle.rule.specs.Results.{answerIn, leftIn}
 use Rattle.rule.specs.Results.Result.{gives, refuses}
@@ -83,17 +86,21 @@ sheet-unsheet = roundTrip.sheet-unsheet
 -- ---- records
 
 -- a record that the writer takes reads back as itself
-pub record-back : (most : ℕ) (r : Record) → fieldsRule most r ≡ true → readOf most (textOf r) ≡ r
+pub record-back : (release : Release) (r : Record) → fieldsRule release r ≡ true → readOf release (textOf r) ≡ r
 record-back = written-reads
 
 -- a record that was read is one that the writer takes, and it writes the bytes that it was read from
-pub bytes-back : (most : ℕ) (xs : List ℕ) → Bytes xs → (r : Record) → readOf most xs ≡ r → (r ≡ Broken → ⊥) → (fieldsRule most r ≡ true) × (textOf r ≡ xs)
-bytes-back most xs v r e b = let a = read-writes most xs v r e b in (a .rule, a .text)
+pub bytes-back : (release : Release) (xs : List ℕ) → Bytes xs → (r : Record) → readOf release xs ≡ r → (r ≡ Broken → ⊥) → (fieldsRule release r ≡ true) × (textOf r ≡ xs)
+bytes-back release xs v r e b = let a = read-writes release xs v r e b in (a .rule, a .text)
 
--- numbers that the writer took: the reader gives them back
-pub write-read : (ns out : List ℕ) (n : ℕ) → answerIn (writeResult ns) out ≡ Done n → readResult (take n (leftIn (writeResult ns) out)) ≡ gives ns
+-- a record that one release reads, Release 4 reads as the same
+pub record-wider : (release : Release) (xs : List ℕ) (r : Record) → readOf release xs ≡ r → (r ≡ Broken → ⊥) → readOf Release4 xs ≡ r
+record-wider = read-wider
+
+-- numbers that the writer took: the reader gives them back, of the same release
+pub write-read : (release : Release) (ns out : List ℕ) (n : ℕ) → answerIn (writeResult release ns) out ≡ Done n → readResult release (take n (leftIn (writeResult release ns) out)) ≡ gives ns
 write-read = written-back
 
 -- bytes that the reader took: the writer gives them back
-pub read-write : (xs : List ℕ) → Bytes xs → (out : List ℕ) (n : ℕ) → answerIn (readResult xs) out ≡ Done n → writeResult (take n (leftIn (readResult xs) out)) ≡ gives xs
-read-write xs v out n e = read-back xs out n v e
+pub read-write : (release : Release) (xs : List ℕ) → Bytes xs → (out : List ℕ) (n : ℕ) → answerIn (readResult release xs) out ≡ Done n → writeResult release (take n (leftIn (readResult release xs) out)) ≡ gives xs
+read-write release xs v out n e = read-back release xs out n v e

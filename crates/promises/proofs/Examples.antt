@@ -21,7 +21,7 @@ use Rattle.movie.specs.Entries.{entries, entriesFrom, entriesIn, entriesOf}
 use Rattle.movie.specs.Movie.{handler, references, sampleTable, scale, track}
 use Rattle.movie.specs.Named.{bytesAt, spotIn}
 use Rattle.movie.specs.Stsds.{stsds, stsdsFrom}
-use Rattle.movie.specs.Ways.{follow, placeAlong}
+use Rattle.movie.specs.Ways.{follow, placeAlong, startAlong}
 use Rattle.mdat.specs.Payloads.{inBox, past, placeOf, resolve}
 use Rattle.mdat.specs.Relocate.{relocate}
 use Rattle.mdat.specs.Rules.{chunkIn, chunksIn, lies}
@@ -34,6 +34,8 @@ use Rattle.sample_tables.specs.Tables.{hasForm}
 use Rattle.sample_tables.specs.Times.{timedTo}
 use Rattle.entry_heads.specs.Heads.{audioHead, audioRule, boxHeader, commonHead, commonRule, headRule, headSize, nameRule, visualHead, visualRule, visualStart}
 use Rattle.entry_heads.specs.Kinds.{handlerOf, kindOf}
+use Rattle.release.specs.Compatible.{timesTo, brandListed, brandMissing}
+use Rattle.release.specs.Releases.{releaseIn}
 use Rattle.entry_rules.specs.Decoders.{boxRule, d263Rule, damrRule, framesRule, modeMask, modesRule, periodRule, ratedRule, recordRule}
 use Rattle.entry_rules.specs.Entries.{avcRule, entryRule, esdsRule, handlerRule, insideRule, ruleAs, scaleRule, trackRule}
 use Rattle.rule.specs.Judge.{judgeBox, judgeIn, judgeList}
@@ -51,7 +53,7 @@ use Rattle.rule_lists.specs.Nine.{isUrl}
 use Rattle.rule_tracks.specs.Eight.{eightAt, eightHolds}
 use Rattle.rule_tracks.specs.Seven.{sevenHolds, sevenIn}
 use Rattle.rule_tracks.specs.Six.{tableFine, tableIn}
-use Rattle.rule_entries.specs.Ten.{aroundOf, entriesJudged, meets, stsdsJudged, tenAt}
+use Rattle.rule_entries.specs.Ten.{aroundOf, entriesJudged, stsdsJudged, tenAt}
 use Rattle.judge.specs.Calls.{resultOn, whenAccepted}
 use Rattle.judge.specs.Judgement.{judged, judgedFrom, unlessBroken}
 use Rattle.judge.specs.One.{oneIn}
@@ -72,5 +74,5 @@ pub examples : (numbers kinds ≡ 0 ∷ 0 ∷ 0 ∷ 0 ∷ 0 ∷ 0 ∷ 0 ∷ 0 �
     × (answers edits mediaFirst ≡ Done 603 ∷ Done 603 ∷ Done 619 ∷ Done 603 ∷ [])
     × (files edits mediaFirst ≡ expected)
     × (map (λ xs. samples xs 0) (mediaFirst ∷ expected) ≡ map (λ xs. (60 ∷ []) ∷ []) (mediaFirst ∷ expected))
-unfolding either every isEq isLe isLt oneIf bytes bytesOn word allTo sumTo ifEq ifLe ifLt header write after boxes formOf total whole kindIn parent editBox editIn overBoxes allPlain count meant nth placeBy placeIn startIn around boxBy editWay nthBy overNth overTurn eachWord reword rewordLeaf mayShift shiftTime entries entriesFrom entriesIn entriesOf handler references sampleTable scale track bytesAt spotIn stsds stsdsFrom follow placeAlong inBox past placeOf resolve relocate chunkIn chunksIn lies chunkSamples joinTo sampleIn samplesOf chunkAt descriptionOf extentOf firstSample samplesIn emptyTogether tablesAgree rises runAmong runFine runOf runsFine bytesFrom sizeAt sizesListed hasForm timedTo audioHead audioRule boxHeader commonHead commonRule headRule headSize nameRule visualHead visualRule visualStart handlerOf kindOf boxRule d263Rule damrRule framesRule modeMask modesRule periodRule ratedRule recordRule avcRule entryRule esdsRule handlerRule insideRule ruleAs scaleRule trackRule judgeBox judgeIn judgeList answerIn asked leftIn allBox allIn allList sooner unless besides exactly first needed shape mayHave barred brandsForm form handlerForm headForm ifBox tracksIn fresh freshTo identity tkhdPlace listFormIn listForm passing isUrl eightAt eightHolds sevenHolds sevenIn tableFine tableIn aroundOf entriesJudged meets stsdsJudged tenAt resultOn whenAccepted judged judgedFrom unlessBroken oneIn closed formAfter settled allTimes allTimesBy both hasTimes shiftOf shiftResult shiftable timesLeaf trackTimes kindAt recordCode recordReplaced replaceOf replaceResult takes just moovSecond moveOf moveResult others samples
+unfolding either every isEq isLe isLt oneIf bytes bytesOn word allTo sumTo ifEq ifLe ifLt header write after boxes formOf total whole kindIn parent editBox editIn overBoxes allPlain count meant nth placeBy placeIn startIn around boxBy editWay nthBy overNth overTurn eachWord reword rewordLeaf mayShift shiftTime entries entriesFrom entriesIn entriesOf handler references sampleTable scale track bytesAt spotIn stsds stsdsFrom follow placeAlong startAlong inBox past placeOf resolve relocate chunkIn chunksIn lies chunkSamples joinTo sampleIn samplesOf chunkAt descriptionOf extentOf firstSample samplesIn emptyTogether tablesAgree rises runAmong runFine runOf runsFine bytesFrom sizeAt sizesListed hasForm timedTo audioHead audioRule boxHeader commonHead commonRule headRule headSize nameRule visualHead visualRule visualStart handlerOf kindOf boxRule d263Rule damrRule framesRule modeMask modesRule periodRule ratedRule recordRule avcRule entryRule esdsRule handlerRule insideRule ruleAs scaleRule trackRule judgeBox judgeIn judgeList answerIn asked leftIn allBox allIn allList sooner unless besides exactly first needed shape mayHave barred brandsForm form handlerForm headForm ifBox tracksIn fresh freshTo identity tkhdPlace listFormIn listForm passing isUrl eightAt eightHolds sevenHolds sevenIn tableFine tableIn timesTo brandListed brandMissing releaseIn aroundOf entriesJudged stsdsJudged tenAt resultOn whenAccepted judged judgedFrom unlessBroken oneIn closed formAfter settled allTimes allTimesBy both hasTimes shiftOf shiftResult shiftable timesLeaf trackTimes kindAt recordCode recordReplaced replaceOf replaceResult takes just moovSecond moveOf moveResult others samples
 examples = (refl, refl, refl, refl, refl, refl)

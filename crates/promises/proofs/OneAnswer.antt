@@ -3,6 +3,7 @@ use Prim.Native.Nat.{ℕ}
 use mathlib.Core.Path.{_≡_}
 use mathlib.Core.List.{List}
 use lib.IntN.{ℤ}
+use Rattle.release.specs.declared.Release.{Release}
 use Rattle.rule.specs.declared.Answer.{Answer}
 use Rattle.rule.specs.Results.{Result, Exact}
 use Rattle.rule.proofs.Results.{one-answer}
@@ -47,8 +48,8 @@ module _ (file : List ℕ) where
 pub one-table : (k : ℕ) (sheet : List ℕ) (t : ℕ) → One (tableResult k sheet t)
 one-table k sheet t = one _
 
-pub one-read : (entry : List ℕ) → One (readResult entry)
-one-read entry = one _
+pub one-read : (release : Release) (entry : List ℕ) → One (readResult release entry)
+one-read release entry = one _
 
-pub one-write : (fields : List ℕ) → One (writeResult fields)
-one-write fields = one _
+pub one-write : (release : Release) (fields : List ℕ) → One (writeResult release fields)
+one-write release fields = one _

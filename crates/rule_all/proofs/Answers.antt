@@ -14,6 +14,7 @@ use Rattle.sample_tables.specs.Rules.{Six, tablesAgree}
 use Rattle.sample_tables.proofs.Tables.{form-is}
 use Rattle.sample_tables.proofs.Rules.{seven-is}
 use Rattle.mdat.specs.Rules.{Ready}
+use Rattle.release.specs.declared.Release.the-variants.{Release6}
 use Rattle.rule.specs.declared.Verdict.{Verdict}
 use Rattle.rule.specs.declared.Verdict.the-variants.{Fine, Bad}
 use Rattle.rule.specs.Verdict.{isFine}
@@ -57,5 +58,5 @@ no-answer xs t =
     }
 
 pub all-answer : (xs : List ℕ) (t : Track) (r : ℕ) → r ≤ 11 → headsFine xs t ≡ true → listsFine xs t ≡ true → formsFine xs t ≡ true
-    → tablesFine (boxes xs) xs t ≡ true → (11 ≤ r → entriesFine (aroundIn xs t) (drop FRONT (slotIn xs (t .stsd))) ≡ true) → AllFine xs t r
+    → tablesFine (boxes xs) xs t ≡ true → (11 ≤ r → entriesFine (aroundIn xs t) Release6 (drop FRONT (slotIn xs (t .stsd))) ≡ true) → AllFine xs t r
 all-answer xs t r m b c d e f = record { most = m; heads = λ h. b; lists = λ h. c; forms = λ h. d; tables = λ h. e; entries = f }

@@ -22,6 +22,7 @@ use Rattle.movie.specs.Stsds.{stsdsFrom}
 use Rattle.movie.proofs.Boxed.{stsds-hit, stsds-miss}
 use Rattle.layout.specs.Track.{Has}
 use Rattle.layout.specs.Tracks.{Framed}
+use Rattle.release.specs.Releases.{releaseOf}
 use Rattle.rule.specs.Rule.{allIn}
 use Rattle.rule.proofs.Opened.{closed}
 use Rattle.rule_shape.specs.Three.{needed}
@@ -83,7 +84,7 @@ module _ (l : List Box) {xs : List ℕ} (h : Has MOOV xs) (head : form MOOV MVHD
       closed (rulesToNine l) 4 MOOV xs (record {
         node = rw (h .shut, h .three, differ, total-few);
         leaves = all-map (λ x p z. leaf-moov l (x .code) (x .body) p) (sole-each h MVHD refl (λ b. form MOOV MVHD b ≡ true) head);
-        inside = in-moov (rulesToNine l) 4 xs (numbered (rulesToNine l) 4 xs (λ i k. also-first (rulesToNine l) tenRule 4 TRAK _ (each i k)));
+        inside = in-moov (rulesToNine l) 4 xs (numbered (rulesToNine l) 4 xs (λ i k. also-first (rulesToNine l) (tenRule (releaseOf l)) 4 TRAK _ (each i k)));
         end = rw (h .two);
       })
 

@@ -7,6 +7,7 @@ use Rattle.wire.specs.Tests.{pick}
 use Rattle.boxes.specs.Box.{Box}
 use Rattle.boxes.specs.Boxes.{boxes}
 use Rattle.boxes.specs.Containers.{FILE, DEPTH}
+use Rattle.release.specs.Releases.{releaseOf}
 use Rattle.rule.specs.Rule.{Rule, allIn}
 use Rattle.rule_shape.specs.Two.{twoRule}
 use Rattle.rule_shape.specs.Three.{threeRule}
@@ -33,7 +34,7 @@ rulesToNine l = also twoRule (also threeRule (also fourRule (also fiveRule (also
 
 -- and with rule 10
 abbrev pub allRules : List Box → Rule
-allRules l = also (rulesToNine l) tenRule
+allRules l = also (rulesToNine l) (tenRule (releaseOf l))
 
 -- an answer other than 0 says that a test holds
 pub record Sure (r : ℕ) (t : Bool) : Type 0 where
@@ -44,4 +45,4 @@ pub record SureBefore (xs : List ℕ) (r : ℕ) : Type 0 where
   pub low : r < 10 → r ≡ 2
   pub most : r ≤ 11
   pub nine : 10 ≤ r → allIn (rulesToNine (boxes xs)) DEPTH FILE xs ≡ true
-  pub ten : 11 ≤ r → allIn tenRule DEPTH FILE xs ≡ true
+  pub ten : 11 ≤ r → allIn (tenRule (releaseOf (boxes xs))) DEPTH FILE xs ≡ true

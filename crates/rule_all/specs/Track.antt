@@ -16,6 +16,7 @@ use Rattle.sample_tables.specs.Tables.{tableForm}
 use Rattle.sample_tables.specs.Sizes.{sizesForm}
 use Rattle.sample_tables.specs.Rules.{tablesAgree}
 use Rattle.mdat.specs.Rules.{chunksLie}
+use Rattle.release.specs.declared.Release.the-variants.{Release6}
 use Rattle.entry_rules.specs.declared.entry.Around.{Around}
 use Rattle.entry_rules.specs.declared.entry.Around.the-variants as around
 use Rattle.layout.specs.declared.track.Track.{Track}
@@ -65,22 +66,22 @@ tablesFine l xs t =
 abbrev pub aroundIn : List ℕ → Track → Around
 aroundIn xs t = around.Track (word 4 (slotIn xs (t .mdhd)) 12) (word 4 (slotIn xs (t .hdlr)) 8) (word 4 (slotIn xs (t .dref)) 4)
 
--- an answer of 10 or more says that it meets rules 4 to 9, one of 11 rule 10 too
+-- an answer of 10 or more says that it meets rules 4 to 9, one of 11 the narrower rule 10 too
 pub record AllFine (xs : List ℕ) (t : Track) (r : ℕ) : Type 0 where
   pub most : r ≤ 11
   pub heads : 10 ≤ r → headsFine xs t ≡ true
   pub lists : 10 ≤ r → listsFine xs t ≡ true
   pub forms : 10 ≤ r → formsFine xs t ≡ true
   pub tables : 10 ≤ r → tablesFine (boxes xs) xs t ≡ true
-  pub entries : 11 ≤ r → entriesFine (aroundIn xs t) (drop FRONT (slotIn xs (t .stsd))) ≡ true
+  pub entries : 11 ≤ r → entriesFine (aroundIn xs t) Release6 (drop FRONT (slotIn xs (t .stsd))) ≡ true
 
 -- a track of payload b, in a file with the boxes l: all that its containers and boxes are asked
 abbrev pub Good : List Box → List ℕ → Type 0
 Good l b = allIn (allRules l) 4 TRAK b ≡ true
 
--- its entries meet rule 10
+-- its entries meet rule 10, in the narrower release and so in either
 abbrev pub EntriesMeet : List ℕ → Type 0
-EntriesMeet b = entriesFine (aroundOf b) (drop FRONT (follow toStsd b)) ≡ true
+EntriesMeet b = entriesFine (aroundOf b) Release6 (drop FRONT (follow toStsd b)) ≡ true
 
 -- what is said of it, by where its boxes stand
 pub record SaysOf (xs : List ℕ) (t : Track) (r : TrackSays) : Type 0 where

@@ -7,6 +7,7 @@ use layout::gather::Slot;
 use layout::track::Track;
 use mdat::chunks;
 use mdat::payload;
+use release::Release;
 use rule::Verdict;
 use rule_headers::forms;
 use rule_lists::form;
@@ -25,6 +26,7 @@ ghost use Rattle.boxes.specs.Boxes.{FRONT, boxes};
 ghost use Rattle.boxes.specs.Containers.{LONGEST};
 ghost use Rattle.layout.specs.Slots.{slotIn};
 ghost use Rattle.layout.specs.Tracks.{FirstMdat};
+ghost use Rattle.release.specs.declared.Release.the-variants.{Release6};
 ghost use Rattle.rule_entries.specs.Ten.{entriesFine};
 ghost use Rattle.rule_all.specs.Track.{Inside, headsFine, listsFine, formsFine, tablesFine, aroundIn, AllFine, SaysOf};
 
@@ -105,10 +107,10 @@ fn tables_fine(file: &[u8], t: Track, mdat: Slot) -> usize
     )
 }
 
-// Rule 10: 1 or 0.
+// Rule 10 in the narrower release, which is asked first since few files need the wider: 1 or 0.
 fn entries_fine(file: &[u8], t: Track) -> usize
     requires { ⌜ Inside (now file) t × (length (now file) ≤ LONGEST) ⌝ }
-    ensures { λ r. ⌜ r ≡ oneIf (entriesFine (aroundIn (now (file .entry)) t) (drop FRONT (slotIn (now (file .entry)) (t .stsd)))) ⌝ }
+    ensures { λ r. ⌜ r ≡ oneIf (entriesFine (aroundIn (now (file .entry)) t) Release6 (drop FRONT (slotIn (now (file .entry)) (t .stsd)))) ⌝ }
 {
     let mdhd = t.mdhd;
     let hdlr = t.hdlr;
@@ -123,13 +125,14 @@ fn entries_fine(file: &[u8], t: Track) -> usize
         lend::rest(gather::bytes(file, stsd), walk::FRONT),
         0,
         around,
+        Release::Release6,
     ) {
         Verdict::Fine => 1,
         Verdict::Bad(_) => 0,
     }
 }
 
-// 2; or 10, where it meets rules 4 to 9; or 11, where it meets rule 10 too.
+// 2; or 10, where it meets rules 4 to 9; or 11, where it meets the narrower rule 10 too.
 fn all_fine(file: &[u8], t: Track, mdat: Slot) -> usize
     requires { ⌜ Inside (now file) t × (length (now file) ≤ LONGEST) × FirstMdat (now file) mdat ⌝ }
     ensures { λ r. ⌜ AllFine (now (file .entry)) t r ⌝ }

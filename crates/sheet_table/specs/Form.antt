@@ -8,8 +8,9 @@ use Rattle.wire.specs.Clauses.{isEq, isLe, every}
 use Rattle.wire.specs.Numbers.{word}
 use Rattle.wire.specs.Same.{same}
 use Rattle.movie.specs.Entries.{Entry}
+use Rattle.release.specs.declared.Release.the-variants.{Release4}
 use Rattle.entry_rules.specs.declared.entry.Around.the-variants.{Alone}
-use Rattle.entry_rules.specs.Entries.{FRAMES, entryRule}
+use Rattle.entry_rules.specs.Entries.{entryRule}
 use Rattle.sheet.specs.Sheet.{SLOT, bodiesAt, sheet}
 
 -- "at most 4" tracks
@@ -37,10 +38,11 @@ unfoldable pub steps : ℕ → List Entry → Bool
 steps t [] = true
 steps t (e ∷ es) = pick (follows t (e .track)) (steps (e .track) es) false
 
--- "each body must be a box of its kind that meets its entry rule, apart from TimeScale, data reference and handler"
+-- "each body must be a box of its kind that meets its entry rule, apart from TimeScale, data reference and handler",
+-- "by the wider rule" of the two releases
 unfoldable pub allMeet : List Entry → Bool
 allMeet [] = true
-allMeet (e ∷ es) = pick (entryRule Alone FRAMES (e .bytes)) (allMeet es) false
+allMeet (e ∷ es) = pick (entryRule Alone Release4 (e .bytes)) (allMeet es) false
 
 -- "A sheet must have the form above": it is the sheet that its own entries make, whatever their places
 unfoldable pub formed : ℕ → List ℕ → Bool

@@ -2,6 +2,7 @@
 use crate::slots;
 use entry_rules::entry;
 use entry_rules::entry::Around;
+use release::Release;
 use wire::compare;
 use wire::lend;
 use wire::number;
@@ -64,14 +65,14 @@ fn steps(slots: &[u8], bodies: &[u8], n: usize, last: usize) -> usize
     )
 }
 
-// 1 where the bodies of n slots all meet their rule, else 0.
+// 1 where the bodies of n slots all meet their rule, the wider one, else 0.
 fn all_meet(slots: &[u8], bodies: &[u8], n: usize) -> usize
     ensures { λ r. ⌜ r ≡ oneIf (allMeet (read n (now (slots .entry)) (now (bodies .entry)))) ⌝ }
 {
     if n == 0 {
         return 1;
     }
-    if entry::entry_rule(slots::body(slots, bodies), Around::Alone, entry::FRAMES) == 0 {
+    if entry::entry_rule(slots::body(slots, bodies), Around::Alone, Release::Release4) == 0 {
         return 0;
     }
     all_meet(

@@ -32,7 +32,7 @@ fn newer(files: &[u8], call: &[u8], out: &mut [u64]) -> u64 {
 pub fn numbers(file: &[u8], call: &[u8], out: &mut [u64]) -> u64 {
     match call::kind(call) {
         4 => threegp::threegp_track(file, call::first(call) as u64, out),
-        5 => threegp::threegp_record_read(file, out),
+        5 => threegp::threegp_record_read(file, call::first(call) as u64, out),
         _ => newer(file, call, out),
     }
 }
@@ -46,15 +46,15 @@ fn take(part: &[u8], list: &mut [u64; 20]) {
     }
 }
 
-fn write_first(list: &[u64; 20], n: usize, out: &mut [u8]) -> u64 {
+fn write_first(list: &[u64; 20], n: usize, release: u64, out: &mut [u8]) -> u64 {
     let all: &[u64] = list;
-    threegp::threegp_record_write(&all[0..number::least(n, all.len())], out)
+    threegp::threegp_record_write(&all[0..number::least(n, all.len())], release, out)
 }
 
-fn record_write(part: &[u8], out: &mut [u8]) -> u64 {
+fn record_write(part: &[u8], release: u64, out: &mut [u8]) -> u64 {
     let mut list = [0u64; 20];
     take(part, &mut list);
-    write_first(&list, part.len() / 8, out)
+    write_first(&list, part.len() / 8, release, out)
 }
 
 // Those that write bytes.
@@ -62,7 +62,7 @@ pub fn bytes(file: &[u8], call: &[u8], out: &mut [u8]) -> u64 {
     match call::kind(call) {
         9 => threegp::threegp_sheet(file, out),
         10 => threegp::threegp_table(file, call::first(call) as u64, out),
-        11 => record_write(file, out),
+        11 => record_write(file, call::first(call) as u64, out),
         12 => threegp::threegp_listing(file, out),
         13 => threegp::threegp_shift(file, call::minutes(call::first(call)), out),
         14 => threegp::threegp_replace(file, call::first(call) as u64, call::more(call), out),

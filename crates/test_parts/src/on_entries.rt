@@ -3,11 +3,9 @@ use crate::named;
 use crate::print;
 use entry_rules::entry;
 use entry_rules::entry::Around;
+use release::Release;
 use wire::lend;
 use wire::number;
-
-// The largest frames_per_sample of an older release.
-const WIDER: usize = 255;
 
 fn in_track(rest: &[u8], entry: &[u8]) -> usize {
     let around = Around::Track {
@@ -15,7 +13,7 @@ fn in_track(rest: &[u8], entry: &[u8]) -> usize {
         handler: number::word32(rest, 4),
         references: number::word32(rest, 8),
     };
-    entry::entry_rule(entry, around, entry::FRAMES)
+    entry::entry_rule(entry, around, Release::Release6)
 }
 
 pub fn show(case: &[u8]) {
@@ -25,8 +23,11 @@ pub fn show(case: &[u8]) {
     print::say(b": track ", in_track(rest, entry));
     print::say(
         b" alone ",
-        entry::entry_rule(entry, Around::Alone, entry::FRAMES),
+        entry::entry_rule(entry, Around::Alone, Release::Release6),
     );
-    print::say(b" wider ", entry::entry_rule(entry, Around::Alone, WIDER));
+    print::say(
+        b" wider ",
+        entry::entry_rule(entry, Around::Alone, Release::Release4),
+    );
     print::line();
 }

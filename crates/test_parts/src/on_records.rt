@@ -1,8 +1,8 @@
-// The rule of a decoder record by itself.
+// The rule of a decoder record by itself, in both releases.
 use crate::named;
 use crate::print;
 use entry_rules::decoder;
-use entry_rules::entry;
+use release::Release;
 use wire::lend;
 use wire::number;
 
@@ -13,7 +13,11 @@ pub fn show(case: &[u8]) {
     named::name(case);
     print::say(
         b": ",
-        decoder::record_rule(kind, entry::FRAMES, lend::rest(rest, 4)),
+        decoder::record_rule(kind, Release::Release6, lend::rest(rest, 4)),
+    );
+    print::say(
+        b" wider ",
+        decoder::record_rule(kind, Release::Release4, lend::rest(rest, 4)),
     );
     print::line();
 }

@@ -5,6 +5,7 @@ use newer::Part;
 use rule::Answer;
 ghost use mathlib.Core.Path.{_≡_};
 ghost use Rattle.rule.specs.Results.{Exact};
+ghost use Rattle.release.specs.Releases.{releaseNamed};
 ghost use Rattle.judge.specs.Judgement.{judged};
 ghost use Rattle.read_tracks.specs.Reads.{tracksAnswer, trackResult, offsetsResult};
 ghost use Rattle.sheet.specs.Sheet.{SLOTS};
@@ -119,20 +120,20 @@ pub extern "C" fn threegp_move(file: &[u8], out: &mut [u8]) -> u64
     pack(edit_move::move_moov(file, out))
 }
 
-// The fields of a record as numbers.
+// The fields of a record of a release as numbers.
 #[no_mangle]
-pub extern "C" fn threegp_record_read(entry: &[u8], out: &mut [u64]) -> u64
-    ensures { λ r. ⌜ ForC (readResult (now (entry .entry))) (now (out .entry)) r (now (out .exit)) ⌝ }
+pub extern "C" fn threegp_record_read(entry: &[u8], release: u64, out: &mut [u64]) -> u64
+    ensures { λ r. ⌜ ForC (readResult (releaseNamed release) (now (entry .entry))) (now (out .entry)) r (now (out .exit)) ⌝ }
 {
-    pack(entry_fields::read(entry, out))
+    pack(entry_fields::read(entry, release::of_number(release), out))
 }
 
-// The record of numbers.
+// The record of numbers, of a release.
 #[no_mangle]
-pub extern "C" fn threegp_record_write(numbers: &[u64], out: &mut [u8]) -> u64
-    ensures { λ r. ⌜ ForC (writeResult (now (numbers .entry))) (now (out .entry)) r (now (out .exit)) ⌝ }
+pub extern "C" fn threegp_record_write(numbers: &[u64], release: u64, out: &mut [u8]) -> u64
+    ensures { λ r. ⌜ ForC (writeResult (releaseNamed release) (now (numbers .entry))) (now (out .entry)) r (now (out .exit)) ⌝ }
 {
-    pack(entry_fields::write(numbers, out))
+    pack(entry_fields::write(numbers, release::of_number(release), out))
 }
 
 // The printed listing of a file.

@@ -4,6 +4,7 @@ use entry_heads::head;
 use judge::Judgement;
 use movie::entry;
 use movie::entry::Named;
+use release::Release;
 use rule::Answer;
 use tidy_fields::change;
 use tidy_fields::told;
@@ -12,9 +13,9 @@ use tidy_files::output;
 use tidy_words::tell;
 use wire::lend;
 
-// In an accepted file only an entry of another kind has no fields.
-fn read_part(entry: &[u8], numbers: &mut [u64]) -> Answer {
-    match entry_fields::read(entry, numbers) {
+// In an accepted file, of its release, only an entry of another kind has no fields.
+fn read_part(entry: &[u8], release: Release, numbers: &mut [u64]) -> Answer {
+    match entry_fields::read(entry, release, numbers) {
         Answer::Done(n) => Answer::Done(n),
         Answer::Refused(_, _) => Answer::Refused(20, 0),
     }
@@ -28,7 +29,11 @@ fn read_accepted(file: &[u8], i: usize, numbers: &mut [u64]) -> Answer {
         return Answer::Refused(1, 0);
     }
     match entry::entry(file, i - 1) {
-        Named::At(e) => read_part(lend::front(lend::rest(file, e.place), e.span), numbers),
+        Named::At(e) => read_part(
+            lend::front(lend::rest(file, e.place), e.span),
+            release::of_file(file),
+            numbers,
+        ),
         Named::Missing => Answer::Refused(20, 0),
     }
 }
@@ -72,10 +77,10 @@ fn first(numbers: &[u64; 11], n: usize) -> &[u64] {
     all
 }
 
-// The file with the record of these numbers.
+// The file with the record of these numbers, of its release.
 fn make(file: &[u8], i: usize, numbers: &[u64; 11], n: usize, to: &[u8]) -> usize {
     let mut entry = [0u8; 128];
-    match entry_fields::write(first(numbers, n), &mut entry) {
+    match entry_fields::write(first(numbers, n), release::of_file(file), &mut entry) {
         Answer::Done(m) => replace(
             file,
             i,

@@ -71,6 +71,7 @@ fn put_first(to: i32, number: usize) -> usize {
             tidy record N FIELD=VALUE... FILE OUT\n\
             Entry N is counted from 1, as list does. It is a samr, sawb or s263.\n\
             Fields of a samr and a sawb: vendor, version, modes, period, frames.\n\
+            Frames are 1 to 15, and 1 to 255 in a file that lists the brand 3gp4 and none of 3gp5, 3gp6 and 3gr6.\n\
             Fields of an s263: vendor, version, level, profile, rates (none, or an average, a comma and a maximum).\n\
             Numbers are decimal, or hexadecimal behind 0x.\n",
         ),

@@ -11,9 +11,9 @@ use Rattle.rule_entries.proofs.box_entries.Tie as tie
 
 pub box-entries-spec : {M : Type 1} → statement M
 box-entries-spec = tie.close (tie.spec
-    (λ c. box-other _ _ (c .if1 .taken))
+    (λ c. box-other _ _ _ (c .if1 .taken))
     (λ c κs. search needs)
     (λ c. search needs)
     (λ c. search needs)
     (λ c κs. let s = c .before .before .before .before .before .before in omega (arith, payload-length (s .args .part .now) (s .args .b) (s .pre .1) (s .pre .2), ap length (c .before .before .body .ensures)))
-    (λ c. let s = c .before .before .before .before .before .before .before in box-track (boxAt (s .args .part .now) (s .args .b)) _ (omega arith) (s .pre .0) (rw (c .before .before .before .body .ensures) at (c .track-entries .ensures))))
+    (λ c. let s = c .before .before .before .before .before .before .before in box-track _ (boxAt (s .args .part .now) (s .args .b)) _ (omega arith) (s .pre .0) (rw (c .before .before .before .body .ensures) at (c .track-entries .ensures))))

@@ -1,6 +1,5 @@
 -- The entry with its header, as the rule is asked of it.
 use borrow.Author.Needs.{needs}
-use Rattle.rule_entries.proofs.Entry.{meets-is}
 use Rattle.rule_entries.proofs.entry_meets.Statement.{statement}
 use Rattle.rule_entries.proofs.entry_meets.Tie as tie
 
@@ -11,4 +10,4 @@ entry-meets-spec = tie.close (tie.spec
     (λ c. search needs)
     (λ c. search needs)
     (λ c κs. search needs)
-    (λ c. meets-is _ _ (c .entry-rule .ensures)))
+    (λ c. c .entry-rule .ensures))

@@ -12,4 +12,5 @@ unfolding tenAt
 ten-at-spec = tie.close (tie.spec
     (λ c. eq-nay _ _ _ _ _ (c .if1 .taken) refl)
     (λ c κs. search needs)
-    (λ c. eq-yea _ _ _ _ _ (omega arith) (c .movie-entries .ensures)))
+    (λ c κs. search needs)
+    (λ c. eq-yea _ _ _ _ _ (omega arith) (rw (c .before .of-file .ensures) at (c .movie-entries .ensures))))

@@ -1,3 +1,4 @@
+-- The release by its number, and then the call.
 use borrow.Author.Needs.{needs}
 use Rattle.threegp.proofs.Packing.{for-c}
 use Rattle.threegp.proofs.threegp_record_read.Statement.{statement}
@@ -7,5 +8,6 @@ pub threegp-record-read-spec : {M : Type 1} → statement M
 threegp-record-read-spec = tie.close (tie.spec
     (λ c κs. search needs)
     (λ c κs. search needs)
+    (λ c κs. search needs)
     (λ c. search needs)
-    (λ c. for-c (c .pack .ensures) (c .before .before .before .read .ensures)))
+    (λ c. for-c (c .pack .ensures) (rw (c .before .before .before .before .before .of-number .ensures) at (c .before .before .before .read .ensures))))

@@ -12,6 +12,7 @@ frames-rule-spec = tie.close (tie.spec
     (λ c κs. search needs)
     (λ c. nay _ (fails 0 _ (asked-nay _ (omega arith))))
     (λ c. nay _ (fails 1 _ (not-le _ _ (omega arith))))
+    (λ c κs. search needs)
     (λ c. nay _ (fails 2 _ (not-le _ _ (omega arith))))
     (λ c κs. search needs)
     (λ c. answer _ _ (c .period-rule .ensures) (holds _ _ (asked-yea _ (λ e. omega arith)) (holds _ _ (is-le _ _ (omega arith))

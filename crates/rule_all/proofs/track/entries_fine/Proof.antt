@@ -21,5 +21,5 @@ entries-fine-spec = tie.close (tie.spec
     (arith, c .before .before .before .before .before .before .before .before .before .before .before .before .before .pre .0 .stsd .inside, c .before .before .before .before .before .before .before .before .before .before .before .before .before .pre .1)))
     (λ c. search needs)
     (λ c. search needs)
-    (λ c. fine-yea _ (rw (c .before .before .before .rest .ensures, c .before .before .before .before .bytes4 .ensures, c .before .before .before .before .before .word323 .ensures .0, c .before .before .before .before .before .before .bytes3 .ensures, c .before .before .before .before .before .before .before .word322 .ensures .0, c .before .before .before .before .before .before .before .before .bytes2 .ensures, c .before .before .before .before .before .before .before .before .before .word32 .ensures .0, c .before .before .before .before .before .before .before .before .before .before .bytes .ensures) at (c .before .before .entries-from .ensures)) (entries-fine _ _ 0) (c .enum-told .given .1))
-    (λ c. bad-nay _ (rw (c .before .before .before .rest .ensures, c .before .before .before .before .bytes4 .ensures, c .before .before .before .before .before .word323 .ensures .0, c .before .before .before .before .before .before .bytes3 .ensures, c .before .before .before .before .before .before .before .word322 .ensures .0, c .before .before .before .before .before .before .before .before .bytes2 .ensures, c .before .before .before .before .before .before .before .before .before .word32 .ensures .0, c .before .before .before .before .before .before .before .before .before .before .bytes .ensures) at (c .before .before .entries-from .ensures)) (entries-fine _ _ 0) _ (c .enum-told2 .given .1)))
+    (λ c. fine-yea _ (rw (c .before .before .before .rest .ensures, c .before .before .before .before .bytes4 .ensures, c .before .before .before .before .before .word323 .ensures .0, c .before .before .before .before .before .before .bytes3 .ensures, c .before .before .before .before .before .before .before .word322 .ensures .0, c .before .before .before .before .before .before .before .before .bytes2 .ensures, c .before .before .before .before .before .before .before .before .before .word32 .ensures .0, c .before .before .before .before .before .before .before .before .before .before .bytes .ensures) at (c .before .before .entries-from .ensures)) (entries-fine _ _ _ 0) (c .enum-told .given .1))
+    (λ c. bad-nay _ (rw (c .before .before .before .rest .ensures, c .before .before .before .before .bytes4 .ensures, c .before .before .before .before .before .word323 .ensures .0, c .before .before .before .before .before .before .bytes3 .ensures, c .before .before .before .before .before .before .before .word322 .ensures .0, c .before .before .before .before .before .before .before .before .bytes2 .ensures, c .before .before .before .before .before .before .before .before .before .word32 .ensures .0, c .before .before .before .before .before .before .before .before .before .before .bytes .ensures) at (c .before .before .entries-from .ensures)) (entries-fine _ _ _ 0) _ (c .enum-told2 .given .1)))

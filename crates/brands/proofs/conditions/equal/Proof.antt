@@ -2,8 +2,8 @@
 use Rattle.wire.proofs.Clauses.{yea, nay, is-eq, not-eq}
 use mathlib.Core.Path.{sym}
 use native.Mathlib.Omega.{arith}
-use Rattle.brands.proofs.compatible.equal.Statement.{statement}
-use Rattle.brands.proofs.compatible.equal.Tie as tie
+use Rattle.brands.proofs.conditions.equal.Statement.{statement}
+use Rattle.brands.proofs.conditions.equal.Tie as tie
 
 pub equal-spec : {M : Type 1} → statement M
 equal-spec = tie.close (tie.spec

@@ -1,0 +1,2 @@
+pub mod Compatible
+pub mod Releases
