@@ -2,6 +2,7 @@ pub mod One
 pub mod Answers
 pub mod Shapes
 pub mod Empty
+pub mod Numbers
 pub mod Order
 pub mod Exact
 pub mod Refusals

@@ -1,5 +1,5 @@
 -- How code asks: rules of containers alone by one traversal, the others by another, by the rule's number.
-use Prim.Native.Nat.{ℕ}
+use Prim.Native.Nat.{ℕ, _+_}
 use mathlib.Core.Bool.{Bool, true}
 use mathlib.Core.List.{List}
 use Rattle.wire.specs.Tests.{ifEq, ifLt}
@@ -44,6 +44,11 @@ firstBy n = placedBy (λ k x. formedBy n k (x .form)) (shapeBy n)
 -- of a box, its form first
 abbrev pub formFirst : ℕ → ℕ → ℕ → Box → ℕ → Verdict
 formFirst n d k x p = sooner (unless (formedBy n k (x .form)) p) (judgeBox (firstBy n) (judgeIn (firstBy n) d) k x p)
+
+-- a verdict as one number: 0, or one more than the place
+abbrev pub asNumber : Verdict → ℕ
+asNumber Fine = 0
+asNumber (Bad p) = p + 1
 
 -- ---- rules 4 to 10
 

@@ -29,7 +29,7 @@ fn verdict_of(n: usize, file: &[u8]) -> Verdict
     ensures { λ r. ⌜ r ≡ verdictOf n (now (file .entry)) ⌝ }
 {
     if n < 4 {
-        return shape::first_in(n, file, 0, 0, containers::FILE, containers::DEPTH);
+        return shape::first(n, file);
     }
     rules::judge_in(n, file, file, 0, 0, containers::FILE, containers::DEPTH)
 }
@@ -118,7 +118,7 @@ pub fn editable(file: &[u8]) -> usize
     if rule_all::edit::edits_hold(file) != 0 {
         return 1;
     }
-    match shape::first_in(23, file, 0, 0, containers::FILE, containers::DEPTH) {
+    match shape::first(23, file) {
         Verdict::Fine => 1,
         Verdict::Bad(_) => 0,
     }

@@ -11,9 +11,10 @@ ghost use Prim.Native.Nat.{_+_, _-_, _^_, _≤_, _<_};
 ghost use lib.ListN.{length};
 ghost use Rattle.wire.specs.Clauses.{oneIf};
 ghost use Rattle.boxes.specs.Box.{headOf};
+ghost use Rattle.boxes.specs.Containers.{FILE, DEPTH, LONGEST};
 ghost use Rattle.boxes.specs.Walk.{boxAt};
 ghost use Rattle.rule.specs.Judge.{judgeIn};
-ghost use Rattle.judge.specs.Asked.{shapedBy, shapeBy, formedBy, firstBy, formFirst};
+ghost use Rattle.judge.specs.Asked.{shapedBy, shapeBy, formedBy, firstBy, formFirst, asNumber};
 
 // Whether a container of kind k has the boxes that rule n wants: 1 or 0.
 fn shaped(n: usize, k: usize, part: &[u8]) -> usize
@@ -57,58 +58,69 @@ fn formed(n: usize, k: usize, form: Form) -> usize
     1
 }
 
-// A box of a container of kind k: an opaque one is asked for its form alone.
-fn first_box(n: usize, part: &[u8], b: BoxAt, base: usize, k: usize, depth: usize) -> Verdict
+// A box of a container of kind k: an opaque one is asked for its form alone. The verdict is a number, since that is handed back faster.
+fn first_box(n: usize, part: &[u8], b: BoxAt, base: usize, k: usize, depth: usize) -> usize
     requires { ⌜ (b .head ≡ headOf (b .form)) × (b .head ≤ b .span) × (b .at + b .span ≤ length (now part)) × (base + length (now part) < 2 ^ 60) × (0 < depth) ⌝ }
-    ensures { λ r. ⌜ r ≡ formFirst n (depth - 1) k (boxAt (now (part .entry)) b) (base + b .at) ⌝ }
+    ensures { λ r. ⌜ r ≡ asNumber (formFirst n (depth - 1) k (boxAt (now (part .entry)) b) (base + b .at)) ⌝ }
 {
     let place = base + b.at;
     let form = b.form;
     if formed(n, k, form) == 0 {
-        return Verdict::Bad(place);
+        return place + 1;
     }
     if idle(n, b) != 0 {
-        return Verdict::Fine;
+        return 0;
     }
     let start = place + b.head;
     let kind = containers::kind_in(k, b.code);
     if kind == 0 {
-        return Verdict::Fine;
+        return 0;
     }
     first_in(n, walk::body(part, b), place, start, kind, depth - 1)
 }
 
 // All that a container of kind k holds, as deep as depth containers.
-pub fn first_in(n: usize, part: &[u8], home: usize, base: usize, k: usize, depth: usize) -> Verdict
+fn first_in(n: usize, part: &[u8], home: usize, base: usize, k: usize, depth: usize) -> usize
     requires { ⌜ (home ≤ base) × (base + length (now part) < 2 ^ 60) ⌝ }
-    ensures { λ r. ⌜ r ≡ judgeIn (firstBy n) depth k (now (part .entry)) home base ⌝ }
+    ensures { λ r. ⌜ r ≡ asNumber (judgeIn (firstBy n) depth k (now (part .entry)) home base) ⌝ }
 {
     if depth == 0 {
-        return Verdict::Fine;
+        return 0;
     }
     if shaped(n, k, part) == 0 {
-        return Verdict::Bad(home);
+        return home + 1;
     }
     let mut w = Walk { at: 0 };
     loop {
         match w.step(part) {
-            Step::Found(b, next) => match first_box(n, part, b, base, k, depth) {
-                Verdict::Fine => {
-                    w = next;
+            Step::Found(b, next) => {
+                let found = first_box(n, part, b, base, k, depth);
+                if found != 0 {
+                    return found;
                 }
-                Verdict::Bad(p) => {
-                    return Verdict::Bad(p);
-                }
-            },
+                w = next;
+            }
             Step::End => {
-                return Verdict::Fine;
+                return 0;
             }
             Step::Broken(p) => {
                 if n == 2 {
-                    return Verdict::Bad(base + p);
+                    return base + p + 1;
                 }
-                return Verdict::Fine;
+                return 0;
             }
         }
     }
+}
+
+// What rule n says of a file.
+pub fn first(n: usize, file: &[u8]) -> Verdict
+    requires { ⌜ length (now file) ≤ LONGEST ⌝ }
+    ensures { λ r. ⌜ r ≡ judgeIn (firstBy n) DEPTH FILE (now (file .entry)) 0 0 ⌝ }
+{
+    let found = first_in(n, file, 0, 0, containers::FILE, containers::DEPTH);
+    if found == 0 {
+        return Verdict::Fine;
+    }
+    Verdict::Bad(found - 1)
 }

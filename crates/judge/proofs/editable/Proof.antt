@@ -13,5 +13,5 @@ editable-spec = tie.close (tie.spec
     (λ c κs. search needs)
     (λ c. search needs)
     (λ c. search needs)
-    (λ c. editable-yea _ (c .before .before .first-in .ensures) (c .enum-told .given .1))
-    (λ c. editable-nay _ (c .before .before .first-in .ensures) (c .enum-told2 .given .1)))
+    (λ c. editable-yea _ (c .before .before .first .ensures) (c .enum-told .given .1))
+    (λ c. editable-nay _ (c .before .before .first .ensures) (c .enum-told2 .given .1)))

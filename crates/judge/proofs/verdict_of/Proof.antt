@@ -8,6 +8,6 @@ use Rattle.judge.proofs.verdict_of.Tie as tie
 pub verdict-of-spec : {M : Type 1} → statement M
 verdict-of-spec = tie.close (tie.spec
     (λ c κs. search needs)
-    (λ c. by-shape _ _ (omega arith) (c .first-in .ensures))
+    (λ c. by-shape _ _ (omega arith) (c .first .ensures))
     (λ c κs. search needs)
     (λ c. by-boxes _ _ (omega arith) (c .judge-in .ensures)))

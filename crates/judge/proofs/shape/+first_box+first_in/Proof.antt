@@ -6,15 +6,16 @@ use Rattle.boxes.specs.Boxes.{after}
 use Rattle.boxes.specs.Walk.{boxAt}
 use Rattle.judge.proofs.Answers.{box-leaf, box-node, judge-shallow}
 use Rattle.judge.proofs.Empty.{box-empty}
+use Rattle.judge.proofs.Numbers.{number-as, number-fine, number-whole}
 use Rattle.judge.proofs.Shapes.{first-broken, box-unformed, box-formed, first-unshaped, first-begins, end-tiled, end-other, end-torn}
-use Rattle.judge.specs.Asked.{firstBy, formFirst}
+use Rattle.judge.specs.Asked.{firstBy, formFirst, asNumber}
 use Rattle.rule.proofs.Places.{sooner-none, unless-yea}
 use Rattle.rule.proofs.Traverse.{Found, found-more}
 use Rattle.rule.specs.declared.Verdict.the-variants.{Fine}
 use Rattle.rule.specs.Judge.{judgeIn}
 use Rattle.wire.proofs.Clauses.{was-yea, was-nay}
 use lib.ListN.{length, drop, length-take, length-drop}
-use mathlib.Core.Path.{_≡_, refl, sym, _∙_}
+use mathlib.Core.Path.{_≡_, refl, sym, ap, _∙_}
 use native.Mathlib.Omega.{arith}
 use borrow.Fn.Kinds.{In}
 use borrow.Fn.PlainCycle.{Measures, is, falls, and}
@@ -66,53 +67,62 @@ pub +first-box+first-in-spec : {M : Type 1} → statement M
     (λ t. first-box-lts.spec (formed-reads.Asked, formed-reads.Learnt, idle-reads.Asked, idle-reads.Learnt, kind-in-reads.Asked, kind-in-reads.Learnt, body-reads.Asked, body-reads.Learnt, first-in-below t, first-in.Post) (first-box-at t) first-box.Post
     (λ c. search needs)
     (λ c κs. search needs)
-    (λ c. let a = c .before .before .before .before .args in
-    box-unformed (a .n) _ (a .k) (boxAt (a .part .now) (a .b)) _ (was-nay _ _ (c .if1 .taken) (c .before .formed .ensures)))
+    (λ c. search needs)
+    (λ c. let formed = c .before in
+    let a = formed .before .before .before .args in
+    ap asNumber (box-unformed (a .n) _ (a .k) (boxAt (a .part .now) (a .b)) _ (was-nay _ _ (c .if1 .taken) (formed .formed .ensures))))
     (λ c κs. search needs)
-    (λ c. let s = c .before .before .before .before .before .before in
-    let a = s .args in
-    let f = was-yea _ _ (c .before .before .if1 .left) (c .before .before .before .formed .ensures) in
+    (λ c. let formed = c .before .before .before in
+    let a = formed .before .before .before .args in
+    let f = was-yea _ _ (c .before .before .if1 .left) (formed .formed .ensures) in
     let i = c .before .idle .ensures (c .if2 .taken) in
-    box-formed (a .n) _ (a .k) (boxAt (a .part .now) (a .b)) _ f (box-empty (a .n) _ (a .k) (a .part .now) (a .b) _ (i .0) (i .1)))
+    ap asNumber (box-formed (a .n) _ (a .k) (boxAt (a .part .now) (a .b)) _ f (box-empty (a .n) _ (a .k) (a .part .now) (a .b) _ (i .0) (i .1))))
     (λ c. search needs)
     (λ c κs. search needs)
-    (λ c. let s = c .before .before .before .before .before .before .before .before .before in
+    (λ c. let formed = c .before .before .before .before .before .before in
+    let s = formed .before .before .before in
     let a = s .args in
-    let f = was-yea _ _ (c .before .before .before .before .before .if1 .left) (c .before .before .before .before .before .before .formed .ensures) in
-    box-formed (a .n) _ (a .k) (boxAt (a .part .now) (a .b)) _ f (box-leaf (firstBy (a .n)) _ _ (boxAt (a .part .now) (a .b)) _ (s .pre .1 .0) (c .before .kind-in .ensures) (c .if3 .taken) (unless-yea _ _ refl)))
+    let f = was-yea _ _ (c .before .before .before .before .before .if1 .left) (formed .formed .ensures) in
+    ap asNumber (box-formed (a .n) _ (a .k) (boxAt (a .part .now) (a .b)) _ f (box-leaf (firstBy (a .n)) _ _ (boxAt (a .part .now) (a .b)) _ (s .pre .1 .0) (c .before .kind-in .ensures) (c .if3 .taken) (unless-yea _ _ refl))))
     (λ c κs. search needs)
     (λ c. search needs)
     (λ c κs. (omega arith, (omega arith, rw (c .body .ensures, length-take, length-drop) (omega arith))))
-    (λ c. let s = c .before .before .before .before .before .before .before .before .before .before .before in
+    (λ c. let kind = c .before .before .before in
+    let formed = kind .before .before .before .before .before in
+    let s = formed .before .before .before in
     let a = s .args in
-    let f = was-yea _ _ (c .before .before .before .before .before .before .before .if1 .left) (c .before .before .before .before .before .before .before .before .formed .ensures) in
-    box-formed (a .n) _ (a .k) (boxAt (a .part .now) (a .b)) _ f (box-node (firstBy (a .n)) _ _ (boxAt (a .part .now) (a .b)) _ (s .pre .1 .0) (c .before .before .before .kind-in .ensures) (c .before .before .if3 .left) (rw (c .before .body .ensures) at (c .first-in .ensures)))))
+    let f = was-yea _ _ (kind .before .before .before .before .if1 .left) (formed .formed .ensures) in
+    number-as (rw (c .before .body .ensures) at (c .first-in .ensures))
+    (box-formed (a .n) _ (a .k) (boxAt (a .part .now) (a .b)) _ f (box-node (firstBy (a .n)) _ _ (boxAt (a .part .now) (a .b)) _ (s .pre .1 .0) (kind .kind-in .ensures) (c .before .before .if3 .left) refl))))
     (λ t. first-in-lts.spec (shaped-reads.Asked, shaped-reads.Learnt, step-reads.Asked, step-reads.Learnt, first-box-below t, first-box.Post) (first-in-at t) first-in.Post first-in-Inv-loop first-in-μ-loop
-    (λ c. judge-shallow _ _ _ _ _ _ (c .if1 .taken))
+    (λ c. ap asNumber (judge-shallow _ _ _ _ _ _ (c .if1 .taken)))
     (λ c κs. search needs)
-    (λ c. first-unshaped _ _ _ _ _ _ (c .before .before .if1 .left) (omega arith) (was-nay _ _ (c .if2 .taken) (c .before .shaped .ensures)))
+    (λ c. search needs)
+    (λ c. ap asNumber (first-unshaped _ _ _ _ _ _ (c .before .before .if1 .left) (omega arith) (was-nay _ _ (c .if2 .taken) (c .before .shaped .ensures))))
     (λ c. (first-begins _ _ _ _ _ _ (c .before .before .if1 .left) (was-yea _ _ (c .if2 .left) (c .before .shaped .ensures)), refl))
     (λ c κs. search needs)
     (λ c. search needs)
     (λ c κs. let s = ran _ _ _ _ _ (c .before .before .before .step .ensures) (c .before .b .given .1) in (omega arith, (s .head, s .least, omega arith, omega arith, omega arith)))
-    (λ c. search needs)
-    (λ c. let s = ran _ _ _ _ _ (c .before .before .before .before .before .before .step .ensures) (c .before .before .before .before .b .given .1) in omega arith)
-    (λ c. let s = ran _ _ _ _ _ (c .before .before .before .before .before .before .step .ensures) (c .before .before .before .before .b .given .1) in
-    let i = c .before .before .before .before .before .before .before .loop .inv in
-    (found-more _ _ _ _ (i .0) s (sym (c .enum-told .given .1) ∙ c .before .before .first-box .ensures) (sym (sooner-none Fine)), i .1 ∙ s .rest))
-    (λ c. search needs)
-    (λ c. let s = ran _ _ _ _ _ (c .before .before .before .before .before .before .before .step .ensures) (c .before .before .before .before .before .b .given .1) in
-    let i = c .before .before .before .before .before .before .before .before .loop .inv in
-    first-broken _ _ _ (i .0) s (c .before .before .before .first-box .ensures) (c .before .p .given .1))
+    (λ c. let found = c .before in
+    let s = ran _ _ _ _ _ (found .before .before .before .before .step .ensures) (found .before .before .b .given .1) in
+    let i = found .before .before .before .before .before .loop .inv in
+    number-whole _ (found .first-box .ensures) (c .if3 .taken) (λ p e. first-broken _ _ _ (i .0) s refl e))
+    (λ c. let found = c .before in
+    let s = ran _ _ _ _ _ (found .before .before .before .before .step .ensures) (found .before .before .b .given .1) in omega arith)
+    (λ c. let found = c .before in
+    let s = ran _ _ _ _ _ (found .before .before .before .before .step .ensures) (found .before .before .b .given .1) in
+    let i = found .before .before .before .before .before .loop .inv in
+    (found-more _ _ _ _ (i .0) s (number-fine _ (found .first-box .ensures) (omega arith)) (sym (sooner-none Fine)), i .1 ∙ s .rest))
     (λ c. search needs)
     (λ c. let i = c .before .before .before .loop .inv in
-    let o = ended _ _ _ (c .before .before .step .ensures) (c .enum-told2 .given .1) in
-    end-tiled _ _ (i .0) (i .1) (o .0) (o .1))
+    let o = ended _ _ _ (c .before .before .step .ensures) (c .enum-told .given .1) in
+    ap asNumber (end-tiled _ _ (i .0) (i .1) (o .0) (o .1)))
     (λ c. search needs)
-    (λ c. let o = broke _ _ _ _ (c .before .before .before .before .step .ensures) (c .before .before .p2 .given .1) in omega arith)
+    (λ c. let o = broke _ _ _ _ (c .before .before .before .before .step .ensures) (c .before .before .p .given .1) in omega arith)
+    (λ c. let o = broke _ _ _ _ (c .before .before .before .before .step .ensures) (c .before .before .p .given .1) in omega arith)
     (λ c. let i = c .before .before .before .before .before .loop .inv in
-    let o = broke _ _ _ _ (c .before .before .before .before .step .ensures) (c .before .before .p2 .given .1) in
-    end-torn _ _ (i .0) (i .1) (o .0) (o .1) (o .2) (c .if3 .taken))
+    let o = broke _ _ _ _ (c .before .before .before .before .step .ensures) (c .before .before .p .given .1) in
+    ap asNumber (end-torn _ _ (i .0) (i .1) (o .0) (o .1) (o .2) (c .if4 .taken)))
     (λ c. let i = c .before .before .before .before .before .loop .inv in
-    let o = broke _ _ _ _ (c .before .before .before .before .step .ensures) (c .before .before .p2 .given .1) in
-    end-other _ _ (i .0) (i .1) (o .0) (c .if3 .left)))
+    let o = broke _ _ _ _ (c .before .before .before .before .step .ensures) (c .before .before .p .given .1) in
+    ap asNumber (end-other _ _ (i .0) (i .1) (o .0) (c .if4 .left))))
