@@ -92,6 +92,7 @@ fn said(part: &[u8], at: usize) -> Says
             span: left,
         };
     }
+    // A header that doesn't fit says no size, and so less than its own length: the box is broken.
     if left < WIDE_HEAD {
         return Says {
             form: Form::Wide,

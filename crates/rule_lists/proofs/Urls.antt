@@ -12,25 +12,22 @@ use Rattle.boxes.specs.declared.walk.Walk.{Walk}
 use Rattle.boxes.specs.declared.walk.BoxAt.{BoxAt}
 use Rattle.boxes.specs.declared.walk.Step.{Step}
 use Rattle.boxes.specs.declared.walk.Step.the-variants.{Broken}
-use Rattle.boxes.specs.Box.{Box, isPlain}
+use Rattle.boxes.specs.Box.{isPlain}
 use Rattle.boxes.specs.Boxes.{FRONT, boxes}
-use Rattle.boxes.specs.Walk.{stepAt, plainly, boxAt, payload, Ran, Over}
+use Rattle.boxes.specs.Walk.{stepAt, plainly, payload, Ran, Over}
 use Rattle.boxes.specs.Seek.{ANY, count, plainTiles, Tallied}
 use Rattle.boxes.proofs.Meaning.{meant-any}
 use Rattle.boxes.proofs.Tallying.{tallied-none, tallied-more, tallied-whole, tallied-stopped}
 use Rattle.rule.specs.Rule.{allList}
 use Rattle.rule_lists.specs.Five.{listForm, listed}
-use Rattle.rule_lists.specs.Nine.{isUrl, urls, allUrls, urlList}
-use Rattle.rule_lists.proofs.Forms.{form-none, form-yea, form-nay}
+use Rattle.rule_lists.specs.Nine.{isUrl, urls, allUrls, urlsTiling, urlList}
+use Rattle.rule_lists.proofs.Forms.{form-yea, form-nay}
 
 -- ---- by one walk: n boxes stand before place at, all plain and `url `s
 
 pub record Referred (xs : List ℕ) (n at : ℕ) : Type 0 where
   pub tallied : Tallied xs ANY n at
   pub urls : urls xs ≡ urls (drop at xs)
-
-abbrev pub toldOf : List ℕ → ℕ
-toldOf xs = pick (urls xs) (pick (plainTiles xs) (count ANY (boxes xs)) 0) 0
 
 pub referred-none : (xs : List ℕ) → Referred xs 0 0
 referred-none xs = record { tallied = tallied-none xs ANY; urls = refl }
@@ -44,14 +41,14 @@ module _ {xs : List ℕ} {n at : ℕ} (t : Referred xs n at) where
     pub referred-more : Bytes xs → isPlain (b .form) ≡ true → isUrl (b .code) (payload xs b) ≡ true → Referred xs (n + 1) (w .at)
     referred-more v p e = record { tallied = tallied-more (t .tallied) s v p (omega (arith, meant-any ANY (b .code) refl)); urls = here ∙ rw e }
 
-    pub referred-not : isUrl (b .code) (payload xs b) ≡ false → 0 ≡ toldOf xs
+    pub referred-not : isUrl (b .code) (payload xs b) ≡ false → 0 ≡ urlsTiling xs
     referred-not e = let f : urls xs ≡ false = here ∙ rw e in rw f
 
-  pub referred-whole : Over xs at → length xs ≤ at → n ≡ toldOf xs
+  pub referred-whole : Over xs at → length xs ≤ at → n ≡ urlsTiling xs
   unfolding allList
   referred-whole o h = let f : urls xs ≡ true = t .urls ∙ rw (o .list) in rw f (tallied-whole (t .tallied) o h)
 
-  pub referred-stopped : (s : Step) (p : ℕ) → s ≡ plainly at (stepAt xs at) → s ≡ Broken p → 0 ≡ toldOf xs
+  pub referred-stopped : (s : Step) (p : ℕ) → s ≡ plainly at (stepAt xs at) → s ≡ Broken p → 0 ≡ urlsTiling xs
   referred-stopped s p e f = go (urls xs) (tallied-stopped (t .tallied) s p e f)
     where
       go : (u : Bool) {m : ℕ} → 0 ≡ m → 0 ≡ pick u m 0
@@ -60,7 +57,7 @@ module _ {xs : List ℕ} {n at : ℕ} (t : Referred xs n at) where
 
 -- ---- what the count says, beside the one that is listed
 
-module _ (b : List ℕ) {n r : ℕ} (k : n ≡ listed b) (some : 1 ≤ n) (e : r ≡ toldOf (drop FRONT b)) where
+module _ (b : List ℕ) {n r : ℕ} (k : n ≡ listed b) (some : 1 ≤ n) (e : r ≡ urlsTiling (drop FRONT b)) where
   pub urls-yea : r ≡ n → true ≡ urlList b
   unfolding allUrls
   urls-yea q = go (urls (drop FRONT b)) refl e

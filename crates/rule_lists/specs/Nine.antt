@@ -3,12 +3,13 @@ use Prim.Native.Nat.{ℕ, _+_}
 use mathlib.Core.Bool.{Bool, true}
 use mathlib.Core.List.{List, [], _∷_}
 use lib.ListN.{length, drop}
-use Rattle.wire.specs.Tests.{ifEq}
+use Rattle.wire.specs.Tests.{pick, ifEq}
 use Rattle.wire.specs.Numbers.{word}
 use Rattle.wire.specs.Clauses.{isEq, every}
 use Rattle.codes.specs.Codes.{DINF, DREF, URL}
 use Rattle.boxes.specs.Box.{Box}
 use Rattle.boxes.specs.Boxes.{boxes, FRONT}
+use Rattle.boxes.specs.Seek.{ANY, count, plainTiles}
 use Rattle.rule.specs.declared.Verdict.{Verdict}
 use Rattle.rule.specs.declared.Verdict.the-variants.{Fine}
 use Rattle.rule.specs.Verdict.{unless}
@@ -44,6 +45,10 @@ allUrls b = urls (drop FRONT b)
 
 unfoldable pub allUrlsIn : ℕ → ℕ → List ℕ → Bool
 allUrlsIn k c b = ifEq k DINF (ifEq c DREF (allUrls b) true) true
+
+-- how many boxes tile a part, where each of them is plain and a `url ` of this file; else 0
+abbrev pub urlsTiling : List ℕ → ℕ
+urlsTiling xs = pick (urls xs) (pick (plainTiles xs) (count ANY (boxes xs)) 0) 0
 
 -- rules 5 and 9 of a `dref`
 abbrev pub urlList : List ℕ → Bool

@@ -9,11 +9,9 @@ use wire::number;
 ghost use mathlib.Core.Path.{_≡_};
 ghost use Prim.Native.Nat.{_+_, _^_, _<_};
 ghost use lib.ListN.{length};
-ghost use Rattle.wire.specs.Tests.{pick};
 ghost use Rattle.wire.specs.Clauses.{oneIf};
 ghost use Rattle.boxes.specs.Boxes.{boxes};
-ghost use Rattle.boxes.specs.Seek.{ANY, count, plainTiles};
-ghost use Rattle.rule_lists.specs.Nine.{isUrl, urlsFrom, urlsIn, urls, urlList};
+ghost use Rattle.rule_lists.specs.Nine.{isUrl, urlsFrom, urlsIn, urlsTiling, urlList};
 
 // Whether a box is a `url ` of this file: 1 or 0.
 fn is_url(code: usize, body: &[u8]) -> usize
@@ -57,7 +55,7 @@ fn urls_from(part: &[u8], base: usize) -> Verdict
 
 // How many boxes tile a part where each is plain and a `url ` of this file; else 0.
 fn tally(part: &[u8]) -> usize
-    ensures { λ r. ⌜ r ≡ pick (urls (now (part .entry))) (pick (plainTiles (now (part .entry))) (count ANY (boxes (now (part .entry)))) 0) 0 ⌝ }
+    ensures { λ r. ⌜ r ≡ urlsTiling (now (part .entry)) ⌝ }
 {
     let mut w = Walk { at: 0 };
     let mut n = 0;
