@@ -11,7 +11,7 @@
       2  boxes do not tile the file or a container from here on
       3  a box that must be here is missing, or is here too often
       4  a brand list, a header or a track ID is not as it must be
-      5  a list of entries is not as its count says, or there are more than 8 sample entries
+      5  a list of entries is not as its count says, or there are more than 32 sample entries
       6  a sample table is not as long as its count says
       7  the sample tables of a track do not agree
       8  a chunk lies outside every mdat
@@ -68,15 +68,16 @@ uint64_t threegp_brand(const uint8_t *file, size_t length, uint32_t code);
    Refusals: 1 to 10, 20, 25. Stack: 19184. */
 uint64_t threegp_offsets(const uint8_t *file, size_t length, uint64_t track, uint32_t *list, size_t room);
 
-/* The sheet of the file's sample entries. Byte 0 is 1, byte 1 the count of entries, bytes 2 and 3 are 0; then eight slots of 12 bytes, one
-   for each entry in file order: its kind (0 other, 1 mp4v, 2 mp4a, 3 samr, 4 sawb, 5 s263, 6 avc1), its track from 1, two zeros, its place in the
-   file (4 bytes) and its length (4); unused slots are zero. From byte 100 on the entries, whole boxes in slot order. Value: its length.
-   A room of 100 bytes and the file's length suffices.
+/* The sheet of the file's sample entries, which is of edition 1, with 8 slots, where there are at most 8 of them, and else of edition 2, with 32.
+   Byte 0 is the edition, byte 1 the count of entries, bytes 2 and 3 are 0; then the slots of 12 bytes, one for each entry in file order: its kind
+   (0 other, 1 mp4v, 2 mp4a, 3 samr, 4 sawb, 5 s263, 6 avc1), its track from 1, two zeros, its place in the file (4 bytes) and its length (4);
+   unused slots are zero. After them, from byte 100 or 388 on, the entries, whole boxes in slot order. Value: its length.
+   A room of 388 bytes and the file's length suffices.
    Refusals: 1 to 10, 25. Stack: 20608. */
 uint64_t threegp_sheet(const uint8_t *file, size_t length, uint8_t *out, size_t room);
 
-/* The `stsd` box of a track (from 1) of a sheet: 16 bytes, 8 of them its header, and then that track's entries. Value: its length. A room of the sheet's
-   length suffices. Records with up to 255 frames are taken, as in release 4: a sheet doesn't say which release its file had.
+/* The `stsd` box of a track (from 1) of a sheet of either edition: 16 bytes, 8 of them its header, and then that track's entries. Value: its length.
+   A room of the sheet's length suffices. Records with up to 255 frames are taken, as in release 4: a sheet doesn't say which release its file had.
    Refusals: 30, 20, 24, 25. Stack: 1768. */
 uint64_t threegp_table(const uint8_t *sheet, size_t length, uint64_t track, uint8_t *out, size_t room);
 

@@ -106,11 +106,17 @@ def brand(file, code):
     return sum(brand_in(top, name) for name in BRANDS if code == num(name.encode(), 0))
 
 
+def edition(count):
+    """The edition of a sheet of so many entries: byte 0, and where the bodies start."""
+    return (1, 100) if count <= 8 else (2, 388)
+
+
 def sheet(file):
     found = entries_in(parsed(file))
+    number, start = edition(len(found))
     slots = [bytes([kind_of(code), track, 0, 0]) + w(place, len(body)) for track, code, place, body in found]
     bodies = [body for _, _, _, body in found]
-    return bytes([1, len(found), 0, 0]) + b"".join(slots).ljust(96, b"\0") + b"".join(bodies)
+    return (bytes([number, len(found), 0, 0]) + b"".join(slots)).ljust(start, b"\0") + b"".join(bodies)
 
 
 def listing(file):
@@ -145,8 +151,10 @@ def body_fits(code, p, release):
 
 def sheet_bodies(sheet):
     """(track, body) of each slot; a sheet of another form is refused."""
-    ask(len(sheet) >= 100 and sheet[0] == 1 and 1 <= sheet[1] <= 8 and sheet[2:4] == b"\0\0", 30)
-    found, at, last = [], 100, 0
+    ask(len(sheet) >= 4 and 1 <= sheet[1] <= 32, 30)
+    number, start_of_bodies = edition(sheet[1])
+    ask(len(sheet) >= start_of_bodies and sheet[0] == number and sheet[2:4] == b"\0\0", 30)
+    found, at, last = [], start_of_bodies, 0
     for slot in range(sheet[1]):
         start = 4 + 12 * slot
         kind, track, size = sheet[start], sheet[start + 1], num(sheet, start + 8)
@@ -157,7 +165,7 @@ def sheet_bodies(sheet):
         ask(kind_of(code) == kind and body_fits(code, body[8:], 4), 30)
         found.append((track, body))
         at, last = at + size, track
-    ask(at == len(sheet) and not any(sheet[4 + 12 * sheet[1] : 100]), 30)
+    ask(at == len(sheet) and not any(sheet[4 + 12 * sheet[1] : start_of_bodies]), 30)
     return found
 
 

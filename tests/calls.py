@@ -434,12 +434,18 @@ def entries_of_all_kinds():
     yield "avc1", avc1()
 
 
-def sheet_of(*bodies):
-    """A sheet of (track, entry's bytes), with places that mean nothing."""
+def sheet_of(*bodies, edition=None):
+    """A sheet of (track, entry's bytes), with places that mean nothing; of the edition that their count asks for, or of another."""
+    number, start = edition or answers.edition(len(bodies))
     slots = b""
     for track, body in bodies:
         slots += bytes([answers.kind_of(body[4:8].decode("latin-1")), track, 0, 0]) + w(77, len(body))
-    return bytes([1, len(bodies), 0, 0]) + slots.ljust(96, b"\0") + b"".join(body for _, body in bodies)
+    return (bytes([number, len(bodies), 0, 0]) + slots).ljust(start, b"\0") + b"".join(body for _, body in bodies)
+
+
+def shared(count):
+    """So many entries over four tracks."""
+    return [(track, SAMR) for track, share in enumerate(files.shares(count, 4), 1) for _ in range(share)]
 
 
 def bent(given, at, data):
@@ -456,10 +462,35 @@ def good_sheets():
     yield "three-tracks", sheet_of((1, SAMR), (1, AVC1), (2, OTHER), (3, SAMR), (3, SAMR))
     yield "four-tracks", sheet_of((1, OTHER), (2, SAMR), (3, AVC1), (4, OTHER))
     yield "eight", sheet_of(*[(1 + k // 2, SAMR) for k in range(8)])
-    yield "eight-in-one", sheet_of(*[(1, OTHER) for _ in range(8)])
+    for count in (8, 9, 31, 32):
+        yield "%d-in-one" % count, sheet_of(*[(1, OTHER)] * count)
+        yield "%d-over-four" % count, sheet_of(*shared(count))
     three = sheet_of((1, SAMR), (1, AVC1), (2, OTHER))
     for place in (0, 2**32 - 1):
         yield "place-%d" % place, bent(bent(three, 8, w(place)), 20, w(place))
+
+
+def bent_editions():
+    """Sheets of the other edition than their count asks for, of none, and with too many entries."""
+    for count, numbers in ((1, (0, 2, 3)), (8, (2, 3)), (9, (0, 1, 3, 255)), (32, (1, 3)), (33, (1, 2, 3)), (255, (2,))):
+        for number in numbers:
+            for start in (100, 388, 4 + 12 * count):
+                yield "edition-%d-of-%d-bodies-at-%d" % (number, count, start), sheet_of(*[(1, OTHER)] * count, edition=(number, start))
+    yield "edition-2-of-9-bodies-at-112", sheet_of(*[(1, OTHER)] * 9, edition=(2, 112))
+    yield "edition-1-of-8-bodies-at-388", sheet_of(*[(1, OTHER)] * 8, edition=(1, 388))
+    nine, most = sheet_of(*shared(9)), sheet_of(*shared(32))
+    for at in (2, 3, 6, 7, 99, 100, 102, 112, 113, 123, 124, 200, 384, 387):
+        yield "nine-byte-%d" % at, bent(nine, at, [1])
+    for at in (2, 3, 100, 102, 103, 378, 379, 384):
+        yield "most-byte-%d" % at, bent(most, at, [1])
+    for value in (0, 1, 8, 10, 32, 33, 255):
+        yield "nine-count-%d" % value, bent(nine, 1, [value])
+    for value in (8, 31, 33):
+        yield "most-count-%d" % value, bent(most, 1, [value])
+    for n in (4, 100, 112, 387, 388, 389, len(nine) - 1):
+        yield "nine-first-%d" % n, nine[:n]
+    yield "nine-byte-after", nine + b"\0"
+    yield "most-byte-after", most + b"\0"
 
 
 def bent_sheets():
@@ -496,7 +527,7 @@ def bent_sheets():
         yield name + "-cut", given[:-1]
         yield name + "-first-byte-of-6", bent(given, 108, [1])
         yield name + "-last-byte-of-6", bent(given, 113, [1])
-    for front in ([1, 0], [1, 1], [1, 9], [0, 0]):
+    for front in ([1, 0], [1, 1], [1, 9], [0, 0], [2, 0], [2, 9]):
         yield "empty-%d-%d" % tuple(front), bytes(front).ljust(100, b"\0")
     two = sheet_of((1, SAMR), (1, OTHER))
     yield "lengths-shifted", bent(bent(two, 12, w(len(SAMR) + 1)), 24, w(len(OTHER) - 1))
@@ -520,7 +551,7 @@ def table_groups():
         for n in range(1, last + 1):
             calls += [table(label, given, n, room) for room in rooms(len(answers.table(given, n)))]
         yield given, calls + [table(label, given, 0, 0), table(label, given, last + 1, 0)]
-    for k, (name, given) in enumerate(bent_sheets()):
+    for k, (name, given) in enumerate([*bent_sheets(), *bent_editions()]):
         label = "bent-" + name
         calls = [table(label, given, 1)]
         if k % 4 == 0 or name.startswith("empty"):
@@ -531,6 +562,21 @@ def table_groups():
             given = answers.sheet(file)
             yield given, [table("of-" + label, given, n) for n in range(0, answers.tracks(file) + 2)]
     yield made(files.movie()), [table("a-file", files.build(files.movie()), 1)]
+
+
+def described_groups():
+    """Files of few and of many entries, and the tables of their sheets."""
+    for count, over in ((1, 1), (8, 1), (9, 1), (31, 1), (32, 1), (4, 4), (8, 4), (9, 4), (31, 4), (32, 4)):
+        label, file = "described-%d-over-%d" % (count, over), files.build(files.described(*files.shares(count, over)))
+        calls = [*reads_of(label, file), *edits_of(label, file)]
+        for entry in (0, 1, 8, 9, count, count + 1, 33):
+            calls += [replace(label, file, entry, "damr", one(damr(0x8001, 0, 15)), room) for room in (len(file), len(file) - 1)]
+        yield file, calls
+        yield file + file, [newest(label, file, 0, file, 60, entry) for entry in (8, 9, count, count + 1)]
+        given = answers.sheet(file)
+        for n in range(0, over + 2):
+            told = len(answers.table(given, n)) if 1 <= n <= over else 1
+            yield given, [table(label, given, n, room) for room in rooms(told)]
 
 
 # ---- Shifts
@@ -1001,6 +1047,7 @@ def short_groups():
     yield from refused_groups()
     yield from brand_groups()
     yield from table_groups()
+    yield from described_groups()
     yield from shift_groups()
     yield from marked_groups()
     yield from record_groups()

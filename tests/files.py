@@ -7,6 +7,8 @@ import pathlib
 
 REAL = pathlib.Path(__file__).resolve().parent.parent / "crates" / "test_parts" / "data"
 LONGEST = 1048576
+# the most sample entries
+MOST = 32
 
 
 # ---- The judge: a function for each rule; it answers the place where the rule is broken, or None.
@@ -145,7 +147,7 @@ def rule5(top):
             return b.at
         if b.code == "stsd":
             entries += len(boxes)
-            if entries > 8:
+            if entries > MOST:
                 return b.at
 
 
@@ -485,6 +487,16 @@ def movie(*tracks, data=32):
     return [ftyp("3gp6", "isom"), Box("moov", mvhd(), *(tracks or [trak()])), Box("mdat", bytes(data))]
 
 
+def shares(count, tracks):
+    """So many sample entries over so many tracks, the first tracks having one more where they don't come out even."""
+    return [count // tracks + (n < count % tracks) for n in range(tracks)]
+
+
+def described(*counts):
+    """A file whose tracks have so many sample entries."""
+    return movie(*[trak(number, [samr()] * count) for number, count in enumerate(counts, 1)])
+
+
 def visual_track(*entries, number=1, handler=b"vide"):
     return trak(number, list(entries), handler, 15)
 
@@ -512,7 +524,10 @@ def whole():
     yield "0-four-tracks", movie(*four), None
     eight = [trak(1, [samr()] * 3), trak(2, [samr()] * 5)]
     yield "0-eight-entries", movie(*eight), None
-    yield "0-eight-in-one", movie(trak(1, [samr()] * 8)), None
+    for count in (1, 8, 9, 31, 32):
+        for tracks in (1, 4):
+            if tracks <= count:
+                yield "0-entries-%d-over-%d" % (count, tracks), described(*shares(count, tracks)), None
     two = [samr(), Box("text", bytes(6), h(2))]
     runs = [stts((3, 160)), stsc((1, 1, 2), (2, 2, 1)), stsz(8, 9, 10), stco(0, 8)]
     yield "0-two-entries", movie(trak(entries=two, tables=runs, drefs=[url(), url()])), None
@@ -757,20 +772,19 @@ def rule5_files():
             box = get(f, name, track)
             box.body = [edits[what](flat(box))]
             yield "5-%s-%s-of-track-%d" % (name, what, track + 1), f, box
-    f = movie(trak(1, [samr()] * 4), trak(2, [samr()] * 5))
-    yield "5-nine-over-two", f, get(f, "stsd", 1)
-    f = movie(trak(1, [samr()] * 9))
-    yield "5-nine-in-one", f, get(f, "stsd")
-    f = movie(trak(1, [samr()] * 9), trak(2, [samr()] * 9))
-    yield "5-nine-in-each", f, get(f, "stsd")
-    f = movie(*[trak(n, [samr()] * m) for n, m in ((1, 3), (2, 3), (3, 2), (4, 1))])
-    yield "5-nine-over-four", f, get(f, "stsd", 3)
-    f = movie(trak(1, [samr()] * 4), trak(2, [samr()] * 5), trak(3))
+    # the 33rd entry, and the track whose `stsd` passes 32 with it
+    for counts, track in (
+        ((33,), 0), ((1, 32), 1), ((32, 1), 1), ((16, 17), 1), ((33, 33), 0), ((9, 8, 8, 8), 3), ((10, 10, 12, 1), 3), ((11, 11, 11, 1), 2),
+        ((1, 33, 1, 1), 1), ((255,), 0), ((29, 1, 1, 2), 3),
+    ):
+        f = described(*counts)
+        yield "5-entries-" + "-".join(map(str, counts)), f, get(f, "stsd", track)
+    f = described(16, 17, 1)
     patch(get(f, "dref", 2), 0, w(1))
-    yield "5-nine-before-dref", f, get(f, "stsd", 1)
-    f = movie(trak(1, [samr()] * 4), trak(2, [samr()] * 5))
+    yield "5-entries-33-before-dref", f, get(f, "stsd", 1)
+    f = described(16, 17)
     patch(get(f, "dref", 1), 0, w(1))
-    yield "5-dref-before-nine", f, get(f, "dref", 1)
+    yield "5-dref-before-entries-33", f, get(f, "dref", 1)
     yield "0-nine-references", movie(trak(drefs=[url()] * 9)), None
 
 

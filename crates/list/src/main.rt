@@ -14,9 +14,8 @@ fn print(text: &[u8]) -> bool {
     false
 }
 
-// At most 4 tracks, 8 entries and 4 brands, a line each.
 fn list(file: &[u8]) -> bool {
-    let mut text = [0u8; 4096];
+    let mut text = [0u8; listing::ROOM];
     match listing::listing(file, &mut text) {
         Answer::Done(n) => print(lend::front(&text, n)),
         Answer::Refused(_, _) => no_room(),

@@ -7,12 +7,16 @@ use judge::Judgement;
 use layout::entries;
 use layout::every::Tracks;
 use rule::Answer;
+use rule_lists::total;
 ghost use Rattle.rule.specs.Results.{Exact};
 ghost use Rattle.rule.specs.Results.Result.{gives};
 ghost use Rattle.layout.specs.Every.{TracksAt};
 ghost use Rattle.judge.specs.Acceptance.{Meets};
 ghost use Rattle.listing.specs.Lines.{refusedLine};
 ghost use Rattle.listing.specs.Listing.{acceptedLines, listingResult};
+
+// Room for the listing of any file.
+pub const ROOM: usize = lines::OTHERS + lines::ENTRY * total::MOST;
 
 // A refused file's line, whole or not at all: a run into no room says how long it is.
 fn list_refused(n: usize, p: usize, out: &mut [u8]) -> Answer

@@ -15,7 +15,6 @@ use Rattle.rule.specs.Results.{asked, answerIn, leftIn}
 use Rattle.rule.specs.Results.Result.{gives, refuses}
 use Rattle.judge.specs.Acceptance.{Meets}
 use Rattle.judge.proofs.Calls.{result-done}
-use Rattle.sheet.specs.Sheet.{SLOTS}
 use Rattle.sheet.specs.Reader.{sheetOf, sheetResult}
 use Rattle.sheet_table.specs.Form.{steps}
 use Rattle.sheet_table.specs.Table.{ownEntries, table, trackTable, tableResult}
@@ -24,15 +23,15 @@ use Rattle.promise_trips.proofs.Returned.{own-formed, own-unsheet, own-
 
 module _ (xs : List ℕ) (m : Meets xs) (v : Bytes xs) (t : ℕ) where
   own-steps : steps 0 (entries xs) ≡ true
-  own-steps = rw (own-unsheet xs m v) at (formed-steps SLOTS (sheetOf xs) (own-formed xs m v))
+  own-steps = rw (own-unsheet xs m v) at (formed-steps (sheetOf xs) (own-formed xs m v))
 
   -- 30 cannot happen
-  pub no-table : (t ≡ 0) ⊎ (tracks xs < t) → tableResult SLOTS (sheetOf xs) t ≡ refuses 20 0
+  pub no-table : (t ≡ 0) ⊎ (tracks xs < t) → tableResult (sheetOf xs) t ≡ refuses 20 0
   unfolding tableResult asked
   no-table h = rw (own-formed xs m v, own-unsheet xs m v, ← no-track t (entries xs) own-steps (ap length (own-none xs m v t h)))
 
   -- nor can 20, nor 24, since the result is no longer than the file
-  pub own-table : 1 ≤ t → t ≤ tracks xs → tableResult SLOTS (sheetOf xs) t ≡ gives (standing xs (stsds xs) (t - 1))
+  pub own-table : 1 ≤ t → t ≤ tracks xs → tableResult (sheetOf xs) t ≡ gives (standing xs (stsds xs) (t - 1))
   unfolding tableResult asked trackTable
   own-table h k =
       let w : table (ownEntries t (entries xs)) ≡ standing xs (stsds xs) (t - 1) = rw (own-unsheet xs m v) at (table-returns xs m v t h k) in

@@ -20,7 +20,6 @@ use Rattle.movie.specs.Named.{stsdAt}
 use Rattle.movie.proofs.Stsds.{standing-at}
 use Rattle.rule_shape.proofs.Descent.{tracks-few}
 use Rattle.judge.specs.Acceptance.{Meets}
-use Rattle.sheet.specs.Sheet.{SLOTS}
 use Rattle.sheet.specs.Reader.{sheetOf}
 use Rattle.sheet.proofs.Accepted.{accepted-fits}
 use Rattle.sheet_table.specs.Form.{unsheet, formed}
@@ -37,17 +36,17 @@ module _ (xs : List ℕ) (m : Meets xs) (v : Bytes xs) where
   entries-small = all-small (all-described xs m v) (omega (arith, m .most))
 
   -- the sheet that is read from an accepted file has the form
-  pub own-formed : formed SLOTS (sheetOf xs) ≡ true
+  pub own-formed : formed (sheetOf xs) ≡ true
   unfolding sheetOf entries
   own-formed =
       let d = all-described xs m v in
       let k = tracks-few xs (m .three) in
       let n = length-stsds xs in
-      formed-sheet SLOTS (entries xs) (all-some d (omega (arith, k .0))) (accepted-fits xs m .few) entries-small (all-steps d (omega (arith, k .1))) (all-meet d)
+      formed-sheet (entries xs) (all-some d (omega (arith, k .0))) (accepted-fits xs m .few) entries-small (all-steps d (omega (arith, k .1))) (all-meet d)
 
-  pub own-unsheet : unsheet SLOTS (sheetOf xs) ≡ entries xs
+  pub own-unsheet : unsheet (sheetOf xs) ≡ entries xs
   unfolding sheetOf
-  own-unsheet = unsheet-sheet SLOTS (entries xs) (accepted-fits xs m .few) entries-small
+  own-unsheet = unsheet-sheet (entries xs) (accepted-fits xs m .few) entries-small
 
   -- track 0 has no entry, nor has one above the last
   pub own-none : (t : ℕ) → (t ≡ 0) ⊎ (tracks xs < t) → ownEntries t (entries xs) ≡ []
@@ -63,7 +62,7 @@ module _ (xs : List ℕ) (m : Meets xs) (v : Bytes xs) where
     own-some = own-t .0
 
     -- the table that is written from it is what stands in the file as the payload of that track's `stsd`, under a plain header
-    pub table-returns : trackTable SLOTS (sheetOf xs) t ≡ standing xs (stsds xs) (t - 1)
+    pub table-returns : trackTable (sheetOf xs) t ≡ standing xs (stsds xs) (t - 1)
     unfolding trackTable
     table-returns = rw own-unsheet (own-t .1)
 

@@ -1,6 +1,6 @@
 -- The round trips: what is written from what was read is what it was read from, and back. Assumes nothing.
 use Prim.Native.Nat.{ℕ, _-_, _≤_, _<_}
-use mathlib.Core.Path.{_≡_}
+use mathlib.Core.Path.{_≡_, ap}
 use mathlib.Core.Bool.{true}
 use mathlib.Core.List.{List}
 use mathlib.Core.Logic.{_⊎_}
@@ -42,11 +42,11 @@ use Rattle.promise_trips.proofs.Answered.{no-table, own-table, sheet-me
 
 module _ (xs : List ℕ) (v : Bytes xs) (m : Meets xs) where
   -- its own sheet has the form
-  pub sheet-formed : formed SLOTS (sheetOf xs) ≡ true
+  pub sheet-formed : formed (sheetOf xs) ≡ true
   sheet-formed = own-formed xs m v
 
   -- the entries that its sheet says are its own
-  pub sheet-entries : unsheet SLOTS (sheetOf xs) ≡ entries xs
+  pub sheet-entries : unsheet (sheetOf xs) ≡ entries xs
   sheet-entries = own-unsheet xs m v
 
   module _ (t : ℕ) (h : 1 ≤ t) (k : t ≤ tracks xs) where
@@ -59,29 +59,38 @@ module _ (xs : List ℕ) (v : Bytes xs) (m : Meets xs) where
     stsd-plain e = standing-plain xs m v t h k e
 
     -- the table writer gives it from the file's own sheet
-    pub table-stands : tableResult SLOTS (sheetOf xs) t ≡ gives (standing xs (stsds xs) (t - 1))
+    pub table-stands : tableResult (sheetOf xs) t ≡ gives (standing xs (stsds xs) (t - 1))
     table-stands = own-table xs m v t h k
 
   -- of a track that it has not the writer says so
-  pub table-none : (t : ℕ) → (t ≡ 0) ⊎ (tracks xs < t) → tableResult SLOTS (sheetOf xs) t ≡ refuses 20 0
+  pub table-none : (t : ℕ) → (t ≡ 0) ⊎ (tracks xs < t) → tableResult (sheetOf xs) t ≡ refuses 20 0
   table-none t h = no-table xs m v t h
 
 -- ---- the sheet reader, and then the table writer, on any bytes
 
 -- what the reader gave, given to the writer, gives back what stands in the file as the payload of any track's `stsd`, under a plain header
 pub sheet-table : (xs : List ℕ) → Bytes xs → (out : List ℕ) (n : ℕ) → answerIn (sheetResult xs) out ≡ Done n → (t : ℕ) → 1 ≤ t → t ≤ tracks xs
-    → tableResult SLOTS (take n (leftIn (sheetResult xs) out)) t ≡ gives (standing xs (stsds xs) (t - 1))
+    → tableResult (take n (leftIn (sheetResult xs) out)) t ≡ gives (standing xs (stsds xs) (t - 1))
 sheet-table xs v out n e t h k = rw (sheet-taken xs out n e) (table-stands xs v (sheet-meets xs out n e) t h k)
 
 -- ---- sheets
 
 -- the sheet of entries says those entries
-pub unsheet-sheet : (k : ℕ) (es : List Entry) → length es ≤ k → roundTrip.AllSmall es → unsheet k (sheet k es) ≡ es
+pub unsheet-sheet : (es : List Entry) → length es ≤ SLOTS → roundTrip.AllSmall es → unsheet (sheet es) ≡ es
 unsheet-sheet = roundTrip.unsheet-sheet
 
 -- a sheet of the form is the sheet of what it says
-pub sheet-unsheet : (k : ℕ) (xs : List ℕ) → formed k xs ≡ true → sheet k (unsheet k xs) ≡ xs
+pub sheet-unsheet : (xs : List ℕ) → formed xs ≡ true → sheet (unsheet xs) ≡ xs
 sheet-unsheet = roundTrip.sheet-unsheet
+
+-- two sheets of the form that say the same entries at the same places are one, of one edition
+pub unsheet-one : (xs ys : List ℕ) → formed xs ≡ true → formed ys ≡ true → unsheet xs ≡ unsheet ys → xs ≡ ys
+unsheet-one = roundTrip.unsheet-one
+
+-- and two files with the same entries at the same places have it
+pub same-sheet : (xs ys : List ℕ) → entries xs ≡ entries ys → sheetOf xs ≡ sheetOf ys
+unfolding sheetOf
+same-sheet xs ys e = ap sheet e
 
 -- ---- records
 

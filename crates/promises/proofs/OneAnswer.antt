@@ -45,8 +45,8 @@ module _ (file : List ℕ) where
   pub one-move : One (moveResult file)
   one-move = one _
 
-pub one-table : (k : ℕ) (sheet : List ℕ) (t : ℕ) → One (tableResult k sheet t)
-one-table k sheet t = one _
+pub one-table : (sheet : List ℕ) (t : ℕ) → One (tableResult sheet t)
+one-table sheet t = one _
 
 pub one-read : (release : Release) (entry : List ℕ) → One (readResult release entry)
 one-read release entry = one _

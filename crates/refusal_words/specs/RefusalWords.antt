@@ -22,7 +22,7 @@ meanings =
     ∷ (2 means "boxes do not tile the file or a container from here on")
     ∷ (3 means "a box that must be here is missing, or is here too often")
     ∷ (4 means "a brand list, a header or a track ID is not as it must be")
-    ∷ (5 means "a list of entries is not as its count says, or there are more than 8 sample entries")
+    ∷ (5 means "a list of entries is not as its count says, or there are more than 32 sample entries")
     ∷ (6 means "a sample table is not as long as its count says")
     ∷ (7 means "the sample tables of a track do not agree")
     ∷ (8 means "a chunk lies outside every mdat")

@@ -30,7 +30,7 @@ fn put_words(out: &mut [u8], at: usize, n: usize) -> usize
         5 => put_part(
             out,
             at,
-            b"a list of entries is not as its count says, or there are more than 8 sample entries",
+            b"a list of entries is not as its count says, or there are more than 32 sample entries",
         ),
         6 => put_part(out, at, b"a sample table is not as long as its count says"),
         7 => put_part(out, at, b"the sample tables of a track do not agree"),

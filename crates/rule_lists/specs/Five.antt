@@ -1,4 +1,4 @@
--- Rule 5: the form of an `stsd` and of a `dref`, and at most 8 sample entries in the file.
+-- Rule 5: the form of an `stsd` and of a `dref`, and at most 32 sample entries in the file.
 use Prim.Native.Nat.{ℕ, _+_, _≤_}
 use mathlib.Core.Path.{_≡_}
 use mathlib.Core.Bool.{Bool, true}
@@ -51,15 +51,15 @@ listFormIn k c b = ifEq k STBL (ifEq c STSD (listForm b) true) (ifEq k DINF (ifE
 
 -- ---- all `stsd`s
 
--- "At most 8 sample entries in the file"
+-- "At most 8 sample entries in the file"; K6: "Raise the limit to 32 entries."
 abbrev pub MOST : ℕ
-MOST = 8
+MOST = 32
 
 unfoldable pub countedIn : List Stsd → ℕ
 countedIn [] = 0
 countedIn (s ∷ l) = storedCount (s .body) + countedIn l
 
--- "place: the `stsd` that passes 8": n sample entries are counted before these
+-- "place: the `stsd` that passes" the most: n sample entries are counted before these
 unfoldable pub passing : ℕ → ℕ → List Stsd → Verdict
 passing most n [] = Fine
 passing most n (s ∷ l) = ifLe (n + storedCount (s .body)) most (passing most (n + storedCount (s .body)) l) (Bad (s .place))

@@ -19,7 +19,7 @@ ghost use Rattle.rule.specs.declared.Verdict.the-variants.{Bad};
 ghost use Rattle.rule_lists.specs.Five.{MOST, passing, mostIn};
 
 // The most sample entries that a file may have.
-pub const MOST: usize = 8;
+pub const MOST: usize = 32;
 
 // How many sample entries the `stsd` of a box of `moov` counts: none where the box is no `trak`.
 fn counted(code: usize, body: &[u8]) -> usize
@@ -40,7 +40,7 @@ fn stsd_at(part: &[u8], b: BoxAt, base: usize) -> Verdict
     Verdict::Bad(start + movie::stsd_place(walk::body(part, b)))
 }
 
-// Rule 5 of a `moov` whose payload starts at place base: broken at the `stsd` that passes 8.
+// Rule 5 of a `moov` whose payload starts at place base: broken at the `stsd` that passes the most.
 fn over_most(part: &[u8], base: usize) -> Verdict
     requires { ⌜ base + length (now part) < 2 ^ 60 ⌝ }
     ensures { λ r. ⌜ r ≡ passing MOST 0 (stsdsFrom 0 (boxes (now (part .entry))) base) ⌝ }

@@ -1,4 +1,4 @@
--- An accepted file has at most 4 tracks and at most 8 sample entries. Assumes nothing.
+-- An accepted file has at most 4 tracks and at most as many sample entries as a sheet has slots. Assumes nothing.
 use Prim.Native.Nat.{ℕ, _<_}
 use native.Mathlib.Omega.{arith}
 use mathlib.Core.Path.{_≡_, refl}

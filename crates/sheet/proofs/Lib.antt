@@ -1,3 +1,4 @@
+pub mod Editions
 pub mod Slots
 pub mod Writing
 pub mod Bodies

@@ -10,9 +10,11 @@ use Rattle.wire.specs.Writing.{Put}
 use Rattle.wire.proofs.Numbers.{length-bytes}
 use Rattle.wire.proofs.Writing.{pen-none, pen-then, pen-is}
 use Rattle.movie.specs.Entries.{Entry, entries}
-use Rattle.sheet.specs.Sheet.{slot, slots, bodies, bodiesAt, front, sheet, SLOTS, SLOT}
+use Rattle.sheet.specs.declared.edition.Edition.{Edition}
+use Rattle.sheet.specs.Sheet.{SLOT, editionFor, bodiesAt, slot, slots, bodies, front, sheet}
 use Rattle.sheet.specs.Fits.{SheetFits}
 use Rattle.sheet.specs.Reader.{sheetOf}
+use Rattle.sheet.proofs.Editions.{edition-holds}
 
 -- ---- lengths
 
@@ -25,14 +27,16 @@ unfolding slots
 slots-length [] = refl
 slots-length (e ∷ es) = rw (length-append, slot-length, slots-length es) (omega arith)
 
-pub front-length : (k : ℕ) (es : List Entry) → length es ≤ k → length (front k es) ≡ bodiesAt k
+pub front-length : (edition : Edition) (es : List Entry) → length es ≤ edition .slots → length (front edition es) ≡ bodiesAt edition
 unfolding front
-front-length k es h = rw (length-append, slots-length es, length-replicate) (omega arith)
+front-length edition es h = rw (length-append, slots-length es, length-replicate) (omega arith)
 
 -- bodies that were written from where they start end where the sheet ends
-pub sheet-ends : (xs : List ℕ) → SheetFits xs → {out after : List ℕ} {r : ℕ} → Put (bodies (entries xs)) out (bodiesAt SLOTS) r after → length (sheetOf xs) ≡ r
+pub sheet-ends : (xs : List ℕ) → SheetFits xs → {n at : ℕ} → n ≡ length (entries xs) → at ≡ bodiesAt (editionFor n) → {out after : List ℕ} {r : ℕ} → Put (bodies (entries xs)) out at r after → length (sheetOf xs) ≡ r
 unfolding sheetOf sheet
-sheet-ends xs f p = rw (length-append, front-length SLOTS (entries xs) (f .few)) (sym (p .next))
+sheet-ends xs f g h p =
+    let l = front-length (editionFor (length (entries xs))) (entries xs) (edition-holds _ refl .few (f .few)) in
+    rw (length-append, l, ← g, ← h) (sym (p .next))
 
 -- ---- the slots
 
@@ -57,14 +61,9 @@ zeros-first zero n h = refl
 zeros-first (suc k) zero h = absurd (omega arith)
 zeros-first (suc k) (suc n) h = ap (λ (l : List ℕ). 0 ∷ l) (zeros-first k n (omega arith))
 
--- edition, count, and two zeros
-pub start-is : (n : ℕ) → n < 256 → bytes 1 1 ++ bytes 1 n ++ bytes 2 0 ≡ 1 ∷ n ∷ 0 ∷ 0 ∷ []
-unfolding bytes bytesOn
-start-is n h = let e : n % 256 ≡ n = omega arith in rw e
-
-pub sheet-put : (xs : List ℕ) → SheetFits xs → {n : ℕ} → n ≡ length (entries xs) → {out a b c after : List ℕ} {i j k r : ℕ} → Put (1 ∷ n ∷ 0 ∷ 0 ∷ []) out 0 i a
-    → Put (slots (take n (entries xs))) a i j b → Put (replicate (SLOT * (SLOTS - n)) 0) b j k c → Put (bodies (entries xs)) c k r after → Put (sheetOf xs) out 0 r after
+pub sheet-put : (xs : List ℕ) {n : ℕ} {e : Edition} → n ≡ length (entries xs) → e ≡ editionFor n → {out a b c after : List ℕ} {i j k r : ℕ} → Put (e .number ∷ n ∷ 0 ∷ 0 ∷ []) out 0 i a
+    → Put (slots (take n (entries xs))) a i j b → Put (replicate (SLOT * (e .slots - n)) 0) b j k c → Put (bodies (entries xs)) c k r after → Put (sheetOf xs) out 0 r after
 unfolding sheetOf sheet front
-sheet-put xs f {n} g pa pb pc po =
+sheet-put xs {n} g h pa pb pc po =
     let t : take n (entries xs) ≡ entries xs = take-all n (entries xs) (omega arith) in
-    pen-is (rw (t, g)) (pen-then (pen-then (pen-then pa pb) pc) po)
+    pen-is (rw (h, t, g)) (pen-then (pen-then (pen-then pa pb) pc) po)

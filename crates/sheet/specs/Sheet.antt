@@ -1,17 +1,38 @@
--- The sheet: what it says of a list of entries. k is how many slots it has.
+-- The sheet: what it says of a list of entries, in the edition that their count asks for.
 use Prim.Native.Nat.{ℕ, _+_, _-_, _*_}
 use mathlib.Core.List.{List, [], _∷_, _++_}
 use lib.ListN.{length, replicate}
+use Rattle.wire.specs.Tests.{ifLe}
 use Rattle.wire.specs.Numbers.{bytes, word}
 use Rattle.movie.specs.Entries.{Entry}
 use Rattle.entry_heads.specs.Kinds.{kindOf}
+use Rattle.sheet.specs.declared.edition.Edition.{Edition}
+
+-- ---- the editions: what byte 0 is, and how many slots
 
 -- "Eight slots of 12 bytes"
-abbrev pub SLOTS : ℕ
-SLOTS = 8
+abbrev pub First : Edition
+First = record { number = 1; slots = 8 }
 
 abbrev pub SLOT : ℕ
 SLOT = 12
+
+-- K6: "edition 2: 32 slots"; no sheet has more
+abbrev pub SLOTS : ℕ
+SLOTS = 32
+
+abbrev pub Second : Edition
+Second = record { number = 2; slots = SLOTS }
+
+-- "edition 2 only for files with more than 8": the one of a sheet of n entries
+unfoldable pub editionFor : ℕ → Edition
+editionFor n = ifLe n (First .slots) First Second
+
+-- where the bodies start: byte 100 of the first edition, "byte 388" of the second
+abbrev pub bodiesAt : Edition → ℕ
+bodiesAt e = 4 + SLOT * e .slots
+
+-- ---- its parts
 
 -- "kind, track (from 1, in file order), two zeros, the entry's place in the file (4), body length (4)"
 unfoldable pub slot : ℕ → ℕ → ℕ → ℕ → List ℕ
@@ -29,13 +50,11 @@ unfoldable pub bodies : List Entry → List ℕ
 bodies [] = []
 bodies (e ∷ es) = e .bytes ++ bodies es
 
--- "Byte 0 is 1 (edition), byte 1 the count n of 1 to 8, bytes 2 and 3 zero", the slots; "Unused slots are zero."
-unfoldable pub front : ℕ → List Entry → List ℕ
-front k es = (1 ∷ length es ∷ 0 ∷ 0 ∷ []) ++ slots es ++ replicate (SLOT * (k - length es)) 0
+-- "Byte 0 is .. (edition), byte 1 the count n .., bytes 2 and 3 zero", the slots; "Unused slots are zero."
+unfoldable pub front : Edition → List Entry → List ℕ
+front edition es = (edition .number ∷ length es ∷ 0 ∷ 0 ∷ []) ++ slots es ++ replicate (SLOT * (edition .slots - length es)) 0
 
--- where the bodies start: byte 100 with eight slots
-abbrev pub bodiesAt : ℕ → ℕ
-bodiesAt k = 4 + SLOT * k
+-- ---- the whole
 
-unfoldable pub sheet : ℕ → List Entry → List ℕ
-sheet k es = front k es ++ bodies es
+unfoldable pub sheet : List Entry → List ℕ
+sheet es = front (editionFor (length es)) es ++ bodies es

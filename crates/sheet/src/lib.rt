@@ -1,4 +1,8 @@
 // The sheet reader: the sheet of a file's own sample entries.
+pub mod edition;
+
+use crate::edition::SLOT;
+use crate::edition::SLOTS;
 use entry_heads::kind;
 use judge::Judgement;
 use layout::entries;
@@ -26,14 +30,6 @@ ghost use Rattle.sheet.specs.Sheet.{SLOTS, SLOT, slot as slotText, slotO
 ghost use Rattle.sheet.specs.Fits.{SheetFits};
 ghost use Rattle.sheet.specs.Reader.{sheetOf, sheetResult};
 
-// How many slots a sheet has, and how long each is.
-const SLOTS: usize = 8;
-
-const SLOT: usize = 12;
-
-// Where the bodies start.
-const BODIES: usize = 4 + SLOT * SLOTS;
-
 // Writes the last four bytes of a number.
 fn put_word(out: &mut [u8], at: usize, n: usize) -> usize
     requires { ⌜ at < 2 ^ 62 ⌝ }
@@ -48,7 +44,7 @@ fn put_word(out: &mut [u8], at: usize, n: usize) -> usize
 }
 
 // Writes two bytes and two zeros.
-fn put_two(out: &mut [u8], at: usize, a: usize, b: usize) -> usize
+pub fn put_two(out: &mut [u8], at: usize, a: usize, b: usize) -> usize
     requires { ⌜ (at < 2 ^ 62) × (a < 256) × (b < 256) ⌝ }
     ensures { λ r. ⌜ Put (a ∷ b ∷ 0 ∷ 0 ∷ []) (now (out .entry)) at r (now (out .exit)) × (r ≡ at + 4) ⌝ }
 {
@@ -109,13 +105,13 @@ fn put_slots(out: &mut [u8], from: usize, file: &[u8], l: Lists, n: usize) -> us
     at
 }
 
-// Writes the slots that no entry has, of which n are used.
+// Writes n slots that no entry has.
 fn put_unused(out: &mut [u8], at: usize, n: usize) -> usize
     requires { ⌜ (at < 2 ^ 62) × (n ≤ SLOTS) ⌝ }
-    ensures { λ r. ⌜ Put (replicate (SLOT * (SLOTS - n)) 0) (now (out .entry)) at r (now (out .exit)) × (r ≤ at + SLOT * SLOTS) ⌝ }
+    ensures { λ r. ⌜ Put (replicate (SLOT * n) 0) (now (out .entry)) at r (now (out .exit)) × (r ≤ at + SLOT * SLOTS) ⌝ }
 {
     let none = [0u8; SLOT * SLOTS];
-    let k = SLOT * (SLOTS - n);
+    let k = SLOT * n;
     pen::put_part(out, at, &none[0..k])
 }
 
@@ -135,15 +131,15 @@ fn put_bodies(out: &mut [u8], from: usize, file: &[u8], l: Lists) -> usize
     at
 }
 
-// Writes the sheet of a file.
-fn put_sheet(out: &mut [u8], file: &[u8], l: Lists) -> usize
-    requires { ⌜ SheetFits (now file) × ListsAt (now file) l ⌝ }
+// Writes the sheet of a file that has n entries.
+fn put_sheet(out: &mut [u8], file: &[u8], l: Lists, n: usize) -> usize
+    requires { ⌜ SheetFits (now file) × ListsAt (now file) l × (n ≡ length (entries (now file))) ⌝ }
     ensures { λ r. ⌜ Put (sheetOf (now (file .entry))) (now (out .entry)) 0 r (now (out .exit)) ⌝ }
 {
-    let n = entries::count(file, l);
-    let a = put_two(out, 0, 1, n);
+    let e = edition::of_count(n);
+    let a = put_two(out, 0, e.number, n);
     let b = put_slots(out, a, file, l, n);
-    let c = put_unused(out, b, n);
+    let c = put_unused(out, b, e.slots - n);
     put_bodies(out, c, file, l)
 }
 
@@ -153,12 +149,13 @@ fn sheet_of(file: &[u8], e: Tracks, out: &mut [u8]) -> Answer
     ensures { λ r. ⌜ Exact (gives (sheetOf (now (file .entry)))) (now (out .entry)) r (now (out .exit)) ⌝ }
 {
     let l = entries::lay(file, e);
+    let n = entries::count(file, l);
     let mut none = [0u8; 1];
-    let span = put_bodies(&mut none, BODIES, file, l);
+    let span = put_bodies(&mut none, edition::bodies_at(n), file, l);
     if out.len() < span {
         return Answer::Refused(25, 0);
     }
-    Answer::Done(put_sheet(out, file, l))
+    Answer::Done(put_sheet(out, file, l, n))
 }
 
 // The sheet of a file, with its length.

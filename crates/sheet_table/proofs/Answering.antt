@@ -53,25 +53,25 @@ module _ (es : List Entry) (out : List ℕ) {start after : List ℕ} {span : ℕ
 
 -- ---- of a sheet
 
-module _ (k : ℕ) (s out : List ℕ) (t : ℕ) {f : ℕ} (e : f ≡ oneIf (formed k s)) where
-  pub sheet-torn : f ≡ 0 → Exact (tableResult k s t) out (Refused 30 0) out
+module _ (s out : List ℕ) (t : ℕ) {f : ℕ} (e : f ≡ oneIf (formed s)) where
+  pub sheet-torn : f ≡ 0 → Exact (tableResult s t) out (Refused 30 0) out
   unfolding tableResult
   sheet-torn z = test-nay 30 _ _ _ out e z
 
-  module _ (g : f ≡ 0 → ⊥) {n : ℕ} {xs ys : List ℕ} (o : Opened k s n xs ys) {count : ℕ} (c : count ≡ length (ownEntries t (read n xs ys))) where
-    few : count ≡ length (ownEntries t (unsheet k s))
+  module _ (g : f ≡ 0 → ⊥) {n : ℕ} {xs ys : List ℕ} (o : Opened s n xs ys) {count : ℕ} (c : count ≡ length (ownEntries t (read n xs ys))) where
+    few : count ≡ length (ownEntries t (unsheet s))
     few = c ∙ rw (opened o)
 
-    stepped : steps 0 (unsheet k s) ≡ true
-    stepped = formed-steps k s (was-yea (formed k s) f g e)
+    stepped : steps 0 (unsheet s) ≡ true
+    stepped = formed-steps s (was-yea (formed s) f g e)
 
-    pub sheet-track : count ≡ 0 → Exact (tableResult k s t) out (Refused 20 0) out
+    pub sheet-track : count ≡ 0 → Exact (tableResult s t) out (Refused 20 0) out
     unfolding tableResult
-    sheet-track z = test-yea 30 _ _ _ out e g (test-not 20 _ _ _ out (sym (no-track t (unsheet k s) stepped (sym few ∙ z))))
+    sheet-track z = test-yea 30 _ _ _ out e g (test-not 20 _ _ _ out (sym (no-track t (unsheet s) stepped (sym few ∙ z))))
 
     pub sheet-own : (count ≡ 0 → ⊥) → {r : Answer} {left : List ℕ}
-        → Exact (asked ((24, inLimit (table (ownEntries t (read n xs ys)))) ∷ []) (gives (table (ownEntries t (read n xs ys))))) out r left → Exact (tableResult k s t) out r left
+        → Exact (asked ((24, inLimit (table (ownEntries t (read n xs ys)))) ∷ []) (gives (table (ownEntries t (read n xs ys))))) out r left → Exact (tableResult s t) out r left
     unfolding tableResult trackTable
     sheet-own h x =
         test-yea 30 _ _ _ out e g
-        (test-so 20 _ _ _ out (sym (has-track t (unsheet k s) stepped (omega (arith, few)))) (rw (opened o) at x))
+        (test-so 20 _ _ _ out (sym (has-track t (unsheet s) stepped (omega (arith, few)))) (rw (opened o) at x))

@@ -12,8 +12,9 @@ use Rattle.wire.proofs.Clauses.{is-eq, is-le, eq-is, holds, done, clause}
 use Rattle.wire.proofs.Numbers.{length-bytes, word-bytes, word-right}
 use Rattle.wire.proofs.Same.{same-refl, same-is}
 use Rattle.movie.specs.Entries.{Entry}
-use Rattle.sheet.specs.Sheet.{SLOT, slot, slots, bodies, front, bodiesAt, sheet}
+use Rattle.sheet.specs.Sheet.{SLOTS, SLOT, editionFor, bodiesAt, slot, slots, bodies, front, sheet}
 use Rattle.sheet_table.specs.Form.{read, unsheet, steps, allMeet, formed}
+use Rattle.sheet.proofs.Editions.{edition-holds}
 use Rattle.sheet.proofs.Writing.{slot-length, front-length}
 
 -- what an entry says fits its slot
@@ -58,27 +59,32 @@ back (e ∷ es) zs (more s a) =
     rw (append-assoc, slot-track, slot-place _ _ _ _ _ (s .place), slot-size _ _ _ _ _ (s .span), slot-past, take-append-seam, drop-append-seam)
     (ap (λ (t : List Entry). e ∷ t) (back es zs a))
 
-pub unsheet-sheet : (k : ℕ) (es : List Entry) → length es ≤ k → AllSmall es → unsheet k (sheet k es) ≡ es
-unfolding unsheet sheet front
-unsheet-sheet k es h a =
-    rw (drop-at (front k es) (bodies es) (bodiesAt k) (front-length k es h), append-assoc)
-    (back es (replicate (SLOT * (k - length es)) 0 ++ bodies es) a)
-
-count-sheet : (k : ℕ) (es : List Entry) → getD (sheet k es) 1 0 ≡ length es
+count-sheet : (es : List Entry) → getD (sheet es) 1 0 ≡ length es
 unfolding sheet front
-count-sheet k es = refl
+count-sheet es = refl
+
+pub unsheet-sheet : (es : List Entry) → length es ≤ SLOTS → AllSmall es → unsheet (sheet es) ≡ es
+unfolding unsheet sheet front
+unsheet-sheet es h a =
+    let edition = editionFor (length es) in
+    rw (drop-at (front edition es) (bodies es) (bodiesAt edition) (front-length edition es (edition-holds _ refl .few h)), append-assoc)
+    (back es (replicate (SLOT * (edition .slots - length es)) 0 ++ bodies es) a)
 
 -- such a sheet has the form where its tracks and its bodies have
-pub formed-sheet : (k : ℕ) (es : List Entry) → 1 ≤ length es → length es ≤ k → AllSmall es → steps 0 es ≡ true → allMeet es ≡ true → formed k (sheet k es) ≡ true
+pub formed-sheet : (es : List Entry) → 1 ≤ length es → length es ≤ SLOTS → AllSmall es → steps 0 es ≡ true → allMeet es ≡ true → formed (sheet es) ≡ true
 unfolding formed
-formed-sheet k es m h a s b =
-    let n : getD (sheet k es) 1 0 ≡ length es = count-sheet k es in
-    sym (rw (unsheet-sheet k es h a, n)
-    (holds _ _ (is-le _ _ m) (holds _ _ (is-le _ _ h) (holds _ _ (is-eq _ _ (same-refl (sheet k es))) (holds _ _ s (holds _ _ b done))))))
+formed-sheet es m h a s b =
+    let n : getD (sheet es) 1 0 ≡ length es = count-sheet es in
+    sym (rw (unsheet-sheet es h a, n)
+    (holds _ _ (is-le _ _ m) (holds _ _ (is-le _ _ h) (holds _ _ (is-eq _ _ (same-refl (sheet es))) (holds _ _ s (holds _ _ b done))))))
 
 -- and back: a sheet of the form is the sheet of its own entries
-pub sheet-unsheet : (k : ℕ) (xs : List ℕ) → formed k xs ≡ true → sheet k (unsheet k xs) ≡ xs
+pub sheet-unsheet : (xs : List ℕ) → formed xs ≡ true → sheet (unsheet xs) ≡ xs
 unfolding formed
-sheet-unsheet k xs f =
-    let e : same xs (sheet k (unsheet k xs)) ≡ 1 = eq-is _ _ (clause 2 _ f) in
-    sym (same-is xs (sheet k (unsheet k xs)) (λ z. omega arith))
+sheet-unsheet xs f =
+    let e : same xs (sheet (unsheet xs)) ≡ 1 = eq-is _ _ (clause 2 _ f) in
+    sym (same-is xs (sheet (unsheet xs)) (λ z. omega arith))
+
+-- so two sheets of the form that say the same entries are one
+pub unsheet-one : (xs ys : List ℕ) → formed xs ≡ true → formed ys ≡ true → unsheet xs ≡ unsheet ys → xs ≡ ys
+unsheet-one xs ys f g e = sym (sheet-unsheet xs f) ∙ ap sheet e ∙ sheet-unsheet ys g

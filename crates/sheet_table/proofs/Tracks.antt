@@ -60,9 +60,9 @@ track-some p t (e ∷ es) s l h =
 
 -- ---- a sheet's tracks are those of its entries
 
-pub formed-steps : (k : ℕ) (xs : List ℕ) → formed k xs ≡ true → steps 0 (unsheet k xs) ≡ true
+pub formed-steps : (xs : List ℕ) → formed xs ≡ true → steps 0 (unsheet xs) ≡ true
 unfolding formed
-formed-steps k xs f = clause 3 _ f
+formed-steps xs f = clause 3 _ f
 
 module _ (t : ℕ) (es : List Entry) (s : steps 0 es ≡ true) where
   pub has-track : 1 ≤ length (ownEntries t es) → true ≡ hasTrack t es

@@ -1,4 +1,4 @@
--- The form of a sheet of k slots, judged from its bytes alone.
+-- The form of a sheet, judged from its bytes alone.
 use Prim.Native.Nat.{ℕ, zero, suc, _+_}
 use mathlib.Core.Bool.{Bool, true, false}
 use mathlib.Core.List.{List, [], _∷_}
@@ -11,7 +11,7 @@ use Rattle.movie.specs.Entries.{Entry}
 use Rattle.release.specs.declared.Release.the-variants.{Release4}
 use Rattle.entry_rules.specs.declared.entry.Around.the-variants.{Alone}
 use Rattle.entry_rules.specs.Entries.{entryRule}
-use Rattle.sheet.specs.Sheet.{SLOT, bodiesAt, sheet}
+use Rattle.sheet.specs.Sheet.{SLOTS, SLOT, editionFor, bodiesAt, sheet}
 
 -- "at most 4" tracks
 abbrev pub TRACKS : ℕ
@@ -26,9 +26,9 @@ unfoldable pub read : ℕ → List ℕ → List ℕ → List Entry
 read zero xs ys = []
 read (suc n) xs ys = firstOf xs ys ∷ read n (drop SLOT xs) (drop (word 4 xs 8) ys)
 
--- the entries of a sheet
-unfoldable pub unsheet : ℕ → List ℕ → List Entry
-unsheet k xs = read (getD xs 1 0) (drop 4 xs) (drop (bodiesAt k) xs)
+-- the entries of a sheet: "byte 1 the count", and the edition is the one that it asks for
+unfoldable pub unsheet : List ℕ → List Entry
+unsheet xs = read (getD xs 1 0) (drop 4 xs) (drop (bodiesAt (editionFor (getD xs 1 0))) xs)
 
 -- "track numbers that start at 1 and never fall or skip, at most 4": one of track u after one of track t
 unfoldable pub follows : ℕ → ℕ → Bool
@@ -45,12 +45,12 @@ allMeet [] = true
 allMeet (e ∷ es) = pick (entryRule Alone Release4 (e .bytes)) (allMeet es) false
 
 -- "A sheet must have the form above": it is the sheet that its own entries make, whatever their places
-unfoldable pub formed : ℕ → List ℕ → Bool
-formed k xs =
+unfoldable pub formed : List ℕ → Bool
+formed xs =
     every
     (isLe 1 (getD xs 1 0)
-    ∷ isLe (getD xs 1 0) k
-    ∷ isEq (same xs (sheet k (unsheet k xs))) 1
-    ∷ steps 0 (unsheet k xs)
-    ∷ allMeet (unsheet k xs)
+    ∷ isLe (getD xs 1 0) SLOTS
+    ∷ isEq (same xs (sheet (unsheet xs))) 1
+    ∷ steps 0 (unsheet xs)
+    ∷ allMeet (unsheet xs)
     ∷ [])

@@ -31,15 +31,15 @@ hasTrack t es = every (isLe 1 t ∷ isLe t (highest es) ∷ [])
 unfoldable pub table : List Entry → List ℕ
 table es = bytes 4 (16 + length (bodies es)) ++ bytes 4 STSD ++ bytes 4 0 ++ bytes 4 (length es) ++ bodies es
 
-unfoldable pub trackTable : ℕ → List ℕ → ℕ → List ℕ
-trackTable k xs t = table (ownEntries t (unsheet k xs))
+unfoldable pub trackTable : List ℕ → ℕ → List ℕ
+trackTable xs t = table (ownEntries t (unsheet xs))
 
 -- "30, then 20 (track 0 or above the sheet's highest), then 24, then 25"
-unfoldable pub tableResult : ℕ → List ℕ → ℕ → Result
-tableResult k xs t =
+unfoldable pub tableResult : List ℕ → ℕ → Result
+tableResult xs t =
     asked
-    ((30, formed k xs)
-    ∷ (20, hasTrack t (unsheet k xs))
-    ∷ (24, inLimit (trackTable k xs t))
+    ((30, formed xs)
+    ∷ (20, hasTrack t (unsheet xs))
+    ∷ (24, inLimit (trackTable xs t))
     ∷ [])
-    (gives (trackTable k xs t))
+    (gives (trackTable xs t))

@@ -3,6 +3,7 @@ use crate::slots;
 use entry_rules::entry;
 use entry_rules::entry::Around;
 use release::Release;
+use sheet::edition;
 use wire::compare;
 use wire::lend;
 use wire::number;
@@ -14,13 +15,6 @@ ghost use Rattle.wire.specs.Clauses.{oneIf};
 ghost use Rattle.wire.specs.Same.{same};
 ghost use Rattle.sheet.specs.Sheet.{SLOTS, sheet as sheetText};
 ghost use Rattle.sheet_table.specs.Form.{read, unsheet, follows as followsOf, steps as stepsOf, allMeet, formed as formedOf};
-
-// How many slots a sheet has, and where its slots and its bodies start.
-const SLOTS: usize = 8;
-
-pub const FRONT: usize = 4;
-
-pub const BODIES: usize = 100;
 
 // The most tracks.
 const TRACKS: usize = 4;
@@ -58,7 +52,7 @@ fn steps(slots: &[u8], bodies: &[u8], n: usize, last: usize) -> usize
         return 0;
     }
     steps(
-        lend::rest(slots, slots::SLOT),
+        lend::rest(slots, edition::SLOT),
         slots::past(slots, bodies),
         n - 1,
         track,
@@ -76,7 +70,7 @@ fn all_meet(slots: &[u8], bodies: &[u8], n: usize) -> usize
         return 0;
     }
     all_meet(
-        lend::rest(slots, slots::SLOT),
+        lend::rest(slots, edition::SLOT),
         slots::past(slots, bodies),
         n - 1,
     )
@@ -85,13 +79,14 @@ fn all_meet(slots: &[u8], bodies: &[u8], n: usize) -> usize
 // 1 where a sheet of n entries is the one that they make, else 0.
 fn made(sheet: &[u8], n: usize) -> usize
     requires { ⌜ (n ≡ getD (now sheet) 1 0) × (n ≤ SLOTS) ⌝ }
-    ensures { λ r. ⌜ r ≡ same (now (sheet .entry)) (sheetText SLOTS (unsheet SLOTS (now (sheet .entry)))) ⌝ }
+    ensures { λ r. ⌜ r ≡ same (now (sheet .entry)) (sheetText (unsheet (now (sheet .entry)))) ⌝ }
 {
-    let slots = lend::rest(sheet, FRONT);
-    let bodies = lend::rest(sheet, BODIES);
-    let mut again = [0u8; BODIES];
+    let slots = lend::rest(sheet, edition::FRONT);
+    let bodies = slots::bodies(sheet, n);
+    let mut again = [0u8; edition::BODIES];
     slots::put_front(&mut again, slots, bodies, n);
-    if compare::same(lend::front(sheet, BODIES), &again) == 0 {
+    let k = edition::bodies_at(n);
+    if compare::same(lend::front(sheet, k), lend::front(&again, k)) == 0 {
         return 0;
     }
     test::choose(slots::size(slots, bodies, n), bodies.len(), 1, 0)
@@ -99,20 +94,20 @@ fn made(sheet: &[u8], n: usize) -> usize
 
 // 1 where a sheet has the form, else 0.
 pub fn formed(sheet: &[u8]) -> usize
-    ensures { λ r. ⌜ r ≡ oneIf (formedOf SLOTS (now (sheet .entry))) ⌝ }
+    ensures { λ r. ⌜ r ≡ oneIf (formedOf (now (sheet .entry))) ⌝ }
 {
     let n = number::byte(sheet, 1);
     if n == 0 {
         return 0;
     }
-    if SLOTS < n {
+    if edition::SLOTS < n {
         return 0;
     }
     if made(sheet, n) != 1 {
         return 0;
     }
-    let slots = lend::rest(sheet, FRONT);
-    let bodies = lend::rest(sheet, BODIES);
+    let slots = lend::rest(sheet, edition::FRONT);
+    let bodies = slots::bodies(sheet, n);
     if steps(slots, bodies, n, 0) == 0 {
         return 0;
     }

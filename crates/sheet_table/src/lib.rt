@@ -1,6 +1,7 @@
 // The table writer: from a sheet and a track the `stsd` box of that track.
 use boxes::containers;
 use rule::Answer;
+use sheet::edition;
 use wire::lend;
 use wire::number;
 use wire::pen;
@@ -13,7 +14,7 @@ ghost use Rattle.wire.specs.Tests.{ifEq};
 ghost use Rattle.wire.specs.Writing.{Put};
 ghost use Rattle.rule.specs.Results.{asked, inLimit, Exact};
 ghost use Rattle.rule.specs.Results.Result.{gives};
-ghost use Rattle.sheet.specs.Sheet.{SLOTS, bodies as bodiesText};
+ghost use Rattle.sheet.specs.Sheet.{bodies as bodiesText};
 ghost use Rattle.sheet_table.specs.Form.{read};
 ghost use Rattle.sheet_table.specs.Table.{ownEntries, table as tableText, tableResult};
 
@@ -30,7 +31,7 @@ fn count_own(slots: &[u8], bodies: &[u8], n: usize, track: usize) -> usize
     let first = test::choose(number::byte(slots, 1), track, 1, 0);
     first
         + count_own(
-            lend::rest(slots, slots::SLOT),
+            lend::rest(slots, edition::SLOT),
             slots::past(slots, bodies),
             n - 1,
             track,
@@ -66,7 +67,7 @@ fn put_own(out: &mut [u8], at: usize, slots: &[u8], bodies: &[u8], n: usize, tra
     put_own(
         out,
         a,
-        lend::rest(slots, slots::SLOT),
+        lend::rest(slots, edition::SLOT),
         slots::past(slots, bodies),
         n - 1,
         track,
@@ -118,14 +119,14 @@ fn write_own(
 
 // The `stsd` box of a track of a sheet.
 pub fn table(sheet: &[u8], track: usize, out: &mut [u8]) -> Answer
-    ensures { λ r. ⌜ Exact (tableResult SLOTS (now (sheet .entry)) track) (now (out .entry)) r (now (out .exit)) ⌝ }
+    ensures { λ r. ⌜ Exact (tableResult (now (sheet .entry)) track) (now (out .entry)) r (now (out .exit)) ⌝ }
 {
     if form::formed(sheet) == 0 {
         return Answer::Refused(30, 0);
     }
     let n = number::byte(sheet, 1);
-    let slots = lend::rest(sheet, form::FRONT);
-    let bodies = lend::rest(sheet, form::BODIES);
+    let slots = lend::rest(sheet, edition::FRONT);
+    let bodies = slots::bodies(sheet, n);
     let own = count_own(slots, bodies, n, track);
     if own == 0 {
         return Answer::Refused(20, 0);

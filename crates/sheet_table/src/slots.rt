@@ -1,19 +1,24 @@
 // The slots of a sheet and the bodies that follow them. A slot is read blindly: what it says may be wrong.
 use entry_heads::kind;
+use sheet::edition;
+use sheet::edition::SLOT;
 use wire::lend;
 use wire::number;
-use wire::pen;
 ghost use mathlib.Core.Path.{_≡_};
 ghost use mathlib.Core.List.{[], _∷_, _++_};
 ghost use Prim.Native.Nat.{_+_, _*_, _≤_, _<_};
 ghost use lib.ListN.{length, take, drop};
 ghost use Rattle.wire.specs.Numbers.{word};
 ghost use Rattle.wire.specs.Writing.{Put};
-ghost use Rattle.sheet.specs.Sheet.{slotOf, slots as slotsText, bodies as bodiesText};
+ghost use Rattle.sheet.specs.Sheet.{editionFor, bodiesAt, slotOf, slots as slotsText, bodies as bodiesText};
 ghost use Rattle.sheet_table.specs.Form.{firstOf, read};
 
-// The length of a slot.
-pub const SLOT: usize = 12;
+// The bodies of a sheet of n entries.
+pub fn bodies(sheet: &[u8], n: usize) -> &[u8]
+    ensures { λ r. ⌜ now r ≡ drop (bodiesAt (editionFor n)) (now (sheet .entry)) ⌝ }
+{
+    lend::rest(sheet, edition::bodies_at(n))
+}
 
 // The body of the first slot.
 pub fn body<'a>(slots: &[u8], bodies: &'a [u8]) -> &'a [u8]
@@ -72,10 +77,9 @@ fn put_slots(out: &mut [u8], at: usize, slots: &[u8], bodies: &[u8], n: usize) -
 // Writes the front of a sheet of n entries, up to the unused slots.
 pub fn put_front(out: &mut [u8], slots: &[u8], bodies: &[u8], n: usize) -> usize
     requires { ⌜ n < 256 ⌝ }
-    ensures { λ r. ⌜ Put ((1 ∷ n ∷ 0 ∷ 0 ∷ []) ++ slotsText (read n (now (slots .entry)) (now (bodies .entry)))) (now (out .entry)) 0 r (now (out .exit)) ⌝ }
+    ensures { λ r. ⌜ Put ((editionFor n .number ∷ n ∷ 0 ∷ 0 ∷ []) ++ slotsText (read n (now (slots .entry)) (now (bodies .entry)))) (now (out .entry)) 0 r (now (out .exit)) ⌝ }
 {
-    let a = pen::put_number(out, 0, 1, 1);
-    let b = pen::put_number(out, a, 1, n);
-    let c = pen::put_number(out, b, 2, 0);
-    put_slots(out, c, slots, bodies, n)
+    let e = edition::of_count(n);
+    let a = sheet::put_two(out, 0, e.number, n);
+    put_slots(out, a, slots, bodies, n)
 }

@@ -8,7 +8,6 @@ ghost use Rattle.rule.specs.Results.{Exact};
 ghost use Rattle.release.specs.Releases.{releaseNamed};
 ghost use Rattle.judge.specs.Judgement.{judged};
 ghost use Rattle.read_tracks.specs.Reads.{tracksAnswer, trackResult, offsetsResult};
-ghost use Rattle.sheet.specs.Sheet.{SLOTS};
 ghost use Rattle.sheet.specs.Reader.{sheetResult};
 ghost use Rattle.sheet_table.specs.Table.{tableResult};
 ghost use Rattle.brands.specs.Calls.{brandAnswer};
@@ -75,7 +74,7 @@ pub extern "C" fn threegp_sheet(file: &[u8], out: &mut [u8]) -> u64
 // The table of a track of a sheet.
 #[no_mangle]
 pub extern "C" fn threegp_table(sheet: &[u8], track: u64, out: &mut [u8]) -> u64
-    ensures { λ r. ⌜ ForC (tableResult SLOTS (now (sheet .entry)) track) (now (out .entry)) r (now (out .exit)) ⌝ }
+    ensures { λ r. ⌜ ForC (tableResult (now (sheet .entry)) track) (now (out .entry)) r (now (out .exit)) ⌝ }
 {
     pack(sheet_table::table(sheet, track as usize, out))
 }

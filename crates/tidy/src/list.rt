@@ -29,12 +29,11 @@ fn too_long() -> usize {
     tell::REFUSED
 }
 
-// At most 4 tracks, 8 entries and 4 brands, a line each.
 pub fn run(file: &[u8]) -> usize {
     if LONGEST < file.len() {
         return too_long();
     }
-    let mut text = [0u8; 4096];
+    let mut text = [0u8; listing::ROOM];
     match listing::listing(file, &mut text) {
         Answer::Done(n) => show(lend::front(&text, n), file),
         Answer::Refused(number, place) => tell::refused(number, place),

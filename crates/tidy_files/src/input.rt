@@ -6,8 +6,8 @@ use wire::compare;
 // What is answered in place of a length where a read fails; no buffer here is as long.
 pub const FAILED: usize = 2000000;
 
-// Room for the longest file and, since a sheet is at most 100 bytes longer than its file, for its sheet; what fills it is longer than either.
-pub const ROOM: usize = LONGEST + 128;
+// Room for the longest file and, since a sheet is at most 388 bytes longer than its file, for its sheet; what fills it is longer than either.
+pub const ROOM: usize = LONGEST + 512;
 
 pub fn room() -> [u8; ROOM] {
     [0; ROOM]

@@ -16,10 +16,9 @@ put-unused-spec = tie.close (tie.spec
     (λ c. search needs)
     (λ c. search needs)
     (λ c. search needs)
-    (λ c. search needs)
     (λ c κs. search needs)
     (λ c. search needs)
     (λ c. let n = c .before .before .before .before .before .before .before .args .n in
-    let z : SLOT * (SLOTS - n) - 0 ≡ SLOT * (SLOTS - n) = omega arith in
-    let p = pen-is (rw z (zeros-first (SLOT * (SLOTS - n)) (SLOT * SLOTS) (omega arith))) (c .before .before .put-part .ensures) in
-    (p, omega (arith, p .next, length-replicate {A = ℕ} (SLOT * (SLOTS - n)) 0))))
+    let z : SLOT * n - 0 ≡ SLOT * n = omega arith in
+    let p = pen-is (rw z (zeros-first (SLOT * n) (SLOT * SLOTS) (omega arith))) (c .before .before .put-part .ensures) in
+    (p, omega (arith, p .next, length-replicate {A = ℕ} (SLOT * n) 0))))

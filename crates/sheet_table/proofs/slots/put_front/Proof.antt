@@ -1,16 +1,18 @@
+-- Edition and count, and then the slots.
 use borrow.Author.Needs.{needs}
-use Rattle.sheet.proofs.Writing.{start-is}
-use Rattle.wire.proofs.Writing.{pen-then, pen-is}
 use native.Mathlib.Omega.{arith}
+use Rattle.sheet.proofs.Editions.{edition-holds}
+use Rattle.wire.proofs.Writing.{pen-then}
 use Rattle.sheet_table.proofs.slots.put_front.Statement.{statement}
 use Rattle.sheet_table.proofs.slots.put_front.Tie as tie
-use Rattle.sheet.proofs.Writing.{start-is}
 
 pub put-front-spec : {M : Type 1} → statement M
 put-front-spec = tie.close (tie.spec
     (λ c κs. search needs)
-    (λ c κs. search needs)
-    (λ c κs. search needs)
+    (λ c κs. (omega arith, edition-holds _ (c .before .of-count .ensures) .number, omega arith))
     (λ c κs. search needs)
     (λ c. search needs)
-    (λ c. pen-then (pen-is (start-is _ (omega arith)) (pen-then (pen-then (c .before .before .before .before .before .before .before .before .before .before .before .before .before .before .put-number .ensures .0) (c .before .before .before .before .before .before .before .before .before .before .put-number2 .ensures .0)) (c .before .before .before .before .before .before .put-number3 .ensures .0))) (c .before .before .put-slots .ensures)))
+    (λ c. let s = c .before .before in
+    let b = s .before .before .before .before in
+    let e = b .before .before in
+    pen-then (rw (e .of-count .ensures) at (b .put-two .ensures .0)) (s .put-slots .ensures)))
