@@ -44,7 +44,7 @@ static uint64_t call_newer(void) { return threegp_newer(file, length, 60, file, 
 static uint64_t call_shift(void) { return threegp_shift(file, length, 60, out, LONGEST); }
 static uint64_t call_move(void) { return threegp_move(file, length, out, LONGEST); }
 static uint64_t call_table(void) { return threegp_table(sheet, sheet_length, 1, out, LONGEST); }
-static uint64_t call_record_read(void) { return threegp_record_read(sheet + 100, 53, 6, numbers, 16); }
+static uint64_t call_record_read(void) { return threegp_record_read(sheet + (sheet[0] == 1 ? 100 : 388), 53, 6, numbers, 16); }
 static uint64_t call_record_write(void) { return threegp_record_write(fields, 11, 6, out, LONGEST); }
 
 static uint64_t call_replace(void)

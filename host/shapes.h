@@ -89,6 +89,7 @@ struct plan {
     size_t mdats, tracks;
     size_t chunks, samples; /* of a track, of a chunk */
     size_t turns;           /* of an `mdat`; 0: as the chunks are spread over all of them */
+    size_t entries;         /* of the last kind of track; 0: as many as the kind says */
     enum order order;
     bool listed;            /* the size of every sample is listed, else it is common */
     bool same;              /* every `mdat` has one turn, and the chunks go round among them */
@@ -97,7 +98,7 @@ struct plan {
 #define REFERENCE "000000000000 0001 "
 #define ZEROS "0000000000000000 0000000000000000 "
 
-/* The tracks in their order, with how many entries each has: together the most that a file may have. */
+/* The tracks in their order, with how many entries each has: together the most that a sheet of edition 1 may have. */
 static const struct {
     const char *handler;
     size_t entries;
@@ -110,6 +111,7 @@ static const struct {
     {"text", 3, "tx3g", REFERENCE ZEROS},
     {"data", 3, "tx3g", REFERENCE ZEROS},
 };
+enum { KINDS = sizeof kinds / sizeof *kinds };
 
 static size_t turns_of(const struct plan *plan)
 {
@@ -137,10 +139,11 @@ static size_t chunk_place(const struct plan *plan, size_t payload, size_t track,
     return payload + (turn * plan->tracks + track) * plan->samples * SAMPLE + turn / turns_of(plan) * 8 * (1 + plan->between);
 }
 
-static void put_entries(size_t track)
+static void put_entries(const struct plan *plan, size_t track)
 {
-    size_t table = OPEN_TABLE("stsd", 0, kinds[track].entries);
-    for (size_t k = 0; k < kinds[track].entries; k++) {
+    size_t count = track == KINDS - 1 && plan->entries != 0 ? plan->entries : kinds[track].entries;
+    size_t table = OPEN_TABLE("stsd", 0, count);
+    for (size_t k = 0; k < count; k++) {
         size_t entry = open_box(kinds[track].code);
         put_hex(kinds[track].payload);
         close_box(entry);
@@ -151,7 +154,7 @@ static void put_entries(size_t track)
 static void put_tables(const struct plan *plan, size_t payload, size_t track)
 {
     size_t samples = plan->chunks * plan->samples, outer = open_box("stbl");
-    put_entries(track);
+    put_entries(plan, track);
     close_box(OPEN_TABLE("stts", 0, 1, samples, 160));
     close_box(OPEN_TABLE("stsc", 0, 1, 1, plan->samples, 1));
     size_t table = OPEN_TABLE("stsz", 0, plan->listed ? 0 : SAMPLE, samples);
@@ -254,6 +257,8 @@ static const struct shape shapes[] = {
      {.outside = MANY, .mdats = 1, .tracks = 1, .chunks = 1, .samples = 1}},
     {"Many empty boxes in `moov`", "`free`s of 8 bytes before four tracks of one sample",
      {.inside = MANY, .mdats = 1, .tracks = 4, .chunks = 1, .samples = 1}},
+    {"The most entries", "samples in the one chunk of each of four tracks",
+     {.mdats = 1, .tracks = 4, .chunks = 1, .samples = MANY, .entries = 27}},
 };
 enum { SHAPES = sizeof shapes / sizeof *shapes };
 
