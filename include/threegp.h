@@ -73,12 +73,12 @@ uint64_t threegp_offsets(const uint8_t *file, size_t length, uint64_t track, uin
    (0 other, 1 mp4v, 2 mp4a, 3 samr, 4 sawb, 5 s263, 6 avc1), its track from 1, two zeros, its place in the file (4 bytes) and its length (4);
    unused slots are zero. After them, from byte 100 or 388 on, the entries, whole boxes in slot order. Value: its length.
    A room of 388 bytes and the file's length suffices.
-   Refusals: 1 to 10, 25. Stack: 20608. */
+   Refusals: 1 to 10, 25. Stack: 20704. */
 uint64_t threegp_sheet(const uint8_t *file, size_t length, uint8_t *out, size_t room);
 
 /* The `stsd` box of a track (from 1) of a sheet of either edition: 16 bytes, 8 of them its header, and then that track's entries. Value: its length.
    A room of the sheet's length suffices. Records with up to 255 frames are taken, as in release 4: a sheet doesn't say which release its file had.
-   Refusals: 30, 20, 24, 25. Stack: 1768. */
+   Refusals: 30, 20, 24, 25. Stack: 6296. */
 uint64_t threegp_table(const uint8_t *sheet, size_t length, uint64_t track, uint8_t *out, size_t room);
 
 /* The fields of a `samr`, `sawb` or `s263` entry. For the first two 8 numbers: kind (3, 4), data reference, TimeScale, vendor, decoder

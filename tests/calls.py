@@ -564,6 +564,11 @@ def table_groups():
     yield made(files.movie()), [table("a-file", files.build(files.movie()), 1)]
 
 
+def most_entries():
+    """The file that the program is given, too."""
+    return files.build(files.described(*files.shares(files.MOST, 4)))
+
+
 def described_groups():
     """Files of few and of many entries, and the tables of their sheets."""
     for count, over in ((1, 1), (8, 1), (9, 1), (31, 1), (32, 1), (4, 4), (8, 4), (9, 4), (31, 4), (32, 4)):
@@ -1200,6 +1205,7 @@ def main():
     assert max(map(len, groups)) <= GROUP
     (CALLS / "data").mkdir(exist_ok=True)
     (CALLS / "data" / "groups").write_bytes(w(len(groups)) + b"".join(map(behind_length, groups)))
+    (CALLS / "data" / "most_entries").write_bytes(most_entries())
     (CALLS / "stdout").write_text("\n".join(lines) + "\n")
     kinds = [call[0] for _, _, call in seen.values()]
     print(len(kinds), "calls in", len(groups), "groups:", {kind: kinds.count(kind) for kind in KINDS})

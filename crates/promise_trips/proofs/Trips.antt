@@ -4,7 +4,7 @@ use mathlib.Core.Path.{_≡_, ap}
 use mathlib.Core.Bool.{true}
 use mathlib.Core.List.{List}
 use mathlib.Core.Logic.{_⊎_}
-use lib.ListN.{length, take}
+use lib.ListN.{length, take, getD}
 use Rattle.codes.specs.Codes.{STSD}
 use Rattle.wire.specs.Numbers.{Bytes}
 use Rattle.boxes.specs.declared.walk.Form.the-variants.{Plain}
@@ -27,7 +27,7 @@ use Rattle.rule.specs.declared.Answer.the-variants.{Done}
 use Rattle.rule.specs.Results.{answerIn, leftIn}
 use Rattle.rule.specs.Results.Result.{gives, refuses}
 use Rattle.judge.specs.Acceptance.{Meets}
-use Rattle.sheet.specs.Sheet.{SLOTS, sheet}
+use Rattle.sheet.specs.Sheet.{SLOTS, editionFor, sheet}
 use Rattle.sheet.specs.Reader.{sheetOf, sheetResult}
 use Rattle.sheet_table.specs.Form.{unsheet, formed}
 use Rattle.sheet_table.specs.Table.{tableResult}
@@ -82,6 +82,10 @@ unsheet-sheet = roundTrip.unsheet-sheet
 -- a sheet of the form is the sheet of what it says
 pub sheet-unsheet : (xs : List ℕ) → formed xs ≡ true → sheet (unsheet xs) ≡ xs
 sheet-unsheet = roundTrip.sheet-unsheet
+
+-- and of the edition that its count asks for
+pub formed-edition : (xs : List ℕ) → formed xs ≡ true → getD xs 0 0 ≡ editionFor (getD xs 1 0) .number
+formed-edition = roundTrip.formed-edition
 
 -- two sheets of the form that say the same entries at the same places are one, of one edition
 pub unsheet-one : (xs ys : List ℕ) → formed xs ≡ true → formed ys ≡ true → unsheet xs ≡ unsheet ys → xs ≡ ys

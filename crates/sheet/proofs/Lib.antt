@@ -3,3 +3,4 @@ pub mod Slots
 pub mod Writing
 pub mod Bodies
 pub mod Accepted
+pub mod Examples

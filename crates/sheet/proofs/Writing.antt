@@ -1,11 +1,10 @@
 -- The slots of all entries, and the whole sheet, as they are written. Assumes nothing.
-use Prim.Native.Nat.{ℕ, zero, suc, _+_, _-_, _*_, _%_, _≤_, _<_}
+use Prim.Native.Nat.{ℕ, zero, suc, _+_, _-_, _*_, _≤_}
 use native.Mathlib.Omega.{arith}
 use mathlib.Core.Path.{_≡_, refl, sym, ap, _∙_}
 use mathlib.Core.List.{List, [], _∷_, _++_, append-assoc}
 use lib.ListN.{length, take, drop, replicate, length-append, length-replicate}
 use lib.Seq.{take-add, take-all}
-use Rattle.wire.specs.Numbers.{bytesOn, bytes}
 use Rattle.wire.specs.Writing.{Put}
 use Rattle.wire.proofs.Numbers.{length-bytes}
 use Rattle.wire.proofs.Writing.{pen-none, pen-then, pen-is}
@@ -32,7 +31,8 @@ unfolding front
 front-length edition es h = rw (length-append, slots-length es, length-replicate) (omega arith)
 
 -- bodies that were written from where they start end where the sheet ends
-pub sheet-ends : (xs : List ℕ) → SheetFits xs → {n at : ℕ} → n ≡ length (entries xs) → at ≡ bodiesAt (editionFor n) → {out after : List ℕ} {r : ℕ} → Put (bodies (entries xs)) out at r after → length (sheetOf xs) ≡ r
+pub sheet-ends : (xs : List ℕ) → SheetFits xs → {n at : ℕ} → n ≡ length (entries xs) → at ≡ bodiesAt (editionFor n)
+    → {out after : List ℕ} {r : ℕ} → Put (bodies (entries xs)) out at r after → length (sheetOf xs) ≡ r
 unfolding sheetOf sheet
 sheet-ends xs f g h p =
     let l = front-length (editionFor (length (entries xs))) (entries xs) (edition-holds _ refl .few (f .few)) in
@@ -61,8 +61,9 @@ zeros-first zero n h = refl
 zeros-first (suc k) zero h = absurd (omega arith)
 zeros-first (suc k) (suc n) h = ap (λ (l : List ℕ). 0 ∷ l) (zeros-first k n (omega arith))
 
-pub sheet-put : (xs : List ℕ) {n : ℕ} {e : Edition} → n ≡ length (entries xs) → e ≡ editionFor n → {out a b c after : List ℕ} {i j k r : ℕ} → Put (e .number ∷ n ∷ 0 ∷ 0 ∷ []) out 0 i a
-    → Put (slots (take n (entries xs))) a i j b → Put (replicate (SLOT * (e .slots - n)) 0) b j k c → Put (bodies (entries xs)) c k r after → Put (sheetOf xs) out 0 r after
+pub sheet-put : (xs : List ℕ) {n : ℕ} {e : Edition} → n ≡ length (entries xs) → e ≡ editionFor n → {out a b c after : List ℕ} {i j k r : ℕ}
+    → Put (e .number ∷ n ∷ 0 ∷ 0 ∷ []) out 0 i a → Put (slots (take n (entries xs))) a i j b → Put (replicate (SLOT * (e .slots - n)) 0) b j k c
+    → Put (bodies (entries xs)) c k r after → Put (sheetOf xs) out 0 r after
 unfolding sheetOf sheet front
 sheet-put xs {n} g h pa pb pc po =
     let t : take n (entries xs) ≡ entries xs = take-all n (entries xs) (omega arith) in

@@ -10,12 +10,9 @@ use Rattle.sheet.specs.declared.edition.Edition.{Edition}
 
 -- ---- the editions: what byte 0 is, and how many slots
 
--- "Eight slots of 12 bytes"
+-- "Byte 0 is 1 (edition)", "Eight slots"
 abbrev pub First : Edition
 First = record { number = 1; slots = 8 }
-
-abbrev pub SLOT : ℕ
-SLOT = 12
 
 -- K6: "edition 2: 32 slots"; no sheet has more
 abbrev pub SLOTS : ℕ
@@ -24,9 +21,13 @@ SLOTS = 32
 abbrev pub Second : Edition
 Second = record { number = 2; slots = SLOTS }
 
--- "edition 2 only for files with more than 8": the one of a sheet of n entries
+-- K6: "edition 2 only for files with more than 8": the one of a sheet of n entries
 unfoldable pub editionFor : ℕ → Edition
 editionFor n = ifLe n (First .slots) First Second
+
+-- slots "of 12 bytes"
+abbrev pub SLOT : ℕ
+SLOT = 12
 
 -- where the bodies start: byte 100 of the first edition, "byte 388" of the second
 abbrev pub bodiesAt : Edition → ℕ

@@ -29,7 +29,8 @@ module _ {n : ℕ} (s : List ℕ) {xs ys : List ℕ} {f : ℕ} (o : Opened s n x
   unfolding formed
   form-skips z = nay _ (fails 3 _ (was-nay _ f z (e ∙ rw (opened o))))
 
-  pub form-last : {m r : ℕ} → 1 ≤ n → n ≤ SLOTS → m ≡ same s (sheet (unsheet s)) → m ≡ 1 → (f ≡ 0 → ⊥) → r ≡ oneIf (allMeet (read n xs ys)) → r ≡ oneIf (formed s)
+  pub form-last : {m r : ℕ} → 1 ≤ n → n ≤ SLOTS → m ≡ same s (sheet (unsheet s)) → m ≡ 1 → (f ≡ 0 → ⊥)
+      → r ≡ oneIf (allMeet (read n xs ys)) → r ≡ oneIf (formed s)
   unfolding formed
   form-last a b d i z g =
       g

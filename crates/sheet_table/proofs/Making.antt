@@ -23,8 +23,9 @@ drop-zeros (suc m) zero = let e : 0 - suc m ≡ 0 = omega arith in rw e
 drop-zeros (suc m) (suc n) = let e : suc n - suc m ≡ n - m = omega arith in rw e (drop-zeros m n)
 
 -- written over zeros, which may go on after it
-pub front-made : (edition : Edition) (es : List Entry) (zeros : ℕ) {n r : ℕ} {made : List ℕ} → n ≡ length es → n ≤ edition .slots → bodiesAt edition ≤ zeros
-    → Put ((edition .number ∷ n ∷ 0 ∷ 0 ∷ []) ++ slots es) (replicate zeros 0) 0 r made → take (bodiesAt edition) made ≡ front edition es
+pub front-made : (edition : Edition) (es : List Entry) (zeros : ℕ) {n r : ℕ} {made : List ℕ}
+    → n ≡ length es → n ≤ edition .slots → bodiesAt edition ≤ zeros → Put ((edition .number ∷ n ∷ 0 ∷ 0 ∷ []) ++ slots es) (replicate zeros 0) 0 r made
+    → take (bodiesAt edition) made ≡ front edition es
 unfolding front
 front-made edition es zeros {n} {r} {made} e h k p =
     let m = SLOT * (edition .slots - length es) in

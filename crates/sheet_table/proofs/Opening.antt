@@ -41,14 +41,16 @@ module _ {n : ℕ} (s : List ℕ) {xs ys made start again : List ℕ} {k r f : �
 
   is : f ≡ same (take (bodiesAt (editionFor n)) s) (front (editionFor n) (unsheet s))
   is =
-      let m = front-made (editionFor n) (read n xs ys) (bodiesAt Second) (sym (read-length n xs ys)) (edition-holds n refl .few h) (omega (arith, edition-holds n refl)) p in
+      let g = edition-holds n refl in
+      let m = front-made (editionFor n) (read n xs ys) (bodiesAt Second) (sym (read-length n xs ys)) (g .few h) (omega (arith, g)) p in
       e ∙ rw (t, u, b, m, opened o)
 
   pub made-bad : f ≡ 0 → 0 ≡ same s (sheet (unsheet s))
   unfolding sheet
   made-bad = rw counted (same-bad s (front (editionFor n) (unsheet s)) (bodies (unsheet s)) long is)
 
-  pub made-good : {span q : ℕ} → (f ≡ 0 → ⊥) → span ≡ length (bodies (read n xs ys)) → q ≡ ifEq span (length ys) 1 0 → q ≡ same s (sheet (unsheet s))
+  pub made-good : {span q : ℕ} → (f ≡ 0 → ⊥) → span ≡ length (bodies (read n xs ys)) → q ≡ ifEq span (length ys) 1 0
+      → q ≡ same s (sheet (unsheet s))
   unfolding sheet
   made-good z l g =
       rw counted

@@ -14,6 +14,7 @@ use Rattle.wire.proofs.Same.{same-refl, same-is}
 use Rattle.movie.specs.Entries.{Entry}
 use Rattle.sheet.specs.Sheet.{SLOTS, SLOT, editionFor, bodiesAt, slot, slots, bodies, front, sheet}
 use Rattle.sheet_table.specs.Form.{read, unsheet, steps, allMeet, formed}
+use Rattle.sheet_table.proofs.Reading.{read-length}
 use Rattle.sheet.proofs.Editions.{edition-holds}
 use Rattle.sheet.proofs.Writing.{slot-length, front-length}
 
@@ -71,7 +72,8 @@ unsheet-sheet es h a =
     (back es (replicate (SLOT * (edition .slots - length es)) 0 ++ bodies es) a)
 
 -- such a sheet has the form where its tracks and its bodies have
-pub formed-sheet : (es : List Entry) → 1 ≤ length es → length es ≤ SLOTS → AllSmall es → steps 0 es ≡ true → allMeet es ≡ true → formed (sheet es) ≡ true
+pub formed-sheet : (es : List Entry) → 1 ≤ length es → length es ≤ SLOTS → AllSmall es → steps 0 es ≡ true → allMeet es ≡ true
+    → formed (sheet es) ≡ true
 unfolding formed
 formed-sheet es m h a s b =
     let n : getD (sheet es) 1 0 ≡ length es = count-sheet es in
@@ -84,6 +86,12 @@ unfolding formed
 sheet-unsheet xs f =
     let e : same xs (sheet (unsheet xs)) ≡ 1 = eq-is _ _ (clause 2 _ f) in
     sym (same-is xs (sheet (unsheet xs)) (λ z. omega arith))
+
+-- its first byte is the number of the edition that its count asks for
+pub formed-edition : (xs : List ℕ) → formed xs ≡ true → getD xs 0 0 ≡ editionFor (getD xs 1 0) .number
+unfolding sheet front unsheet
+formed-edition xs f =
+    ap (λ (ys : List ℕ). getD ys 0 0) (sym (sheet-unsheet xs f)) ∙ ap (λ n. editionFor n .number) (read-length (getD xs 1 0) (drop 4 xs) _)
 
 -- so two sheets of the form that say the same entries are one
 pub unsheet-one : (xs ys : List ℕ) → formed xs ≡ true → formed ys ≡ true → unsheet xs ≡ unsheet ys → xs ≡ ys

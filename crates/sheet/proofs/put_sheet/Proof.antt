@@ -22,4 +22,5 @@ put-sheet-spec = tie.close (tie.spec
     let s = u .before .before .before .before .before in
     let b = s .before .before .before .before in
     let e = b .before .before in
-    sheet-put _ (e .before .before .before .pre .2) (e .of-count .ensures) (b .put-two .ensures .0) (s .put-slots .ensures .0) (u .put-unused .ensures .0) (d .put-bodies .ensures)))
+    sheet-put _ (e .before .before .before .pre .2) (e .of-count .ensures) (b .put-two .ensures .0) (s .put-slots .ensures .0)
+    (u .put-unused .ensures .0) (d .put-bodies .ensures)))

@@ -16,7 +16,8 @@ sheet-of-spec = tie.close (tie.spec
     (λ c κs. search needs)
     (λ c. let b = c .before .before in
     let n = b .before .before .before in
-    exact-short _ _ (omega (arith, sheet-ends _ (n .before .before .before .before .pre .0) (n .count .ensures .0) (b .before .bodies-at .ensures .0) (b .put-bodies .ensures))))
+    let e = sheet-ends _ (n .before .before .before .before .pre .0) (n .count .ensures .0) (b .before .bodies-at .ensures .0) (b .put-bodies .ensures) in
+    exact-short _ _ (omega (arith, e)))
     (λ c κs. search needs)
     (λ c. search needs)
     (λ c. let b = c .before .before .before .before .before .before in

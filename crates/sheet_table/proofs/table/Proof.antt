@@ -16,7 +16,8 @@ table-spec = tie.close (tie.spec
     (λ c κs. search needs)
     (λ c. let o = c .before .before in
     let n = o .before .before in
-    sheet-track _ _ _ (n .before .before .formed .ensures) (λ e. omega arith) record { count = n .byte .ensures .0; slots = o .before .rest .ensures; bodies = o .bodies .ensures } (c .before .count-own .ensures .0) (omega arith))
+    sheet-track _ _ _ (n .before .before .formed .ensures) (λ e. omega arith)
+    record { count = n .byte .ensures .0; slots = o .before .rest .ensures; bodies = o .bodies .ensures } (c .before .count-own .ensures .0) (omega arith))
     (λ c κs. let o = c .before .before .before in
     let n = o .before .before in
     let s = n .before .before .before .before .before in
@@ -26,4 +27,6 @@ table-spec = tie.close (tie.spec
     (λ c. let s = c .before .before .before .before .before in
     let o = s .before in
     let n = o .before .before in
-    sheet-own _ _ _ (n .before .before .formed .ensures) (λ e. omega arith) record { count = n .byte .ensures .0; slots = o .before .rest .ensures; bodies = o .bodies .ensures } (s .count-own .ensures .0) (λ e. omega arith) (c .before .before .write-own .ensures)))
+    sheet-own _ _ _ (n .before .before .formed .ensures) (λ e. omega arith)
+    record { count = n .byte .ensures .0; slots = o .before .rest .ensures; bodies = o .bodies .ensures }
+    (s .count-own .ensures .0) (λ e. omega arith) (c .before .before .write-own .ensures)))

@@ -1,6 +1,7 @@
+-- The clauses in their order, each asked where those before it hold.
 use borrow.Author.Needs.{needs}
-use Rattle.sheet_table.proofs.Forming.{form-none, form-over, form-unlike, form-skips, form-last}
 use native.Mathlib.Omega.{arith}
+use Rattle.sheet_table.proofs.Forming.{form-none, form-over, form-unlike, form-skips, form-last}
 use Rattle.sheet_table.proofs.form.formed.Statement.{statement}
 use Rattle.sheet_table.proofs.form.formed.Tie as tie
 
@@ -14,6 +15,13 @@ formed-spec = tie.close (tie.spec
     (λ c κs. search needs)
     (λ c κs. search needs)
     (λ c κs. search needs)
-    (λ c. form-skips _ record { count = c .before .before .before .before .before .before .before .before .byte .ensures .0; slots = c .before .before .before .rest .ensures; bodies = c .before .before .bodies .ensures } (c .before .steps .ensures) (omega arith))
+    (λ c. let o = c .before .before in
+    let n = o .before .before .before .before .before .before in
+    form-skips _ record { count = n .byte .ensures .0; slots = o .before .rest .ensures; bodies = o .bodies .ensures }
+    (c .before .steps .ensures) (omega arith))
     (λ c κs. search needs)
-    (λ c. form-last _ record { count = c .before .before .before .before .before .before .before .before .before .byte .ensures .0; slots = c .before .before .before .before .rest .ensures; bodies = c .before .before .before .bodies .ensures } (c .before .before .steps .ensures) (omega arith) (omega arith) (c .before .before .before .before .before .before .made .ensures) (omega arith) (λ e. omega arith) (c .all-meet .ensures)))
+    (λ c. let o = c .before .before .before in
+    let m = o .before .before .before in
+    let n = m .before .before .before in
+    form-last _ record { count = n .byte .ensures .0; slots = o .before .rest .ensures; bodies = o .bodies .ensures } (c .before .before .steps .ensures)
+    (omega arith) (omega arith) (m .made .ensures) (omega arith) (λ e. omega arith) (c .all-meet .ensures)))

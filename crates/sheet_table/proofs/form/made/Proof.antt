@@ -19,11 +19,15 @@ made-spec = tie.close (tie.spec
     (λ c. let f = c .before .before .before .before in
     let p = f .before .before .before in
     let o = p .before .before in
-    made-bad _ record { count = o .before .before .before .pre .0; slots = o .before .rest .ensures; bodies = o .bodies .ensures } (omega arith) (f .before .bodies-at .ensures .0) (p .put-front .ensures) (f .front .ensures) (c .before .before .front2 .ensures) (c .before .same .ensures) (omega arith))
+    made-bad _ record { count = o .before .before .before .pre .0; slots = o .before .rest .ensures; bodies = o .bodies .ensures }
+    (omega arith) (f .before .bodies-at .ensures .0) (p .put-front .ensures)
+    (f .front .ensures) (c .before .before .front2 .ensures) (c .before .same .ensures) (omega arith))
     (λ c κs. search needs)
     (λ c κs. search needs)
     (λ c. let s = c .before .before .before in
     let f = s .before .before .before in
     let p = f .before .before .before in
     let o = p .before .before in
-    made-good _ record { count = o .before .before .before .pre .0; slots = o .before .rest .ensures; bodies = o .bodies .ensures } (omega arith) (f .before .bodies-at .ensures .0) (p .put-front .ensures) (f .front .ensures) (s .before .front2 .ensures) (s .same .ensures) (λ e. omega arith) (c .before .size .ensures .0) (c .choose .ensures)))
+    made-good _ record { count = o .before .before .before .pre .0; slots = o .before .rest .ensures; bodies = o .bodies .ensures }
+    (omega arith) (f .before .bodies-at .ensures .0) (p .put-front .ensures)
+    (f .front .ensures) (s .before .front2 .ensures) (s .same .ensures) (λ e. omega arith) (c .before .size .ensures .0) (c .choose .ensures)))
