@@ -15,7 +15,7 @@ ghost use Rattle.judge.specs.Acceptance.{Meets};
 ghost use Rattle.listing.specs.Lines.{refusedLine};
 ghost use Rattle.listing.specs.Listing.{acceptedLines, listingResult};
 
-// Room for the listing of any file.
+// Room for the listing of any file: the most that its writers promise to take.
 pub const ROOM: usize = lines::OTHERS + lines::ENTRY * total::MOST;
 
 // A refused file's line, whole or not at all: a run into no room says how long it is.

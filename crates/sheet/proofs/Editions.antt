@@ -14,15 +14,15 @@ pub edition-second : (n : ℕ) → First .slots < n → Second ≡ editionFor n
 unfolding editionFor
 edition-second n h = le-nay n _ First Second Second h refl
 
--- what the slots of n entries go by
-pub record Holds (n : ℕ) (edition : Edition) : Type 0 where
+-- an edition that a sheet of n entries can have
+pub record Suits (n : ℕ) (edition : Edition) : Type 0 where
   pub number : edition .number < 256
   pub least : First .slots ≤ edition .slots
   pub most : edition .slots ≤ SLOTS
   pub few : n ≤ SLOTS → n ≤ edition .slots
 
-pub edition-holds : (n : ℕ) {edition : Edition} → edition ≡ editionFor n → Holds n edition
-edition-holds n e =
+pub edition-suits : (n : ℕ) {edition : Edition} → edition ≡ editionFor n → Suits n edition
+edition-suits n e =
     lt-or _ n
-    (λ h. subst (Holds n) (edition-second n h ∙ sym e) record { number = omega arith; least = omega arith; most = omega arith; few = λ f. f })
-    (λ h. subst (Holds n) (edition-first n h ∙ sym e) record { number = omega arith; least = omega arith; most = omega arith; few = λ f. h })
+    (λ h. subst (Suits n) (edition-second n h ∙ sym e) record { number = omega arith; least = omega arith; most = omega arith; few = λ f. f })
+    (λ h. subst (Suits n) (edition-first n h ∙ sym e) record { number = omega arith; least = omega arith; most = omega arith; few = λ f. h })

@@ -13,7 +13,7 @@ use Rattle.sheet.specs.declared.edition.Edition.{Edition}
 use Rattle.sheet.specs.Sheet.{SLOT, editionFor, bodiesAt, slot, slots, bodies, front, sheet}
 use Rattle.sheet.specs.Fits.{SheetFits}
 use Rattle.sheet.specs.Reader.{sheetOf}
-use Rattle.sheet.proofs.Editions.{edition-holds}
+use Rattle.sheet.proofs.Editions.{edition-suits}
 
 -- ---- lengths
 
@@ -35,7 +35,7 @@ pub sheet-ends : (xs : List ℕ) → SheetFits xs → {n at : ℕ} → n ≡ len
     → {out after : List ℕ} {r : ℕ} → Put (bodies (entries xs)) out at r after → length (sheetOf xs) ≡ r
 unfolding sheetOf sheet
 sheet-ends xs f g h p =
-    let l = front-length (editionFor (length (entries xs))) (entries xs) (edition-holds _ refl .few (f .few)) in
+    let l = front-length (editionFor (length (entries xs))) (entries xs) (edition-suits _ refl .few (f .few)) in
     rw (length-append, l, ← g, ← h) (sym (p .next))
 
 -- ---- the slots

@@ -70,7 +70,8 @@ module _ (s out : List ℕ) (t : ℕ) {f : ℕ} (e : f ≡ oneIf (formed s)) whe
     sheet-track z = test-yea 30 _ _ _ out e g (test-not 20 _ _ _ out (sym (no-track t (unsheet s) stepped (sym few ∙ z))))
 
     pub sheet-own : (count ≡ 0 → ⊥) → {r : Answer} {left : List ℕ}
-        → Exact (asked ((24, inLimit (table (ownEntries t (read n xs ys)))) ∷ []) (gives (table (ownEntries t (read n xs ys))))) out r left → Exact (tableResult s t) out r left
+        → Exact (asked ((24, inLimit (table (ownEntries t (read n xs ys)))) ∷ []) (gives (table (ownEntries t (read n xs ys))))) out r left
+        → Exact (tableResult s t) out r left
     unfolding tableResult trackTable
     sheet-own h x =
         test-yea 30 _ _ _ out e g

@@ -11,7 +11,7 @@ use Rattle.wire.proofs.Comparing.{same-bad, same-good}
 use Rattle.sheet.specs.Sheet.{SLOTS, editionFor, Second, bodiesAt, slots, bodies, front, sheet}
 use Rattle.sheet_table.specs.Form.{read, unsheet}
 use Rattle.sheet_table.proofs.Reading.{read-length}
-use Rattle.sheet.proofs.Editions.{edition-holds}
+use Rattle.sheet.proofs.Editions.{edition-suits}
 use Rattle.sheet.proofs.Writing.{front-length}
 use Rattle.sheet_table.proofs.Making.{front-made, bodies-prefix}
 
@@ -26,7 +26,7 @@ opened o = rw (o .slots, o .bodies, o .count)
 
 -- room for a table's own 16 bytes
 pub opened-short : (s : List ℕ) {n : ℕ} {xs ys : List ℕ} → Opened s n xs ys → 16 + length ys ≤ max 16 (length s)
-opened-short s {n} o = rw (o .bodies, length-drop) (omega (arith, edition-holds n refl))
+opened-short s {n} o = rw (o .bodies, length-drop) (omega (arith, edition-suits n refl))
 
 -- ---- a sheet and the front that was made again
 
@@ -37,11 +37,11 @@ module _ {n : ℕ} (s : List ℕ) {xs ys made start again : List ℕ} {k r f : �
   counted = rw (← opened o) (read-length n xs ys)
 
   long : length (front (editionFor n) (unsheet s)) ≡ bodiesAt (editionFor n)
-  long = front-length (editionFor n) (unsheet s) (rw counted (edition-holds n refl .few h))
+  long = front-length (editionFor n) (unsheet s) (rw counted (edition-suits n refl .few h))
 
   is : f ≡ same (take (bodiesAt (editionFor n)) s) (front (editionFor n) (unsheet s))
   is =
-      let g = edition-holds n refl in
+      let g = edition-suits n refl in
       let m = front-made (editionFor n) (read n xs ys) (bodiesAt Second) (sym (read-length n xs ys)) (g .few h) (omega (arith, g)) p in
       e ∙ rw (t, u, b, m, opened o)
 

@@ -15,7 +15,7 @@ use Rattle.movie.specs.Entries.{Entry}
 use Rattle.sheet.specs.Sheet.{SLOTS, SLOT, editionFor, bodiesAt, slot, slots, bodies, front, sheet}
 use Rattle.sheet_table.specs.Form.{read, unsheet, steps, allMeet, formed}
 use Rattle.sheet_table.proofs.Reading.{read-length}
-use Rattle.sheet.proofs.Editions.{edition-holds}
+use Rattle.sheet.proofs.Editions.{edition-suits}
 use Rattle.sheet.proofs.Writing.{slot-length, front-length}
 
 -- what an entry says fits its slot
@@ -68,7 +68,7 @@ pub unsheet-sheet : (es : List Entry) → length es ≤ SLOTS → AllSmall es �
 unfolding unsheet sheet front
 unsheet-sheet es h a =
     let edition = editionFor (length es) in
-    rw (drop-at (front edition es) (bodies es) (bodiesAt edition) (front-length edition es (edition-holds _ refl .few h)), append-assoc)
+    rw (drop-at (front edition es) (bodies es) (bodiesAt edition) (front-length edition es (edition-suits _ refl .few h)), append-assoc)
     (back es (replicate (SLOT * (edition .slots - length es)) 0 ++ bodies es) a)
 
 -- such a sheet has the form where its tracks and its bodies have
