@@ -44,6 +44,10 @@ pub record Box : Type 0 where
   pub code : ℕ
   pub body : List ℕ
 
+-- one with a plain header
+abbrev pub plainBox : ℕ → List ℕ → Box
+plainBox c b = record { form = Plain; code = c; body = b }
+
 -- its header's length
 abbrev pub head : Box → ℕ
 head x = headOf (x .form)

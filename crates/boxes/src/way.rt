@@ -60,7 +60,7 @@ fn put_wide(out: &mut [u8], at: usize, form: Form, n: usize)
 }
 
 // Puts the header of a box that ends at place r, where the box fits.
-fn put_header(out: &mut [u8], at: usize, r: usize, form: Form, code: usize)
+pub fn put_header(out: &mut [u8], at: usize, r: usize, form: Form, code: usize)
     requires { ⌜ (at + headOf form ≤ r) × (r < 2 ^ 63) ⌝ }
     ensures { λ _. ⌜ Under form (r - at) code (now (out .entry)) at r (now (out .exit)) ⌝ }
 {

@@ -37,6 +37,9 @@ HDLR = coded "hdlr"
 abbrev pub MINF : ℕ
 MINF = coded "minf"
 
+abbrev pub SMHD : ℕ
+SMHD = coded "smhd"
+
 abbrev pub DINF : ℕ
 DINF = coded "dinf"
 

@@ -19,6 +19,8 @@ pub const HDLR: usize = 0x68646C72;
 
 pub const MINF: usize = 0x6D696E66;
 
+pub const SMHD: usize = 0x736D6864;
+
 pub const DINF: usize = 0x64696E66;
 
 pub const DREF: usize = 0x64726566;

@@ -3,14 +3,10 @@ use Prim.Native.Nat.{ℕ, _+_}
 use mathlib.Core.List.{List, [], _∷_, _++_}
 use lib.ListN.{length}
 use Rattle.wire.specs.Numbers.{bytes}
-use Rattle.codes.specs.Codes.{FTYP, MOOV, MVHD, TRAK, TKHD, MDIA, MDHD, HDLR, MINF, DINF, DREF, URL, STBL, STSD, STTS, STSC, STSZ, STCO, MDAT, MP4V, MP4A, SAMR, SAWB, S263, AVC1, DAMR, D263, BITR, ESDS, AVCC, VIDE, SOUN, TEXT, ISOM, GP6, coded}
-use Rattle.boxes.specs.declared.walk.Form.the-variants.{Plain}
-use Rattle.boxes.specs.Box.{Box, write}
+use Rattle.codes.specs.Codes.{FTYP, MOOV, MVHD, TRAK, TKHD, MDIA, MDHD, HDLR, MINF, SMHD, DINF, DREF, URL, STBL, STSD, STTS, STSC, STSZ, STCO, MDAT, MP4V, MP4A, SAMR, SAWB, S263, AVC1, DAMR, D263, BITR, ESDS, AVCC, VIDE, SOUN, TEXT, ISOM, GP6, coded}
+use Rattle.boxes.specs.Box.{Box, plainBox, write}
 use Rattle.entry_heads.specs.Heads.{audioHead, visualHead, commonHead}
 use Rattle.judge.specs.Judgement.{judgedNumber, judged}
-
-abbrev pub plainBox : ℕ → List ℕ → Box
-plainBox c b = record { form = Plain; code = c; body = b }
 
 abbrev pub zeros : ℕ → List ℕ
 zeros n = bytes n 0
@@ -29,7 +25,7 @@ stblBoxes entry place =
 -- an `smhd` of 16 bytes opens `minf`
 abbrev pub minfBoxes : List ℕ → ℕ → List Box
 minfBoxes entry place =
-    plainBox (coded "smhd") (zeros 8)
+    plainBox SMHD (zeros 8)
     ∷ plainBox DINF (write (plainBox DREF (bytes 8 1 ++ write (plainBox URL (bytes 4 1) ∷ [])) ∷ []))
     ∷ plainBox STBL (write (stblBoxes entry place))
     ∷ []

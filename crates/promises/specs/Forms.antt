@@ -4,8 +4,8 @@ use mathlib.Core.List.{List, [], _∷_}
 use Rattle.codes.specs.Codes.{MOOV, SAMR, SOUN}
 use Rattle.boxes.specs.declared.walk.Form.{Form}
 use Rattle.boxes.specs.declared.walk.Form.the-variants.{Plain, Wide, Open}
-use Rattle.boxes.specs.Box.{Box, headOf, write}
-use Rattle.promises.specs.Example.{plainBox, ftypBox, moovBoxes, mdiaBoxes, moovBox, mdatBox, speech}
+use Rattle.boxes.specs.Box.{Box, plainBox, headOf, write}
+use Rattle.promises.specs.Example.{ftypBox, moovBoxes, mdiaBoxes, moovBox, mdatBox, speech}
 
 -- the same box in another form
 abbrev pub formBox : Form → Box → Box

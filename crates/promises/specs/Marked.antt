@@ -7,7 +7,7 @@ use lib.IntN.{ℤ, pos}
 use Rattle.wire.specs.Clauses.{oneIf}
 use Rattle.wire.specs.Numbers.{bytes}
 use Rattle.codes.specs.Codes.{FTYP, SAMR, SAWB, SOUN, ISOM, GP4, GP5, GP6}
-use Rattle.boxes.specs.Box.{write}
+use Rattle.boxes.specs.Box.{plainBox, write}
 use Rattle.release.specs.declared.Release.{Release}
 use Rattle.release.specs.declared.Release.the-variants.{Release4, Release6}
 use Rattle.entry_rules.specs.declared.entry.Around.the-variants.{Track, Alone}
@@ -16,7 +16,7 @@ use Rattle.rule.specs.Answers.{answerNumber}
 use Rattle.rule.specs.Results.{answerIn}
 use Rattle.judge.specs.Judgement.{judged, judgedNumber, judgedPlace}
 use Rattle.edit_shift.specs.Shift.{shiftResult}
-use Rattle.promises.specs.Example.{plainBox, zeros, moovBox, mdatBox, fileAt, speech}
+use Rattle.promises.specs.Example.{zeros, moovBox, mdatBox, fileAt, speech}
 
 -- M1 with another code, TimeScale, mode_set, period and frames, and whether it is accepted
 pub record Case : Type 0 where

@@ -3,10 +3,10 @@ use Prim.Native.Nat.{ℕ}
 use mathlib.Core.List.{List, [], _∷_, _++_, map}
 use lib.IntN.{pos}
 use Rattle.codes.specs.Codes.{D263, BITR, S263, VIDE}
-use Rattle.boxes.specs.Box.{Box, write}
+use Rattle.boxes.specs.Box.{Box, plainBox, write}
 use Rattle.rule.specs.declared.Answer.{Answer}
 use Rattle.promise_kept.specs.Edits.{Edit, shift, replace, move}
-use Rattle.promises.specs.Example.{plainBox, zeros, ftypBox, moovBox, mdatBox, fileAt, visual}
+use Rattle.promises.specs.Example.{zeros, ftypBox, moovBox, mdatBox, fileAt, visual}
 use Rattle.promises.specs.Runs.{Lent, answerOf, goesOn}
 
 -- a record of 15 bytes, and one of 31
