@@ -1,0 +1,11 @@
+pub mod Entries
+pub mod Table
+pub mod Fronts
+pub mod Answers
+pub mod Runs
+pub mod Rests
+pub mod Good
+pub mod Flags
+pub mod Modes
+pub mod Passing
+pub mod Reading

@@ -1,0 +1,68 @@
+-- The good frames of a part, with no fuel in sight. Assumes nothing.
+use Prim.Native.Nat.{ℕ, zero, suc, _≤_}
+use native.Mathlib.Omega.{arith}
+use mathlib.Core.Path.{_≡_, refl, sym, ap, _∙_}
+use mathlib.Core.Bool.{Bool, true, false}
+use mathlib.Core.List.{List, [], _∷_}
+use lib.ListN.{length, take, drop, length-drop}
+use Rattle.wire.specs.Tests.{pick}
+use Rattle.frames.specs.declared.codec.Codec.{Codec}
+use Rattle.frames.specs.Frames.{frameSize, good, framesTo, frames}
+use Rattle.frames.proofs.Fronts.{short-not, size-least, size-inside}
+
+-- ---- one frame more, and none
+
+pub to-stop : (n : ℕ) (k : Codec) (xs : List ℕ) → good k xs ≡ false → framesTo n k xs ≡ []
+to-stop zero k xs e = refl
+to-stop (suc n) k xs e = rw e
+
+pub to-next : (n : ℕ) (k : Codec) (xs : List ℕ) → good k xs ≡ true
+    → framesTo (suc n) k xs ≡ take (frameSize k xs) xs ∷ framesTo n k (drop (frameSize k xs) xs)
+to-next n k xs e = rw e
+
+enough : (n m : ℕ) (k : Codec) (xs : List ℕ) → length xs ≤ n → length xs ≤ m → framesTo n k xs ≡ framesTo m k xs
+enough zero m k xs h g = sym (to-stop m k xs (short-not k xs (omega arith)))
+enough (suc n) zero k xs h g = to-stop (suc n) k xs (short-not k xs (omega arith))
+enough (suc n) (suc m) k xs h g = go (good k xs) refl (enough n m k (drop (frameSize k xs) xs))
+  where
+    go : (t : Bool) → good k xs ≡ t
+        → (length (drop (frameSize k xs) xs) ≤ n → length (drop (frameSize k xs) xs) ≤ m
+        → framesTo n k (drop (frameSize k xs) xs) ≡ framesTo m k (drop (frameSize k xs) xs))
+        → pick t (take (frameSize k xs) xs ∷ framesTo n k (drop (frameSize k xs) xs)) []
+        ≡ pick t (take (frameSize k xs) xs ∷ framesTo m k (drop (frameSize k xs) xs)) []
+    go true e ih =
+        let w = size-least k xs in
+        let i = size-inside k xs e in
+        ap (λ (l : List (List ℕ)). take (frameSize k xs) xs ∷ l) (ih (rw length-drop (omega arith)) (rw length-drop (omega arith)))
+    go false e ih = refl
+
+pub frames-enough : (n : ℕ) (k : Codec) (xs : List ℕ) → length xs ≤ n → framesTo n k xs ≡ frames k xs
+unfolding frames
+frames-enough n k xs h = enough n (length xs) k xs h (omega arith)
+
+pub frames-stop : (k : Codec) (xs : List ℕ) → good k xs ≡ false → frames k xs ≡ []
+unfolding frames
+frames-stop k xs e = to-stop (length xs) k xs e
+
+pub frames-next : (k : Codec) (xs : List ℕ) → good k xs ≡ true → frames k xs ≡ take (frameSize k xs) xs ∷ frames k (drop (frameSize k xs) xs)
+frames-next k xs e =
+    let w = size-least k xs in
+    sym (frames-enough (suc (length xs)) k xs (omega arith))
+    ∙ to-next (length xs) k xs e
+    ∙ rw (frames-enough (length xs) k (drop (frameSize k xs) xs) (rw length-drop (omega arith)))
+
+-- ---- by frames
+
+-- what holds of a part with no good frame at its front, and of one with a good frame there where it holds past it, holds of every part
+module _ (k : Codec) (P : List ℕ → Type 0) (none : (xs : List ℕ) → good k xs ≡ false → P xs)
+    (more : (xs : List ℕ) → good k xs ≡ true → P (drop (frameSize k xs) xs) → P xs) where
+  by-length : (n : ℕ) (xs : List ℕ) → length xs ≤ n → P xs
+  by-length zero xs l = none xs (short-not k xs (omega arith))
+  by-length (suc n) xs l = go (good k xs) refl (by-length n (drop (frameSize k xs) xs))
+    where
+      go : (t : Bool) → good k xs ≡ t → (length (drop (frameSize k xs) xs) ≤ n → P (drop (frameSize k xs) xs)) → P xs
+      go true e ih = let w = size-least k xs in more xs e (ih (rw length-drop (omega arith)))
+      go false e ih = none xs e
+
+  pub by-frames : (xs : List ℕ) → P xs
+  by-frames xs = by-length (length xs) xs (omega arith)

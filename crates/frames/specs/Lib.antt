@@ -1,0 +1,3 @@
+pub mod Codecs
+pub mod Frames
+pub mod Modes
