@@ -13,7 +13,7 @@ ghost use Rattle.wire.specs.Writing.{Put};
 ghost use Rattle.entry_records.specs.Texts.{amrText, plainText, ratedText, h263Text, textOf};
 
 // Writes a `samr` or `sawb` entry.
-fn put_amr(out: &mut [u8], f: Amr) -> usize
+pub fn put_amr(out: &mut [u8], f: Amr) -> usize
     ensures { λ r. ⌜ Put (amrText f) (now (out .entry)) 0 r (now (out .exit)) ⌝ }
 {
     let a = head::put_audio(out, 53, kind::code(f.kind), f.reference, f.scale);

@@ -1,0 +1,6 @@
+pub mod Writing
+pub mod Sizing
+pub mod Lengths
+pub mod Headers
+pub mod Dumping
+pub mod Opening

@@ -1,0 +1,4 @@
+pub mod Fields
+pub mod Boxes
+pub mod File
+pub mod Dump
