@@ -17,10 +17,10 @@ use Rattle.edit_replace.specs.Replace.{replaceResult}
 use Rattle.edit_move.specs.Moving.{moveResult}
 
 -- what a call that comes to g may answer and leave is one answer and one room
-abbrev One : Result → Type 0
+abbrev pub One : Result → Type 0
 One g = (out : List ℕ) (r s : Answer) (a b : List ℕ) → Exact g out r a → Exact g out s b → (r ≡ s) × (a ≡ b)
 
-one : (g : Result) → One g
+pub one : (g : Result) → One g
 one g out r s a b x y = one-answer g out x y
 
 module _ (file : List ℕ) where
