@@ -1,6 +1,7 @@
 /* How long the library's functions take, and how much stack: tables in Markdown over the files of shapes.h, each at three lengths.
 
      bench          the time of each call, its ratio to one memcpy of the file, its growth from the next smaller length; the stack
+     bench dumps    the same of files made of dumps
      bench chopped  judgements of files with many `mdat`s, their chunks in every order
      bench worst    one judgement of the slowest file that we know
 
@@ -127,7 +128,7 @@ enum { WORDS = 1 << 20 };
 static const uint64_t UNTOUCHED = 0xA55AC33C0FF0965A;
 static uint64_t stack[WORDS];
 static uint64_t (*made_there)(void);
-static size_t most[CALLS];
+static size_t most[CALLS], dump_stack;
 
 static void make_there(void)
 {
@@ -217,6 +218,79 @@ static void print_stack(void)
     printf("\n**Stack**: the most bytes over all these files\n\n| call | bytes |\n|---|--:|\n");
     for (size_t k = 1; k < CALLS; k++)
         printf("| %s | %zu |\n", calls[k].name, most[k]);
+    printf("| from_amr | %zu |\n", dump_stack);
+}
+
+/* ---- Dumps */
+
+/* Frames of one type: what a dump opens with, their header and how long they are. */
+static const struct dump {
+    const char *name, *magic;
+    uint8_t header;
+    size_t frame;
+} dumps[] = {
+    {"AMR, type 0", "#!AMR\n", 0x04, 13},
+    {"AMR, type 7", "#!AMR\n", 0x3C, 32},
+    {"wideband, type 8", "#!AMR-WB\n", 0x44, 61},
+};
+enum { DUMPS = sizeof dumps / sizeof *dumps };
+
+/* The bytes of a file besides its frames, and those of its table for each frame. */
+enum { AROUND = 550, LISTED = 4 };
+
+static size_t made;
+
+static uint64_t call_from_amr(void) { return threegp_from_amr(file, length, out, LONGEST); }
+static uint64_t call_copy(void) { return memcpy(sheet, out, made) == NULL; }
+
+/* Builds the dump of the longest file that fits, and answers how many frames it has. */
+static size_t build_dump(const struct dump *dump, size_t limit)
+{
+    size_t count = (limit - AROUND) / (LISTED + dump->frame);
+    length = 0;
+    put_text(dump->magic);
+    for (size_t k = 0; k < count; k++) {
+        put(dump->header, 1);
+        put_zeros(dump->frame - 1);
+    }
+    return count;
+}
+
+/* The file that the dump becomes has to be accepted. */
+static void check_dump(const struct dump *dump)
+{
+    uint64_t answer = call_from_amr();
+    check(dump->name, answer);
+    made = threegp_value(answer);
+    check(dump->name, threegp_judge(out, made));
+}
+
+static void measure_dump(const struct dump *dump, struct time *times, struct time *copies, size_t *counts)
+{
+    for (size_t k = 0; k < LENGTHS; k++) {
+        counts[k] = build_dump(dump, lengths[k]);
+        check_dump(dump);
+        times[k] = time_call(call_from_amr);
+        copies[k] = time_call(call_copy);
+        size_t taken = touched(call_from_amr) - touched(call_nothing);
+        dump_stack = taken > dump_stack ? taken : dump_stack;
+    }
+}
+
+static void measure_dumps(void)
+{
+    struct time times[DUMPS][LENGTHS], copies[DUMPS][LENGTHS];
+    size_t counts[DUMPS][LENGTHS];
+    printf("\n**Dumps**, by the length of the file that they become:");
+    for (size_t k = 0; k < DUMPS; k++) {
+        measure_dump(&dumps[k], times[k], copies[k], counts[k]);
+        printf("%s %zu, %zu and %zu frames of %s", k == 0 ? "" : ";", counts[k][0], counts[k][1], counts[k][2], dumps[k].name);
+    }
+    printf("\n\n| dump | 4 KiB | ratio | 64 KiB | ratio | growth | 1 MiB | ratio | growth |\n|---|--:|--:|--:|--:|--:|--:|--:|--:|\n");
+    print_row("`memcpy`", copies[0], copies[0]);
+    for (size_t k = 0; k < DUMPS; k++)
+        print_row(dumps[k].name, times[k], copies[k]);
+    fflush(stdout);
 }
 
 static void measure_chopped(void)
@@ -265,12 +339,18 @@ int main(int count, char **words)
         measure_chopped();
         return 0;
     }
+    if (count == 2 && strcmp(words[1], "dumps") == 0) {
+        measure_dumps();
+        printf("\nStack: %zu\n", dump_stack);
+        return 0;
+    }
     if (count != 1) {
-        fprintf(stderr, "bench, bench chopped, or bench worst\n");
+        fprintf(stderr, "bench, bench dumps, bench chopped, or bench worst\n");
         return 1;
     }
     for (size_t k = 0; k < SHAPES; k++)
         measure_shape(&shapes[k]);
+    measure_dumps();
     print_stack();
     return 0;
 }

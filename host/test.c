@@ -18,7 +18,7 @@
 #include "threegp.h"
 
 /* The kinds of calls, by their numbers in the data. PART is threegp_newer too: the bytes of the entry that it finds. */
-enum kind { JUDGE = 1, TRACKS, BRAND, TRACK, RECORD_READ, NEWER, OFFSETS, PART, SHEET, TABLE, RECORD_WRITE, LISTING, SHIFT, REPLACE, MOVE };
+enum kind { JUDGE = 1, TRACKS, BRAND, TRACK, RECORD_READ, NEWER, OFFSETS, PART, SHEET, TABLE, RECORD_WRITE, LISTING, SHIFT, REPLACE, MOVE, FROM_AMR };
 
 struct bytes {
     const uint8_t *at;
@@ -269,6 +269,7 @@ static uint64_t ask_bytes(struct bytes file, const struct call *call, uint8_t *o
     case SHIFT: return threegp_shift(at, file.length, minutes(call->numbers[0]), out, call->room);
     case REPLACE: return threegp_replace(at, file.length, call->numbers[0], more, call->more.length, out, call->room);
     case MOVE: return threegp_move(at, file.length, out, call->room);
+    case FROM_AMR: return threegp_from_amr(at, file.length, out, call->room);
     default: fail("no such call");
     }
 }
@@ -321,13 +322,14 @@ static const struct {
     [SHIFT] = {"shift", "0" RULES " 22 23 25"},
     [REPLACE] = {"replace", "0" RULES " 20 21 23 24 25"},
     [MOVE] = {"move", "0" RULES " 23 25"},
+    [FROM_AMR] = {"from_amr", "0 40 41 42 24 25"},
 };
 
-static bool given[MOVE + 1][523];
+static bool given[FROM_AMR + 1][523];
 
 static void check_given(void)
 {
-    for (size_t kind = JUDGE; kind <= MOVE; kind++) {
+    for (size_t kind = JUDGE; kind <= FROM_AMR; kind++) {
         const char *next = functions[kind].numbers;
         while (*next != 0) {
             unsigned long number = strtoul(next, (char **)&next, 10);

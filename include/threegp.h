@@ -5,7 +5,7 @@
    other part. What lies past a result stays as it was.
 
    Every answer is number * 2^32 + value. Number 0: done, and the value is what the function says. Else the number is the refusal
-   and the value its place in the file (0 for 20 to 30), and nothing was written. Each function names its refusals in the order in
+   and the value its place in the file (of 41: in the dump; 0 for all others from 20 on), and nothing was written. Each function names its refusals in the order in
    which they are asked, and the first that applies is given:
       1  the length is not 8 to 1,048,576 bytes
       2  boxes do not tile the file or a container from here on
@@ -24,6 +24,9 @@
      24  the result would pass 1,048,576 bytes
      25  the room is shorter than the result
      30  the sheet is malformed
+     40  this is no dump of AMR or wideband AMR with one channel
+     41  the frame here has a padding bit set, is of an unknown type or is cut short
+     42  there are more than 65,536 frames
 
    A box may have a 64-bit size (size field 1, 16 bytes of header), and the last box of the file may have size 0, which reaches to the
    file's end; inside `stsd`, `dref` and entries only the 8-byte header is read. An edit keeps the form of every header, but
@@ -89,7 +92,7 @@ uint64_t threegp_table(const uint8_t *sheet, size_t length, uint64_t track, uint
 uint64_t threegp_record_read(const uint8_t *entry, size_t length, uint64_t release, uint64_t *out, size_t room);
 
 /* The entry of such fields, in a release as above. Value: its length; 117 bytes suffice.
-   Refusals: 21 (another count of fields, a number that doesn't fit, or a broken rule), 25. Stack: 312. */
+   Refusals: 21 (another count of fields, a number that doesn't fit, or a broken rule), 25. Stack: 360. */
 uint64_t threegp_record_write(const uint64_t *fields, size_t count, uint64_t release, uint8_t *out, size_t room);
 
 /* The printed listing of a file; a refused one has a listing of one line. Value: the text's length; 4,096 bytes suffice.
@@ -110,6 +113,13 @@ uint64_t threegp_replace(const uint8_t *file, size_t length, uint64_t entry, con
 /* The file with `moov` right after `ftyp`. Value: the length of the result, which is the file's.
    Refusals: 1 to 10, 23, 25. Stack: 18608. */
 uint64_t threegp_move(const uint8_t *file, size_t length, uint8_t *out, size_t room);
+
+/* The file that a dump becomes: AMR or wideband AMR with one channel, its magic and then frames in storage format (RFC 3267). It has one track,
+   one frame per sample; docs/FROM_AMR.md has all of its fields. Value: the length of the result, which is 526 without frames; with them 550,
+   4 for each frame, and the bytes of the frames. A room of 1,048,576 bytes suffices.
+   Refusals: 40 (another magic, that of several channels too), 41 (its place is that of the first bad frame's header in the dump, modulo 2^32),
+   42, 24, 25. Stack: 1344. */
+uint64_t threegp_from_amr(const uint8_t *dump, size_t length, uint8_t *out, size_t room);
 
 /* Which of two files is newer, each with its clock's minutes ahead of universal time. out[0] says whether the first is earlier (0),
    the same (1) or later (2); out[1] is the file of the entry, 1 or 2: the later one, the first on same; out[2] and out[3] are the

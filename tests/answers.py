@@ -3,7 +3,7 @@
 A call answers its result (bytes, a list of numbers or a number), or raises its refusal. The room that a caller lends is
 looked at last, by `fit`."""
 import files
-from files import num, tiles, w
+from files import Box, h, num, tiles, w
 
 KINDS = ["other", "mp4v", "mp4a", "samr", "sawb", "s263", "avc1"]
 BRANDS = ["3gp4", "3gp5", "3gp6", "3gr6"]
@@ -353,6 +353,81 @@ def newest(first, y, second, z, entry):
     found = entries_in(tops[chosen - 1])
     ask(1 <= entry <= len(found), 20)
     return [order, chosen, found[entry - 1][2], len(found[entry - 1][3])]
+
+
+# ---- From a dump
+
+
+class Codec:
+    """What a dump opens with, the sample entry, ticks in a second and in a frame, and the data bytes of each type of frame."""
+
+    def __init__(self, magic, code, scale, delta, sizes, bare):
+        self.magic, self.code, self.scale, self.delta = magic, code, scale, delta
+        self.data = {**dict(enumerate(sizes)), **{kind: 0 for kind in bare}}
+
+
+AMR = Codec(b"#!AMR\n", "samr", 8000, 160, (12, 13, 15, 17, 19, 20, 26, 31, 5), (15,))
+WIDEBAND = Codec(b"#!AMR-WB\n", "sawb", 16000, 320, (17, 23, 32, 36, 40, 46, 50, 58, 60, 5), (14, 15))
+PADDING = 0x83
+MOST_FRAMES = 65536
+
+
+def type_of(header):
+    """The four bits of a frame's header behind its first."""
+    return header >> 3 & 15
+
+
+def codec_of(dump):
+    found = [codec for codec in (AMR, WIDEBAND) if dump.startswith(codec.magic)]
+    ask(found, 40)
+    return found[0]
+
+
+def frames_of(dump, codec):
+    """The frames behind the magic; the first that is bad is refused at its header."""
+    frames, at = [], len(codec.magic)
+    while at < len(dump):
+        kind = type_of(dump[at])
+        end = at + 1 + codec.data.get(kind, 0)
+        if dump[at] & PADDING or kind not in codec.data or len(dump) < end:
+            raise Refusal(41, at)
+        frames.append(dump[at:end])
+        at = end
+    return frames
+
+
+UNIT = w(0x10000, 0, 0, 0, 0x10000, 0, 0, 0, 0x40000000)
+
+
+def speech_entry(codec, frames):
+    modes = sum(1 << kind for kind in {type_of(frame[0]) for frame in frames} - {14})
+    damr = Box("damr", bytes(4), bytes(1), h(modes), bytes([0, 1]))
+    return Box(codec.code, bytes(6), h(1), bytes(8), h(2, 16, 0, 0, codec.scale, 0), damr)
+
+
+def speech_file(codec, frames):
+    """The file of frames; what it says of none is that there is no run and no chunk."""
+    n, ticks = len(frames), codec.delta * len(frames)
+    runs = [files.stts((n, codec.delta)), files.stsc((1, n, 1))] if n else [files.stts(), files.stsc()]
+    sizes = Box("stsz", w(0, 0, n), w(*map(len, frames)))
+    stbl = Box("stbl", files.listed("stsd", speech_entry(codec, frames)), *runs, sizes, files.stco(*[0] * min(n, 1)))
+    dinf = Box("dinf", files.listed("dref", Box("url ", w(1))))
+    minf = Box("minf", Box("smhd", w(0), h(0, 0)), dinf, stbl)
+    mdhd = Box("mdhd", w(0, 0, 0, codec.scale, ticks), h(0x55C4, 0))
+    mdia = Box("mdia", mdhd, Box("hdlr", w(0, 0), b"soun", w(0, 0, 0), bytes(1)), minf)
+    tkhd = Box("tkhd", w(7, 0, 0, 1, 0, ticks), w(0, 0), h(0, 0, 0x100, 0), UNIT, w(0, 0))
+    mvhd = Box("mvhd", w(0, 0, 0, codec.scale, ticks, 0x10000), h(0x100, 0), w(0, 0), UNIT, bytes(24), w(2))
+    moov = Box("moov", mvhd, Box("trak", tkhd, mdia))
+    return files.build([Box("ftyp", b"3gp6", w(0), b"3gp6", b"isom"), moov, Box("mdat", b"".join(frames))])
+
+
+def from_amr(dump):
+    codec = codec_of(dump)
+    frames = frames_of(dump, codec)
+    ask(len(frames) <= MOST_FRAMES, 42)
+    file = speech_file(codec, frames)
+    ask(len(file) <= files.LONGEST, 24)
+    return file
 
 
 def fit(result, room):

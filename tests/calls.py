@@ -6,6 +6,7 @@ import pathlib
 
 import answers
 import cases
+import dumps
 import files
 import forms
 from files import Box, audio, bitr, d263, damr, esds, h, num, patch, visual, w
@@ -19,7 +20,7 @@ LONG_ROOM = 1050000
 FILL = 0xAA
 PLAIN = ["judge", "tracks", "brand"]
 NUMBERS = ["track", "record read", "newer"]
-BYTES = ["sheet", "table", "record write", "listing", "shift", "replace", "move"]
+BYTES = ["sheet", "table", "record write", "listing", "shift", "replace", "move", "from amr"]
 # by the numbers that the program has for them, from 1
 KINDS = [*PLAIN, *NUMBERS, "offsets", "part", *BYTES]
 # by the numbers that the program has for them, from 0
@@ -116,6 +117,11 @@ def shift(label, file, minutes, room):
 
 def move(label, file, room):
     return "move", "move %s room %d" % (label, room), room, (), b"", line_bytes(lambda: answers.move(file), room)
+
+
+def from_amr(label, dump, room):
+    line = line_bytes(lambda: answers.from_amr(dump), room)
+    return "from amr", "from amr %s room %d" % (label, room), room, (), b"", line
 
 
 def listing(label, file, room):
@@ -1045,6 +1051,45 @@ def form_table_groups():
         yield given, [table("form-" + what, given, 1)]
 
 
+# ---- Dumps
+
+
+def dump_groups():
+    """Each dump, with rooms exact and others where it becomes a file."""
+    for name, given, _ in dumps.cases():
+        n = len(answers.from_amr(given)) if name.startswith("0-") else 2000
+        yield given, [from_amr(name, given, room) for room in (rooms(n) if name.startswith("0-") else (n, 0))]
+
+
+# the files of these dumps go to the other calls
+RESULTS = ("none-amr", "none-wideband", "amr-type-0-quality-1", "wideband-type-14-quality-0", "amr-all-types", "wideband-all-types")
+RESULTS += ("a09_5.15k", "a10_8.85k")
+
+
+def speech_groups():
+    """Files that dumps become: judged, read, listed and edited, alone and in turn."""
+    for name, given, _ in dumps.cases():
+        if name[2:] not in RESULTS:
+            continue
+        label, file = "speech-" + name[2:], answers.from_amr(given)
+        calls = [judge(label, file), *reads_of(label, file), *edits_of(label, file), *replacements_of(label, file)]
+        yield file, calls + [from_amr(label, file, 2000)]
+        for what in ("shift", "damr", "move"):
+            call, result = edit(what, label, file)
+            yield file, [call]
+            label, file = label + "-then-" + what, result
+        yield file, [judge(label, file), listing(label, file, 400)]
+        yield file + dated(0), both(label + "-and-dated-0", file, 0, dated(0), 0, 1)
+
+
+def long_dump_groups():
+    """(start, whole length, calls) of dumps of many frames."""
+    for name, start, length, _ in dumps.long_dumps():
+        given = start.ljust(length, b"\0")
+        n = len(answers.from_amr(given)) if name.startswith("0-") else files.LONGEST
+        yield start, length, [from_amr(name, given, room) for room in (n, n - 1, 0)]
+
+
 def short_groups():
     """(a file, the calls on it)."""
     yield from plain_groups()
@@ -1063,6 +1108,8 @@ def short_groups():
     yield from real_groups()
     yield from form_groups()
     yield from form_table_groups()
+    yield from dump_groups()
+    yield from speech_groups()
 
 
 # ---- Files and sheets at the limits of length: a start, and zeros behind it
@@ -1160,6 +1207,7 @@ def all_groups():
         yield file, len(file), calls
     yield from long_groups()
     yield from long_open_groups()
+    yield from long_dump_groups()
 
 
 def fresh(start, length, calls, seen):
@@ -1184,6 +1232,7 @@ def split(start, length, calls):
 
 def check_reader():
     files.check_builder()
+    dumps.check()
     example = b"file 0\ntrack 1 soun 160/8000\nentry 1 track 1 samr place 397 size 53\n"
     example += b"brand 3gp4 no\nbrand 3gp5 no\nbrand 3gp6 yes\nbrand 3gr6 no\n"
     assert answers.listing(files.build(files.movie(files.trak()))) == example

@@ -9,5 +9,7 @@ read :
     (refusedText 8 412 ≡ text "refused 8 at 412: a chunk lies outside every mdat\n")
     × (refusedText 25 0 ≡ text "refused 25: the room is shorter than the result\n")
     × (refusedText 11 0 ≡ text "refused 11: no such refusal\n")
+    × (refusedText 41 19 ≡ text "refused 41 at 19: the frame here has a padding bit set, is of an unknown type or is cut short\n")
+    × (refusedText 42 0 ≡ text "refused 42: there are more than 65,536 frames\n")
 unfolding ifEq ifLe ifLt decimal labelled wordsIn refusalWords placeWords refusedText
-read = (refl, refl, refl)
+read = (refl, refl, refl, refl, refl)

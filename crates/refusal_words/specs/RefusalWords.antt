@@ -15,7 +15,7 @@ abbrev _means_ : ℕ → String → Meaning
 n means w = record { number = n; words = w }
 
 infix 60 _means_
--- all refusals: of the file by its rules, of what was asked for, of the result and of the sheet
+-- all refusals: of the file by its rules, of what was asked for, of the result, of the sheet and of the dump
 abbrev pub meanings : List Meaning
 meanings =
     (1 means "the length is not 8 to 1,048,576 bytes")
@@ -35,6 +35,9 @@ meanings =
     ∷ (24 means "the result would pass 1,048,576 bytes")
     ∷ (25 means "the room is shorter than the result")
     ∷ (30 means "the sheet is malformed")
+    ∷ (40 means "this is no dump of AMR or wideband AMR with one channel")
+    ∷ (41 means "the frame here has a padding bit set, is of an unknown type or is cut short")
+    ∷ (42 means "there are more than 65,536 frames")
     ∷ []
 
 -- the words of the first row that has a number
@@ -45,9 +48,9 @@ wordsIn (row ∷ rows) n = ifEq n (row .number) (text (row .words)) (wordsIn row
 unfoldable pub refusalWords : ℕ → List ℕ
 refusalWords n = wordsIn meanings n
 
--- "Places for 20 and above are 0", and are not told
+-- "Places for 20 and above are 0", and are not told, but for "41 .. with its place"
 unfoldable pub placeWords : ℕ → ℕ → List ℕ
-placeWords n p = ifLe n 10 (labelled (text " at ") p) (text "")
+placeWords n p = ifLe n 10 (labelled (text " at ") p) (ifEq n 41 (labelled (text " at ") p) (text ""))
 
 -- "refused 8 at 412: a chunk lies outside every mdat"
 unfoldable pub refusedText : ℕ → ℕ → List ℕ

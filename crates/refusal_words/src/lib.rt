@@ -60,16 +60,30 @@ fn put_words(out: &mut [u8], at: usize, n: usize) -> usize
         24 => put_part(out, at, b"the result would pass 1,048,576 bytes"),
         25 => put_part(out, at, b"the room is shorter than the result"),
         30 => put_part(out, at, b"the sheet is malformed"),
+        40 => put_part(
+            out,
+            at,
+            b"this is no dump of AMR or wideband AMR with one channel",
+        ),
+        41 => put_part(
+            out,
+            at,
+            b"the frame here has a padding bit set, is of an unknown type or is cut short",
+        ),
+        42 => put_part(out, at, b"there are more than 65,536 frames"),
         _ => put_part(out, at, b"no such refusal"),
     }
 }
 
-// The place of a rule's refusal.
+// The place of a rule's refusal, and of a bad frame.
 fn put_place(out: &mut [u8], at: usize, n: usize, p: usize) -> usize
     requires { ⌜ at < 2 ^ 61 ⌝ }
     ensures { λ r. ⌜ Put (placeWords n p) (now (out .entry)) at r (now (out .exit)) × (r ≤ at + 40) ⌝ }
 {
     if n <= 10 {
+        return put_labelled(out, at, b" at ", p);
+    }
+    if n == 41 {
         return put_labelled(out, at, b" at ", p);
     }
     put_part(out, at, b"")

@@ -18,6 +18,7 @@ ghost use Rattle.entry_fields.specs.Numbers.{readResult, writeResult};
 ghost use Rattle.edit_shift.specs.Shift.{shiftResult};
 ghost use Rattle.edit_replace.specs.Replace.{replaceResult};
 ghost use Rattle.edit_move.specs.Moving.{moveResult};
+ghost use Rattle.from_amr.specs.Dump.{fromAmr};
 ghost use Rattle.threegp.specs.Answers.{pair as pairOf, packed, judgeAnswer, ForC, newerResult, Told};
 
 fn pair(n: usize, v: usize) -> u64
@@ -117,6 +118,14 @@ pub extern "C" fn threegp_move(file: &[u8], out: &mut [u8]) -> u64
     ensures { λ r. ⌜ ForC (moveResult (now (file .entry))) (now (out .entry)) r (now (out .exit)) ⌝ }
 {
     pack(edit_move::move_moov(file, out))
+}
+
+// The file that a dump becomes.
+#[no_mangle]
+pub extern "C" fn threegp_from_amr(dump: &[u8], out: &mut [u8]) -> u64
+    ensures { λ r. ⌜ ForC (fromAmr (now (dump .entry))) (now (out .entry)) r (now (out .exit)) ⌝ }
+{
+    pack(from_amr::from_amr(dump, out))
 }
 
 // The fields of a record of a release as numbers.

@@ -81,6 +81,9 @@ fn by_short(word: &[u8], number: usize, count: usize) -> usize {
     if number == word::SHEET && count == 4 {
         return with_files(Job::Make(Edit::Sheet), 2, 3);
     }
+    if number == word::AMR && count == 4 {
+        return with_files(Job::Dump, 2, 3);
+    }
     if number == word::HELP && count <= 3 {
         return help();
     }

@@ -1,4 +1,4 @@
-// The words that make one file of another: `move`, `shift`, `sheet` and `table`.
+// The words that make one file of another: `move`, `shift`, `sheet`, `table` and `amr`.
 use crate::time;
 use rule::Answer;
 use tidy_files::input;
@@ -12,6 +12,7 @@ pub enum Edit {
     Shift(i64),
     Sheet,
     Table(usize),
+    FromAmr,
 }
 
 fn apply(edit: Edit, file: &[u8], out: &mut [u8]) -> Answer {
@@ -20,6 +21,7 @@ fn apply(edit: Edit, file: &[u8], out: &mut [u8]) -> Answer {
         Edit::Shift(minutes) => edit_shift::shift(file, minutes, out),
         Edit::Sheet => sheet::sheet(file, out),
         Edit::Table(track) => sheet_table::table(file, track, out),
+        Edit::FromAmr => from_amr::from_amr(file, out),
     }
 }
 

@@ -12,6 +12,7 @@ pub enum Job {
     List,
     Make(Edit),
     Table(usize),
+    Dump,
     Record(usize),
     Change { entry: usize, end: usize },
 }
@@ -24,11 +25,20 @@ fn table(track: usize, from: &[u8], sheet: &[u8], to: &[u8]) -> usize {
     edit::run(Edit::Table(track), sheet, to)
 }
 
+// Nor is such a dump, which is too long for any file.
+fn dump(from: &[u8], dump: &[u8], to: &[u8]) -> usize {
+    if input::ROOM <= dump.len() {
+        return tell::wrong(b"longer than any dump that becomes a file: ", from);
+    }
+    edit::run(Edit::FromAmr, dump, to)
+}
+
 fn apply(job: Job, from: &[u8], file: &[u8], to: &[u8]) -> usize {
     match job {
         Job::List => list::run(file),
         Job::Make(edit) => edit::run(edit, file, to),
         Job::Table(track) => table(track, from, file, to),
+        Job::Dump => dump(from, file, to),
         Job::Record(i) => record::show(file, i),
         Job::Change { entry, end } => record::change(file, entry, end, to),
     }

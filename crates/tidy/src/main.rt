@@ -1,4 +1,4 @@
-// Lists, shifts, moves, changes and compares 3GP files, as its first argument says.
+// Lists, shifts, moves, changes, compares and makes 3GP files, as its first argument says.
 mod command;
 mod compare;
 mod edit;

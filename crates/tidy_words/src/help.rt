@@ -32,8 +32,9 @@ fn put_others(to: i32) -> usize {
         tidy newer FILE MINUTES FILE MINUTES       which file is newer\n\
         tidy sheet FILE OUT                        the sheet of all sample entries\n\
         tidy table T SHEET OUT                     the stsd of track T of a sheet\n\
+        tidy amr DUMP OUT                          the file that a dump of AMR or wideband AMR becomes\n\
         tidy help [WORD]                           this, or more on a word\n\n\
-        FILE and OUT may be - for standard input and output. OUT must not exist.\n",
+        FILE, SHEET, DUMP and OUT may be - for standard input and output. OUT must not exist.\n",
     )
 }
 
@@ -99,6 +100,13 @@ fn put_word(to: i32, number: usize) -> usize {
             b"\
             tidy table T SHEET OUT\n\
             Writes the stsd box of track T, counted from 1, of a sheet.\n",
+        ),
+        word::AMR => print(
+            to,
+            b"\
+            tidy amr DUMP OUT\n\
+            Makes a 3GP file of a dump with one channel, which opens with #!AMR or #!AMR-WB and a newline: one track, one frame per sample.\n\
+            At most 65536 frames, none of them bad. The file's times are 0.\n",
         ),
         word::HELP => print(to, b"tidy help [WORD]\n"),
         _ => put_first(to, number),

@@ -15,7 +15,9 @@ pub const SHEET: usize = 5;
 
 pub const TABLE: usize = 6;
 
-pub const HELP: usize = 7;
+pub const AMR: usize = 7;
+
+pub const HELP: usize = 8;
 
 // The number of a word; that of none where there is no such word.
 pub fn number(text: &[u8]) -> usize {
@@ -28,6 +30,7 @@ pub fn number(text: &[u8]) -> usize {
         newer     \
         sheet     \
         table     \
+        amr       \
         help      ",
         text,
     )

@@ -1,7 +1,7 @@
--- A place is told of a rule alone.
+-- A place is told of a rule and of a bad frame alone.
 use borrow.Author.Needs.{needs}
 use Rattle.refusal_words.specs.RefusalWords.{placeWords}
-use Rattle.wire.proofs.Tests.{le-yea, le-nay}
+use Rattle.wire.proofs.Tests.{eq-yea, eq-nay, le-yea, le-nay}
 use Rattle.wire.proofs.Writing.{pen-is}
 use mathlib.Core.Path.{refl}
 use native.Mathlib.Omega.{arith}
@@ -18,4 +18,8 @@ put-place-spec = tie.close (tie.spec
     (λ c. search needs)
     (λ c κs. search needs)
     (λ c. search needs)
-    (λ c. (pen-is (le-nay _ _ _ _ _ (omega arith) refl) (c .before .before .put-part .ensures), omega arith)))
+    (λ c. (pen-is (le-nay _ _ _ _ _ (omega arith) (eq-yea _ _ _ _ _ (omega arith) refl)) (c .before .before .put-labelled2 .ensures .0), omega arith))
+    (λ c. search needs)
+    (λ c κs. search needs)
+    (λ c. search needs)
+    (λ c. (pen-is (le-nay _ _ _ _ _ (omega arith) (eq-nay _ _ _ _ _ (omega arith) refl)) (c .before .before .put-part .ensures), omega arith)))
