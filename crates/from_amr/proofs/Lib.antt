@@ -4,3 +4,4 @@ pub mod Lengths
 pub mod Headers
 pub mod Dumping
 pub mod Opening
+pub mod Examples

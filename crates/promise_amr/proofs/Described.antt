@@ -40,7 +40,8 @@ abbrev pub entryText : Codec → ℕ → List ℕ
 entryText k m = amrText (entryBy k m)
 
 pub listed-stsd : (k : Codec) (m : ℕ) → listForm (stsd k m) ≡ true
-unfolding listForm every isLe isEq word ifLe allPlain boxes after total formOf whole count meant ifEq stsd fields amrText audioHead commonHead boxHeader codeOf bytes bytesOn
+unfolding listForm every isLe isEq word ifLe allPlain boxes after total formOf whole count meant ifEq
+    stsd fields amrText audioHead commonHead boxHeader codeOf bytes bytesOn
 listed-stsd Amr m = refl
 listed-stsd Wideband m = refl
 
@@ -62,7 +63,7 @@ entry-bytes Wideband m = refl
 -- ---- its rule
 
 -- modes that the codec has
-pub record Modes (k : Codec) (m : ℕ) : Type 0 where
+pub record OwnModes (k : Codec) (m : ℕ) : Type 0 where
   pub fits : m < 65536
   pub own : modesRule (kindBy k) m ≡ true
 
@@ -71,7 +72,7 @@ spoken Amr = inl refl
 spoken Wideband = inr refl
 
 module _ (m : ℕ) where
-  fields-rule : (k : Codec) → Modes k m → amrRule Release6 (entryBy k m) ≡ true
+  fields-rule : (k : Codec) → OwnModes k m → amrRule Release6 (entryBy k m) ≡ true
   unfolding amrRule framesRule periodRule every either isEq isLt isLe
   fields-rule Amr f = rw (is-lt m 65536 (f .fits), f .own)
   fields-rule Wideband f = rw (is-lt m 65536 (f .fits), f .own)
@@ -86,7 +87,7 @@ module _ (m : ℕ) where
   kind-is Amr = refl
   kind-is Wideband = refl
 
-  module _ (k : Codec) (f : Modes k m) where
+  module _ (k : Codec) (f : OwnModes k m) where
     pub entry-rule : entryRule (Track (scaleBy k) SOUN 1) Release6 (entryText k m) ≡ true
     unfolding entryRule
     entry-rule =

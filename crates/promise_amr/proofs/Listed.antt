@@ -27,7 +27,7 @@ use Rattle.from_amr.specs.File.{trakBoxes, start, fileOf}
 use Rattle.promise_amr.proofs.Reading.{Reads}
 use Rattle.promise_amr.proofs.Ruled.{holds}
 use Rattle.promise_amr.proofs.Found.{handler-is, scale-is, references-is, table-is}
-use Rattle.promise_amr.proofs.Described.{Modes, listed-stsd, listed-dref, entries-fine}
+use Rattle.promise_amr.proofs.Described.{OwnModes, listed-stsd, listed-dref, entries-fine}
 
 pub one-description : (k : Codec) (m : ℕ) → word 4 (stsd k m) 4 ≡ 1
 unfolding stsd fields amrText audioHead commonHead boxHeader codeOf bytes bytesOn word ifLe ifEq
@@ -44,7 +44,7 @@ module _ (k : Codec) (l : List (List ℕ)) (b : Reads k l) where
   five =
       holds k l b fiveRule (rw (b .moov .list, stsd-there, one-description k (modeSet l))) (rw (listed-dref, listed-stsd k (modeSet l))) refl
 
-  pub ten : Modes k (modeSet l) → Holds (tenRule Release6) (fileOf k l)
+  pub ten : OwnModes k (modeSet l) → Holds (tenRule Release6) (fileOf k l)
   unfolding every tenIn stsdsFine stsdsFrom aroundOf ifEq
   ten m =
       holds k l b (tenRule Release6)

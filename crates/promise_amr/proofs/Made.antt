@@ -35,7 +35,7 @@ use Rattle.promise_amr.proofs.Reading.{Reads, reads}
 use Rattle.promise_amr.proofs.Shaped.{two, three, takes-edits}
 use Rattle.promise_amr.proofs.Headed.{four, nine}
 use Rattle.promise_amr.proofs.Found.{boxes-file, one-track, track-is, scale-is}
-use Rattle.promise_amr.proofs.Described.{Modes, entry-reads}
+use Rattle.promise_amr.proofs.Described.{OwnModes, entry-reads}
 use Rattle.promise_amr.proofs.Listed.{five, ten}
 use Rattle.promise_amr.proofs.Tabled.{six, seven, eight}
 use Rattle.promise_amr.proofs.Sampled.{samples-of}
@@ -44,7 +44,7 @@ use Rattle.promise_amr.proofs.Entered.{entries-are, newest}
 use Rattle.promise_amr.proofs.Timed.{media-is, movie-is}
 
 -- the modes of good frames are the codec's
-own-modes : (k : Codec) (l : List (List ℕ)) → EachGood k l → Modes k (modeSet l)
+own-modes : (k : Codec) (l : List (List ℕ)) → EachGood k l → OwnModes k (modeSet l)
 unfolding ifEq
 own-modes Amr l g = record { fits = modes-fit l; own = modes-is SamrKind (modeSet l) refl ∙ is-eq _ _ (modes-amr l g) }
 own-modes Wideband l g = record { fits = modes-fit l; own = modes-is SawbKind (modeSet l) refl ∙ is-eq _ _ (modes-wide l g) }
