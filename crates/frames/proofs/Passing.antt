@@ -15,8 +15,8 @@ unfoldable pub marked : List ℕ → List (List ℕ) → List ℕ
 marked flags [] = flags
 marked flags (f ∷ l) = marked (set flags (typeOf f) 1) l
 
-abbrev pub unmarked : List ℕ
-unmarked = replicate 16 0
+abbrev pub blank : List ℕ
+blank = replicate 16 0
 
 -- a flag that is set stays so
 mark-stays : (flags : List ℕ) (l : List (List ℕ)) (t : ℕ) → t < length flags → getD flags t 0 ≡ 1 → getD (marked flags l) t 0 ≡ 1
@@ -36,10 +36,10 @@ mark-seen flags (f ∷ l) t h e =
     (λ q. eq-nay _ _ _ _ _ q
     (mark-seen (set flags (typeOf f) 1) l t (rw length-set h) (getD-set-other flags (typeOf f) t 1 0 (λ r. q (sym r)) ∙ e)))
 
-pub marked-modes : (l : List (List ℕ)) → flagged (marked unmarked l) ≡ modeSet l
+pub marked-modes : (l : List (List ℕ)) → flagged (marked blank l) ≡ modeSet l
 unfolding flagged modeSet flagBit modeBit typeBit
 marked-modes l =
-    sum-same (flagBit (marked unmarked l)) (modeBit l) 16 (λ t h. rw (mark-seen unmarked l t h (getD-replicate 16 t 0 0 h)))
+    sum-same (flagBit (marked blank l)) (modeBit l) 16 (λ t h. rw (mark-seen blank l t h (getD-replicate 16 t 0 0 h)))
 
 -- ---- the pass
 
@@ -47,9 +47,9 @@ pub record Passed (whole left : List (List ℕ)) (flags : List ℕ) (n at : ℕ)
   pub sixteen : length flags ≡ 16
   pub count : length whole ≡ n + length left
   pub bytes : length (joined whole) ≡ at + length (joined left)
-  pub marks : marked unmarked whole ≡ marked flags left
+  pub marks : marked blank whole ≡ marked flags left
 
-pub passed-none : (whole : List (List ℕ)) → Passed whole whole unmarked 0 0
+pub passed-none : (whole : List (List ℕ)) → Passed whole whole blank 0 0
 passed-none whole = record { sixteen = refl; count = omega arith; bytes = omega arith; marks = refl }
 
 pub passed-more : {whole l : List (List ℕ)} {f flags : List ℕ} {n at : ℕ} (t size : ℕ) → Passed whole (f ∷ l) flags n at → t ≡ typeOf f → size ≡ length f

@@ -13,14 +13,14 @@ use Rattle.frames.specs.Modes.{flagged, RunOf}
 use Rattle.frames.proofs.Fronts.{size-least, size-inside}
 use Rattle.frames.proofs.Answers.{front-was, front-was-none}
 use Rattle.frames.proofs.Runs.{to-stop, to-next}
-use Rattle.frames.proofs.Passing.{unmarked, Passed, passed-none, passed-more, passed-all}
+use Rattle.frames.proofs.Passing.{blank, Passed, passed-none, passed-more, passed-all}
 
 pub record Reading (k : Codec) (xs : List ℕ) (most : ℕ) (flags : List ℕ) (n at : ℕ) : Type 0 where
   pub passed : Passed (framesTo most k xs) (framesTo (most - n) k (drop at xs)) flags n at
   pub fewer : n ≤ most
   pub inside : at ≤ length xs
 
-pub reading-none : (k : Codec) (xs : List ℕ) (most : ℕ) → Reading k xs most unmarked 0 0
+pub reading-none : (k : Codec) (xs : List ℕ) (most : ℕ) → Reading k xs most blank 0 0
 reading-none k xs most =
     let e : most - 0 ≡ most = omega arith in
     record { passed = rw e (passed-none (framesTo most k xs)); fewer = omega arith; inside = omega arith }

@@ -21,23 +21,23 @@ use Rattle.frames.specs.Modes.{RunOf}
 use Rattle.frames.proofs.Runs.{frames-enough}
 use Rattle.frames.proofs.Rests.{frames-whole}
 use Rattle.from_amr.specs.File.{StartsAt, fileOf}
-use Rattle.from_amr.specs.Dump.{magic, unmarked, MOST_FRAMES, madeOf, dumpOf}
+use Rattle.from_amr.specs.Dump.{magic, withoutMagic, MOST_FRAMES, madeOf, dumpOf}
 use Rattle.from_amr.proofs.Lengths.{length-file}
 
 -- the run that code reads
 pub run-whole : (k : Codec) (ys : List ℕ) (n : ℕ) {r : Run} → n ≡ length ys → RunOf (framesTo n k ys) r → RunOf (frames k ys) r
 run-whole k ys n e p = rw (frames-enough n k ys (omega arith)) at p
 
-unmarked-length : (k : Codec) (xs : List ℕ) → length (unmarked k xs) ≡ length xs - length (magic k)
-unfolding unmarked
-unmarked-length k xs = length-drop (length (magic k)) xs
+length-without : (k : Codec) (xs : List ℕ) → length (withoutMagic k xs) ≡ length xs - length (magic k)
+unfolding withoutMagic
+length-without k xs = length-drop (length (magic k)) xs
 
 rest-length : (k : Codec) (xs : List ℕ) → length (rest k xs) ≡ length xs - length (joined (frames k xs))
 unfolding rest
 rest-length k xs = length-drop (length (joined (frames k xs))) xs
 
-pub past-magic : (k : Codec) (xs : List ℕ) {ys : List ℕ} {m : ℕ} → m ≡ length (magic k) → ys ≡ drop m xs → ys ≡ unmarked k xs
-unfolding unmarked
+pub past-magic : (k : Codec) (xs : List ℕ) {ys : List ℕ} {m : ℕ} → m ≡ length (magic k) → ys ≡ drop m xs → ys ≡ withoutMagic k xs
+unfolding withoutMagic
 past-magic k xs e y = rw e at y
 
 -- ---- what frames become
@@ -70,15 +70,15 @@ module _ (k : Codec) (l : List (List ℕ)) (out : List ℕ) where
 
 -- ---- what a dump comes to
 
-module _ (k : Codec) (xs : List ℕ) {ys : List ℕ} (y : ys ≡ unmarked k xs) {r : Run} (p : RunOf (frames k ys) r) where
+module _ (k : Codec) (xs : List ℕ) {ys : List ℕ} (y : ys ≡ withoutMagic k xs) {r : Run} (p : RunOf (frames k ys) r) where
   -- bytes are left
   pub dump-bad : (out : List ℕ) {m : ℕ} → m ≡ length (magic k) → r .bytes < length ys → Exact (dumpOf k xs) out (Refused 41 (m + r .bytes)) out
   unfolding dumpOf
   dump-bad out {m} e h =
-      let j : r .bytes ≡ length (joined (frames k (unmarked k xs))) = rw y at (p .bytes) in
-      let i : r .bytes < length (unmarked k xs) = rw y at h in
-      let n : nothing (rest k (unmarked k xs)) ≡ false = not-eq _ 0 (λ z. omega (arith, rest-length k (unmarked k xs))) in
-      let w : m + r .bytes ≡ length xs - length (rest k (unmarked k xs)) = omega (arith, rest-length k (unmarked k xs), unmarked-length k xs) in
+      let j : r .bytes ≡ length (joined (frames k (withoutMagic k xs))) = rw y at (p .bytes) in
+      let i : r .bytes < length (withoutMagic k xs) = rw y at h in
+      let n : nothing (rest k (withoutMagic k xs)) ≡ false = not-eq _ 0 (λ z. omega (arith, rest-length k (withoutMagic k xs))) in
+      let w : m + r .bytes ≡ length xs - length (rest k (withoutMagic k xs)) = omega (arith, rest-length k (withoutMagic k xs), length-without k xs) in
       rw (n, w) (exact-refuses 41 _ out)
 
   -- none are
@@ -93,5 +93,5 @@ module _ (k : Codec) (xs : List ℕ) {ys : List ℕ} (y : ys ≡ unmarked k xs) 
     pub dump-good : {out : List ℕ} {a : Answer} {left : List ℕ} → Exact (madeOf k (frames k ys)) out a left → Exact (dumpOf k xs) out a left
     unfolding dumpOf
     dump-good x =
-        let n : nothing (rest k (unmarked k xs)) ≡ true = is-eq _ 0 (rw (← y) (ap length none-left)) in
+        let n : nothing (rest k (withoutMagic k xs)) ≡ true = is-eq _ 0 (rw (← y) (ap length none-left)) in
         rw (n, ← y) x

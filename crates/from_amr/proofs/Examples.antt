@@ -21,11 +21,11 @@ use Rattle.rule.specs.Results.Result.{refuses}
 use Rattle.from_amr.specs.Fields.{fields}
 use Rattle.from_amr.specs.Boxes.{ftyp, mvhd, tkhd, mdhd, hdlr, smhd, dref, stsd, oneFor, sizesOf, stsz}
 use Rattle.from_amr.specs.File.{start, fileOf}
-use Rattle.from_amr.specs.Dump.{magic, opens, unmarked, madeOf, dumpOf, fromAmr}
+use Rattle.from_amr.specs.Dump.{magic, opens, withoutMagic, madeOf, dumpOf, fromAmr}
 
 -- no frames; and two without data, of types 14 and 15
 made : (answerIn (fromAmr (magic Amr)) (bytes 600 0) ≡ Done 526) × (answerIn (fromAmr (magic Wideband ++ 0x70 ∷ 0x7C ∷ [])) (bytes 600 0) ≡ Done 560)
-unfolding fromAmr opens same dumpOf unmarked frames rest joined good typeOf frameSize dataBytes every isEq isLe isLt madeOf asked answerIn ifEq ifLe ifLt
+unfolding fromAmr opens same dumpOf withoutMagic frames rest joined good typeOf frameSize dataBytes every isEq isLe isLt madeOf asked answerIn ifEq ifLe ifLt
     fileOf start write header ftyp mvhd tkhd mdhd hdlr smhd dref stsd stsz oneFor sizesOf fields bytes bytesOn amrText audioHead commonHead boxHeader codeOf
     modeSet modeBit typeBit seen sumTo
 made = (refl, refl)
@@ -35,7 +35,7 @@ refused : (fromAmr (text "#!AMR_MC1.0\n") ≡ refuses 40 0)
     × (fromAmr (magic Amr ++ 0x7C ∷ 0xFC ∷ []) ≡ refuses 41 7)
     × (fromAmr (magic Amr ++ 0x70 ∷ []) ≡ refuses 41 6)
     × (fromAmr (magic Wideband ++ 0x7C ∷ 0x04 ∷ 1 ∷ []) ≡ refuses 41 10)
-unfolding fromAmr opens same dumpOf unmarked frames rest joined good typeOf frameSize dataBytes every isEq isLe isLt ifEq ifLe ifLt
+unfolding fromAmr opens same dumpOf withoutMagic frames rest joined good typeOf frameSize dataBytes every isEq isLe isLt ifEq ifLe ifLt
 refused = (refl, refl, refl, refl)
 
 -- type 15 sets bit 15, and 14 none

@@ -24,8 +24,8 @@ unfoldable pub opens : Codec → List ℕ → Bool
 opens k xs = isEq (same (take (length (magic k)) xs) (magic k)) 1
 
 -- the dump without its magic
-unfoldable pub unmarked : Codec → List ℕ → List ℕ
-unmarked k xs = drop (length (magic k)) xs
+unfoldable pub withoutMagic : Codec → List ℕ → List ℕ
+withoutMagic k xs = drop (length (magic k)) xs
 
 -- "42 over 65,536 frames"
 abbrev pub MOST_FRAMES : ℕ
@@ -38,9 +38,9 @@ madeOf k l = asked ((42, isLe (length l) MOST_FRAMES) ∷ (24, inLimit (fileOf k
 -- "41 a frame with a padding bit set, an unknown type or cut short, with its place": where what is past the good frames starts
 unfoldable pub dumpOf : Codec → List ℕ → Result
 dumpOf k xs =
-    pick (nothing (rest k (unmarked k xs)))
-    (madeOf k (frames k (unmarked k xs)))
-    (refuses 41 (length xs - length (rest k (unmarked k xs))))
+    pick (nothing (rest k (withoutMagic k xs)))
+    (madeOf k (frames k (withoutMagic k xs)))
+    (refuses 41 (length xs - length (rest k (withoutMagic k xs))))
 
 -- "40 wrong magic", and else by the codec that it names
 unfoldable pub fromAmr : List ℕ → Result

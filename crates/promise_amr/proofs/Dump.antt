@@ -20,7 +20,7 @@ use Rattle.rule.specs.Results.{Result, answerIn, leftIn}
 use Rattle.rule.specs.Results.Result.{refuses}
 use Rattle.rule.proofs.Results.{refused-not, gives-done, asked-done}
 use Rattle.from_amr.specs.File.{fileOf}
-use Rattle.from_amr.specs.Dump.{magic, opens, unmarked, madeOf, dumpOf, fromAmr}
+use Rattle.from_amr.specs.Dump.{magic, opens, withoutMagic, madeOf, dumpOf, fromAmr}
 use Rattle.promises.specs.Runs.{Lent, AllGiven}
 use Rattle.promises.specs.Demand.{Demand}
 use Rattle.promises.proofs.Runs.{demand}
@@ -36,15 +36,15 @@ module _ (xs : List ℕ) (v : Bytes xs) (out : List ℕ) (n : ℕ) where
 
   module _ (k : Codec) (o : opens k xs ≡ true) where
     abbrev l : List (List ℕ)
-    l = frames k (unmarked k xs)
+    l = frames k (withoutMagic k xs)
 
-    module _ (w : nothing (rest k (unmarked k xs)) ≡ true) where
+    module _ (w : nothing (rest k (withoutMagic k xs)) ≡ true) where
       -- nothing is left of the dump but its frames
-      all-frames : joined l ≡ unmarked k xs
-      all-frames = frames-whole k (unmarked k xs) (nil-is _ (eq-is _ _ w))
+      all-frames : joined l ≡ withoutMagic k xs
+      all-frames = frames-whole k (withoutMagic k xs) (nil-is _ (eq-is _ _ w))
 
-      whole : Bytes (unmarked k xs)
-      unfolding unmarked
+      whole : Bytes (withoutMagic k xs)
+      unfolding withoutMagic
       whole = bytes-drop (length (magic k)) xs v
 
       of-frames : Left (madeOf k l)
@@ -54,15 +54,15 @@ module _ (xs : List ℕ) (v : Bytes xs) (out : List ℕ) (n : ℕ) where
           let c = gives-done (fileOf k l) out n (sym (ap (λ r. answerIn r out) (d .1)) ∙ e) in
           let few = le-is _ _ (clause 0 _ (d .0)) in
           let short = le-is _ _ (clause 1 _ (d .0)) in
-          let m = made k l (frames-good k (unmarked k xs)) few short (subst Bytes (sym all-frames) whole) in
+          let m = made k l (frames-good k (withoutMagic k xs)) few short (subst Bytes (sym all-frames) whole) in
           subst (FromDump xs) (sym (ap (λ r. take n (leftIn r out)) (d .1) ∙ c .taken))
           (record { codec = k; opens = o; recording = m; joined = ap joined (m .samples) ∙ all-frames })
 
     of-codec : Left (dumpOf k xs)
     unfolding dumpOf answerIn
-    of-codec = go (nothing (rest k (unmarked k xs))) refl
+    of-codec = go (nothing (rest k (withoutMagic k xs))) refl
       where
-        go : (t : Bool) → nothing (rest k (unmarked k xs)) ≡ t → Left (pick t (madeOf k l) (refuses 41 (length xs - length (rest k (unmarked k xs)))))
+        go : (t : Bool) → nothing (rest k (withoutMagic k xs)) ≡ t → Left (pick t (madeOf k l) (refuses 41 (length xs - length (rest k (withoutMagic k xs)))))
         go true w = of-frames w
         go false w = λ e. absurd (refused-not _ _ _ e)
 

@@ -22,7 +22,7 @@ use Rattle.judge.specs.Acceptance.{editable}
 use Rattle.brands.specs.Calls.{brandAnswer}
 use Rattle.from_amr.specs.Boxes.{scaleBy, entryBy}
 use Rattle.from_amr.specs.File.{ticksOf}
-use Rattle.from_amr.specs.Dump.{opens, unmarked}
+use Rattle.from_amr.specs.Dump.{opens, withoutMagic}
 use Rattle.promise_kept.specs.Samples.{samples}
 
 -- its one entry stands where the paper's printed listing has it
@@ -48,5 +48,5 @@ pub record Recording (k : Codec) (l : List (List ℕ)) (ys : List ℕ) : Type 0 
 pub record FromDump (xs ys : List ℕ) : Type 0 where
   pub codec : Codec
   pub opens : opens codec xs ≡ true
-  pub recording : Recording codec (frames codec (unmarked codec xs)) ys
-  pub joined : joined (samples ys 0) ≡ unmarked codec xs
+  pub recording : Recording codec (frames codec (withoutMagic codec xs)) ys
+  pub joined : joined (samples ys 0) ≡ withoutMagic codec xs

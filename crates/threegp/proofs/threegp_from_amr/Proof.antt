@@ -1,3 +1,4 @@
+-- The answer of `from_amr`, packed for C.
 use borrow.Author.Needs.{needs}
 use Rattle.threegp.proofs.Packing.{for-c}
 use Rattle.threegp.proofs.threegp_from_amr.Statement.{statement}
