@@ -9,7 +9,6 @@ use Rattle.wire.proofs.Clauses.{is-eq, not-eq, eq-is, is-lt, not-lt, lt-is, is-
 use Rattle.frames.specs.declared.codec.Codec.{Codec}
 use Rattle.frames.specs.Codecs.{NONE, dataBytes}
 use Rattle.frames.specs.Frames.{headerOf, typeOf, frameSize, good}
-use Rattle.frames.proofs.Table.{data-few}
 
 pub type-fits : (xs : List ℕ) → typeOf xs < 16
 unfolding typeOf
@@ -73,7 +72,3 @@ module _ (k : Codec) (xs : List ℕ) where
 
   pub size-inside : good k xs ≡ true → frameSize k xs ≤ length xs
   size-inside e = good-front e .inside
-
-  pub size-most : good k xs ≡ true → frameSize k xs ≤ 61
-  unfolding frameSize
-  size-most e = omega (arith, data-few k (typeOf xs) (type-fits xs) (good-front e .known))

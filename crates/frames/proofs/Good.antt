@@ -1,16 +1,15 @@
 -- Each frame of a part is a good one, and good frames one after the other are read as they are. Assumes nothing.
-use Prim.Native.Nat.{ℕ, zero, suc, _*_, _≤_}
+use Prim.Native.Nat.{ℕ, _≤_}
 use native.Mathlib.Omega.{arith}
-use mathlib.Core.Path.{_≡_, refl, sym, _∙_}
-use mathlib.Core.Bool.{Bool, true, false}
+use mathlib.Core.Path.{_≡_, sym, _∙_}
+use mathlib.Core.Bool.{true}
 use mathlib.Core.List.{List, [], _∷_, _++_}
-use lib.ListN.{length, take, drop, length-append, List·getD-append}
-use lib.Seq.{getD-take, length-take-le, take-append-seam, drop-append-seam, drop-length}
-use Rattle.wire.specs.Tests.{pick}
+use lib.ListN.{length, take, length-append, List·getD-append}
+use lib.Seq.{getD-take, length-take-le, take-append-seam, drop-append-seam}
 use Rattle.frames.specs.declared.codec.Codec.{Codec}
-use Rattle.frames.specs.Frames.{headerOf, typeOf, frameSize, good, framesTo, frames, joined, rest, EachGood, none, some}
-use Rattle.frames.proofs.Fronts.{front-good, good-front, short-not, size-least, size-inside, size-most}
-use Rattle.frames.proofs.Runs.{frames-stop, frames-next}
+use Rattle.frames.specs.Frames.{headerOf, typeOf, frameSize, good, framesTo, frames, joined, EachGood, none, some}
+use Rattle.frames.proofs.Fronts.{front-good, good-front, short-not, size-least, size-inside}
+use Rattle.frames.proofs.Runs.{frames-stop, frames-next, by-frames}
 
 -- ---- a frame goes by its header, and by the bytes that it needs
 
@@ -42,13 +41,8 @@ module _ (k : Codec) (xs : List ℕ) (g : good k xs ≡ true) where
 -- ---- each frame of a part
 
 pub each-good : (n : ℕ) (k : Codec) (xs : List ℕ) → EachGood k (framesTo n k xs)
-each-good zero k xs = none
-each-good (suc n) k xs = go (good k xs) refl (each-good n k (drop (frameSize k xs) xs))
-  where
-    go : (t : Bool) → good k xs ≡ t → EachGood k (framesTo n k (drop (frameSize k xs) xs))
-        → EachGood k (pick t (take (frameSize k xs) xs ∷ framesTo n k (drop (frameSize k xs) xs)) [])
-    go true e ih = some (good-taken k xs e) (size-taken k xs e) ih
-    go false e ih = none
+each-good n k =
+    by-frames k (λ m xs l. EachGood k l) (λ xs. none) (λ m xs e. none) (λ m xs l e ih. some (good-taken k xs e) (size-taken k xs e) ih) n
 
 pub frames-good : (k : Codec) (xs : List ℕ) → EachGood k (frames k xs)
 unfolding frames
@@ -73,17 +67,3 @@ pub frames-again : (k : Codec) (l : List (List ℕ)) → EachGood k l → frames
 unfolding joined
 frames-again k [] none = frames-stop k [] (short-not k [] (omega arith))
 frames-again k (f ∷ l) (some g s h) = frames-cons k f (joined l) g s ∙ rw (frames-again k l h)
-
-pub rest-again : (k : Codec) (l : List (List ℕ)) → EachGood k l → rest k (joined l) ≡ []
-unfolding rest
-rest-again k l h = rw (frames-again k l h) (drop-length (joined l))
-
-pub joined-most : (k : Codec) (l : List (List ℕ)) → EachGood k l → length (joined l) ≤ 61 * length l
-unfolding joined
-joined-most k [] none = omega arith
-joined-most k (f ∷ l) (some g s h) = rw length-append (omega (arith, size-most k f g, joined-most k l h))
-
-pub joined-least : (k : Codec) (l : List (List ℕ)) → EachGood k l → length l ≤ length (joined l)
-unfolding joined
-joined-least k [] none = omega arith
-joined-least k (f ∷ l) (some g s h) = rw length-append (omega (arith, size-least k f, joined-least k l h))

@@ -68,4 +68,5 @@ module _ {k : Codec} {xs flags : List ℕ} {most n at : ℕ} (modes : ℕ) (r : 
       passed-all modes (rw (to-stop (most - n) k (drop at xs) g) at (r .passed)) m
 
   pub reading-full : most ≤ n → RunOf (framesTo most k xs) (record { count = n; bytes = at; modes = modes })
+  unfolding framesTo
   reading-full h = let e : most - n ≡ 0 = omega arith in passed-all modes (rw e at (r .passed)) m

@@ -1,33 +1,55 @@
--- A part is its good frames, one after the other, and the rest, which has no good frame at its front. Assumes nothing.
-use Prim.Native.Nat.{ℕ}
-use mathlib.Core.Path.{_≡_, sym, _∙_}
+-- A part is its good frames, one after the other, and the rest; however many of them are taken, a bad one stops them. Assumes nothing.
+use Prim.Native.Nat.{ℕ, _≤_, _<_}
+use native.Mathlib.Omega.{arith}
+use mathlib.Core.Path.{_≡_, refl, sym, _∙_}
 use mathlib.Core.Bool.{true, false}
-use mathlib.Core.List.{List, [], _++_, append-assoc, append-nil}
-use lib.ListN.{drop, length-append, take-append-drop}
+use mathlib.Core.List.{List, [], _∷_, _++_, append-assoc, append-nil}
+use lib.ListN.{length, take, drop, length-append, take-append-drop}
 use lib.Seq.{drop-drop, length-take-le}
 use Rattle.frames.specs.declared.codec.Codec.{Codec}
-use Rattle.frames.specs.Frames.{frameSize, good, frames, joined, rest}
+use Rattle.frames.specs.Frames.{frameSize, good, framesTo, frames, joined, rest}
 use Rattle.frames.proofs.Fronts.{size-inside}
-use Rattle.frames.proofs.Runs.{frames-stop, frames-next, by-frames}
+use Rattle.frames.proofs.Runs.{by-frames}
 
-pub rest-stop : (k : Codec) (xs : List ℕ) → good k xs ≡ false → rest k xs ≡ xs
-unfolding rest joined
-rest-stop k xs e = rw (frames-stop k xs e)
+-- ---- the first n of the good frames, and what stands past them
 
-pub rest-next : (k : Codec) (xs : List ℕ) → good k xs ≡ true → rest k xs ≡ rest k (drop (frameSize k xs) xs)
-unfolding rest joined
-rest-next k xs e = rw (frames-next k xs e, length-append, length-take-le (frameSize k xs) xs (size-inside k xs e), drop-drop)
+-- what stands past frames at the front
+abbrev past : List (List ℕ) → List ℕ → List ℕ
+past l xs = drop (length (joined l)) xs
 
-pub frames-rest : (k : Codec) (xs : List ℕ) → joined (frames k xs) ++ rest k xs ≡ xs
-unfolding joined
-frames-rest k =
-    by-frames k (λ xs. joined (frames k xs) ++ rest k xs ≡ xs)
-    (λ xs e. rw (frames-stop k xs e) (rest-stop k xs e))
-    (λ xs e ih. rw (frames-next k xs e, rest-next k xs e, append-assoc, ih) (take-append-drop (frameSize k xs) xs))
+module _ (k : Codec) where
+  -- past a good frame and those after it
+  past-next : (l : List (List ℕ)) (xs : List ℕ) → good k xs ≡ true → past (take (frameSize k xs) xs ∷ l) xs ≡ past l (drop (frameSize k xs) xs)
+  unfolding joined
+  past-next l xs e = rw (length-append, length-take-le (frameSize k xs) xs (size-inside k xs e), drop-drop)
+
+  -- they make up the part
+  pub to-rest : (n : ℕ) (xs : List ℕ) → joined (framesTo n k xs) ++ past (framesTo n k xs) xs ≡ xs
+  unfolding joined
+  to-rest =
+      by-frames k (λ n xs l. joined l ++ past l xs ≡ xs) (λ xs. refl) (λ n xs e. refl)
+      (λ n xs l e ih. rw (past-next l xs e, append-assoc, ih) (take-append-drop (frameSize k xs) xs))
+
+  -- where they are fewer, no good frame stands there
+  pub to-bad : (n : ℕ) (xs : List ℕ) → length (framesTo n k xs) < n → good k (past (framesTo n k xs) xs) ≡ false
+  unfolding joined
+  to-bad =
+      by-frames k (λ n xs l. length l < n → good k (past l xs) ≡ false) (λ xs h. absurd (omega arith)) (λ n xs e h. e)
+      (λ n xs l e ih h. rw (past-next l xs e) (ih (omega arith)))
+
+  pub to-most : (n : ℕ) (xs : List ℕ) → length (framesTo n k xs) ≤ n
+  to-most = by-frames k (λ n xs l. length l ≤ n) (λ xs. omega arith) (λ n xs e. omega arith) (λ n xs l e ih. omega arith)
+
+  -- they take no more bytes than there are
+  pub to-inside : (n : ℕ) (xs : List ℕ) → length (joined (framesTo n k xs)) ≤ length xs
+  to-inside n xs =
+      let l = length-append (joined (framesTo n k xs)) (past (framesTo n k xs) xs) in
+      let e = rw (to-rest n xs) at l in
+      omega arith
+
+-- ---- all of them
 
 -- where nothing is left, they are all of it
 pub frames-whole : (k : Codec) (xs : List ℕ) → rest k xs ≡ [] → joined (frames k xs) ≡ xs
-frames-whole k xs e = sym (append-nil (joined (frames k xs))) ∙ rw e at (frames-rest k xs)
-
-pub rest-bad : (k : Codec) (xs : List ℕ) → good k (rest k xs) ≡ false
-rest-bad k = by-frames k (λ xs. good k (rest k xs) ≡ false) (λ xs e. rw (rest-stop k xs e) e) (λ xs e ih. rw (rest-next k xs e) ih)
+unfolding frames rest
+frames-whole k xs e = sym (append-nil (joined (frames k xs))) ∙ rw e at (to-rest k (length xs) xs)

@@ -13,14 +13,17 @@ use Rattle.frames.proofs.Fronts.{short-not, size-least, size-inside}
 -- ---- one frame more, and none
 
 pub to-stop : (n : ℕ) (k : Codec) (xs : List ℕ) → good k xs ≡ false → framesTo n k xs ≡ []
+unfolding framesTo
 to-stop zero k xs e = refl
 to-stop (suc n) k xs e = rw e
 
 pub to-next : (n : ℕ) (k : Codec) (xs : List ℕ) → good k xs ≡ true
     → framesTo (suc n) k xs ≡ take (frameSize k xs) xs ∷ framesTo n k (drop (frameSize k xs) xs)
+unfolding framesTo
 to-next n k xs e = rw e
 
 enough : (n m : ℕ) (k : Codec) (xs : List ℕ) → length xs ≤ n → length xs ≤ m → framesTo n k xs ≡ framesTo m k xs
+unfolding framesTo
 enough zero m k xs h g = sym (to-stop m k xs (short-not k xs (omega arith)))
 enough (suc n) zero k xs h g = to-stop (suc n) k xs (short-not k xs (omega arith))
 enough (suc n) (suc m) k xs h g = go (good k xs) refl (enough n m k (drop (frameSize k xs) xs))
@@ -53,16 +56,23 @@ frames-next k xs e =
 
 -- ---- by frames
 
--- what holds of a part with no good frame at its front, and of one with a good frame there where it holds past it, holds of every part
-module _ (k : Codec) (P : List ℕ → Type 0) (none : (xs : List ℕ) → good k xs ≡ false → P xs)
-    (more : (xs : List ℕ) → good k xs ≡ true → P (drop (frameSize k xs) xs) → P xs) where
-  by-length : (n : ℕ) (xs : List ℕ) → length xs ≤ n → P xs
-  by-length zero xs l = none xs (short-not k xs (omega arith))
-  by-length (suc n) xs l = go (good k xs) refl (by-length n (drop (frameSize k xs) xs))
+-- what holds of no frames, of a part with no good one at its front, and of a good one and those past it where it holds of these, holds of the first n
+module _ (k : Codec) (P : ℕ → List ℕ → List (List ℕ) → Type 0) (none : (xs : List ℕ) → P 0 xs [])
+    (stop : (n : ℕ) (xs : List ℕ) → good k xs ≡ false → P (suc n) xs [])
+    (more : (n : ℕ) (xs : List ℕ) (l : List (List ℕ)) → good k xs ≡ true → P n (drop (frameSize k xs) xs) l → P (suc n) xs (take (frameSize k xs) xs ∷ l)) where
+  pub by-frames : (n : ℕ) (xs : List ℕ) → P n xs (framesTo n k xs)
+  unfolding framesTo
+  by-frames zero xs = none xs
+  by-frames (suc n) xs = go (good k xs) refl (by-frames n (drop (frameSize k xs) xs))
     where
-      go : (t : Bool) → good k xs ≡ t → (length (drop (frameSize k xs) xs) ≤ n → P (drop (frameSize k xs) xs)) → P xs
-      go true e ih = let w = size-least k xs in more xs e (ih (rw length-drop (omega arith)))
-      go false e ih = none xs e
+      l : List (List ℕ)
+      l = framesTo n k (drop (frameSize k xs) xs)
 
-  pub by-frames : (xs : List ℕ) → P xs
-  by-frames xs = by-length (length xs) xs (omega arith)
+      go : (t : Bool) → good k xs ≡ t → P n (drop (frameSize k xs) xs) l → P (suc n) xs (pick t (take (frameSize k xs) xs ∷ l) [])
+      go true e ih = more n xs l e ih
+      go false e ih = stop n xs e
+
+-- they are the first n of all
+pub to-take : (n : ℕ) (k : Codec) (xs : List ℕ) → framesTo n k xs ≡ take n (frames k xs)
+to-take n k =
+    by-frames k (λ m xs l. l ≡ take m (frames k xs)) (λ xs. refl) (λ m xs e. rw (frames-stop k xs e)) (λ m xs l e ih. rw (frames-next k xs e, ih)) n

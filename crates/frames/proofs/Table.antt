@@ -1,6 +1,5 @@
 -- The tables of frame bytes are those of the definition, and so are the mode bits: one computed test a table. Assumes nothing.
-use Prim.Native.Nat.{ℕ, _≤_, _<_, _%_}
-use native.Mathlib.Omega.{arith}
+use Prim.Native.Nat.{ℕ, _≤_, _<_}
 use mathlib.Core.Path.{_≡_, refl, sym}
 use mathlib.Core.Bool.{Bool, true}
 use mathlib.Core.List.{List, [], _∷_}
@@ -19,9 +18,9 @@ abbrev pub table : Codec → List ℕ
 table Amr = 12 ∷ 13 ∷ 15 ∷ 17 ∷ 19 ∷ 20 ∷ 26 ∷ 31 ∷ 5 ∷ 255 ∷ 255 ∷ 255 ∷ 255 ∷ 255 ∷ 255 ∷ 0 ∷ []
 table Wideband = 17 ∷ 23 ∷ 32 ∷ 36 ∷ 40 ∷ 46 ∷ 50 ∷ 58 ∷ 60 ∷ 5 ∷ 255 ∷ 255 ∷ 255 ∷ 255 ∷ 0 ∷ 0 ∷ []
 
--- an entry is that of the definition, and at most 60 or else NONE, whose remainder by itself is 0
+-- an entry is that of the definition, and at most NONE
 right : Codec → ℕ → ℕ → Bool
-right k t x = every (isEq x (dataBytes k t) ∷ isLe (x % NONE) 60 ∷ isLe x NONE ∷ [])
+right k t x = every (isEq x (dataBytes k t) ∷ isLe x NONE ∷ [])
 
 tested : (k : Codec) → each (right k) 0 (table k) ≡ true
 unfolding right every isEq isLe dataBytes ifLt
@@ -34,7 +33,6 @@ sixteen Wideband = refl
 
 pub record Entry (k : Codec) (t x : ℕ) : Type 0 where
   pub is : x ≡ dataBytes k t
-  pub left : x % NONE ≤ 60
   pub most : x ≤ NONE
 
 pub entry : (k : Codec) (t : ℕ) → t < 16 → Entry k t (getD (table k) t 0)
@@ -42,11 +40,7 @@ unfolding right
 entry k t h =
     let e = at (right k) (table k) (tested k) t (rw sixteen h) in
     let x = getD (table k) t 0 in
-    record { is = eq-is x (dataBytes k t) (clause 0 _ e); left = le-is (x % NONE) 60 (clause 1 _ e); most = le-is x NONE (clause 2 _ e) }
-
--- the data bytes of a known type are few
-pub data-few : (k : Codec) (t : ℕ) → t < 16 → dataBytes k t < NONE → dataBytes k t ≤ 60
-data-few k t h g = let e = entry k t h in omega arith
+    record { is = eq-is x (dataBytes k t) (clause 0 _ e); most = le-is x NONE (clause 1 _ e) }
 
 -- a type between those with data and those without is unknown
 pub data-none : (k : Codec) (t : ℕ) → length (sizes k) ≤ t → t < bare k → dataBytes k t ≡ NONE

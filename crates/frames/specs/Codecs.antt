@@ -2,9 +2,13 @@
 use Prim.Native.Nat.{ℕ}
 use mathlib.Core.List.{List, [], _∷_}
 use lib.ListN.{length, getD}
-use Rattle.wire.specs.Tests.{ifLt}
+use Rattle.wire.specs.Tests.{ifEq, ifLt}
 use Rattle.frames.specs.declared.codec.Codec.{Codec}
 use Rattle.frames.specs.declared.codec.Codec.the-variants.{Amr, Wideband}
+
+-- the codec that a caller names by a number: 0 is AMR, and any other is wideband
+unfoldable pub codecNamed : ℕ → Codec
+codecNamed n = ifEq n 0 Amr Wideband
 
 -- "Data bytes after the frame header for types 0 to 8 are 12, 13, 15, 17, 19, 20, 26, 31, 5 in AMR", "for wideband types 0 to 9 they
 -- are 17, 23, 32, 36, 40, 46, 50, 58, 60, 5"

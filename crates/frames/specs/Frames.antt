@@ -34,7 +34,7 @@ good k xs =
     ∷ [])
 
 -- the good frames from the front on, at most n of them
-abbrev pub framesTo : ℕ → Codec → List ℕ → List (List ℕ)
+unfoldable pub framesTo : ℕ → Codec → List ℕ → List (List ℕ)
 framesTo zero k xs = []
 framesTo (suc n) k xs = pick (good k xs) (take (frameSize k xs) xs ∷ framesTo n k (drop (frameSize k xs) xs)) []
 

@@ -13,7 +13,7 @@ use Rattle.entry_heads.specs.Kinds.{codeOf}
 use Rattle.entry_records.specs.Texts.{amrText}
 use Rattle.frames.specs.declared.codec.Codec.the-variants.{Amr, Wideband}
 use Rattle.frames.specs.Codecs.{dataBytes}
-use Rattle.frames.specs.Frames.{typeOf, frameSize, good, frames, joined, rest}
+use Rattle.frames.specs.Frames.{typeOf, frameSize, good, framesTo, frames, joined, rest}
 use Rattle.frames.specs.Modes.{seen, typeBit, modeBit, modeSet}
 use Rattle.rule.specs.declared.Answer.the-variants.{Done}
 use Rattle.rule.specs.Results.{asked, answerIn}
@@ -25,7 +25,7 @@ use Rattle.from_amr.specs.Dump.{magic, opens, withoutMagic, madeOf, dump
 
 -- no frames; and two without data, of types 14 and 15
 made : (answerIn (fromAmr (magic Amr)) (bytes 600 0) ≡ Done 526) × (answerIn (fromAmr (magic Wideband ++ 0x70 ∷ 0x7C ∷ [])) (bytes 600 0) ≡ Done 560)
-unfolding fromAmr opens same dumpOf withoutMagic frames rest joined good typeOf frameSize dataBytes every isEq isLe isLt madeOf asked answerIn ifEq ifLe ifLt
+unfolding fromAmr opens same dumpOf withoutMagic framesTo frames rest joined good typeOf frameSize dataBytes every isEq isLe isLt madeOf asked answerIn ifEq ifLe ifLt
     fileOf start write header ftyp mvhd tkhd mdhd hdlr smhd dref stsd stsz oneFor sizesOf fields bytes bytesOn amrText audioHead commonHead boxHeader codeOf
     modeSet modeBit typeBit seen sumTo
 made = (refl, refl)
@@ -35,10 +35,10 @@ refused : (fromAmr (text "#!AMR_MC1.0\n") ≡ refuses 40 0)
     × (fromAmr (magic Amr ++ 0x7C ∷ 0xFC ∷ []) ≡ refuses 41 7)
     × (fromAmr (magic Amr ++ 0x70 ∷ []) ≡ refuses 41 6)
     × (fromAmr (magic Wideband ++ 0x7C ∷ 0x04 ∷ 1 ∷ []) ≡ refuses 41 10)
-unfolding fromAmr opens same dumpOf withoutMagic frames rest joined good typeOf frameSize dataBytes every isEq isLe isLt ifEq ifLe ifLt
+unfolding fromAmr opens same dumpOf withoutMagic framesTo frames rest joined good typeOf frameSize dataBytes every isEq isLe isLt ifEq ifLe ifLt
 refused = (refl, refl, refl, refl)
 
 -- type 15 sets bit 15, and 14 none
 modes : modeSet (frames Wideband (0x70 ∷ 0x7C ∷ [])) ≡ 0x8000
-unfolding frames good typeOf frameSize dataBytes every isEq isLe isLt ifEq ifLt modeSet modeBit typeBit seen sumTo
+unfolding framesTo frames good typeOf frameSize dataBytes every isEq isLe isLt ifEq ifLt modeSet modeBit typeBit seen sumTo
 modes = refl

@@ -10,9 +10,9 @@ pub data-bytes-spec : {M : Type 1} → statement M
 data-bytes-spec = tie.close (tie.spec
     (λ c. search needs)
     (λ c. search needs)
+    (λ c. let e = entry Amr (c .before .before .args .t) (search needs) in record { fits = omega arith })
     (λ c. search needs)
     (λ c. search needs)
-    (λ c. search needs)
-    (λ c. search needs)
+    (λ c. let e = entry Wideband (c .before .before .args .t) (search needs) in record { fits = omega arith })
     (λ c. let e = entry Amr (c .before .before .args .t) (search needs) in rw (c .enum-told .given .1) (e .is, omega arith))
     (λ c. let e = entry Wideband (c .before .before .args .t) (search needs) in rw (c .enum-told2 .given .1) (e .is, omega arith)))
