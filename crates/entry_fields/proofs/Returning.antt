@@ -22,7 +22,7 @@ use Rattle.entry_records.proofs.Rewriting.{read-writes}
 use Rattle.rule.specs.declared.Answer.the-variants.{Done}
 use Rattle.rule.specs.Results.{Result, asked, answerIn, leftIn}
 use Rattle.rule.specs.Results.Result.{gives}
-use Rattle.rule.proofs.Results.{gives-done, asked-done}
+use Rattle.rule.proofs.Results.{asked-gave}
 use Rattle.entry_fields.specs.Numbers.{recordOf, isRecord, readResult, writeResult}
 
 -- ---- records and their numbers
@@ -80,18 +80,16 @@ holding n t g e = rw e
 pub written-back : (release : Release) (ns out : List ℕ) (n : ℕ) → answerIn (writeResult release ns) out ≡ Done n → readResult release (take n (leftIn (writeResult release ns) out)) ≡ gives ns
 unfolding writeResult readResult
 written-back release ns out n e =
-    let a = asked-done ((21, fieldsRule release (recordOf ns)) ∷ []) (textOf (recordOf ns)) out n e in
+    let a = asked-gave ((21, fieldsRule release (recordOf ns)) ∷ []) (textOf (recordOf ns)) out n e in
     let c : fieldsRule release (recordOf ns) ≡ true = clause 0 _ (a .0) in
     let h = rule-some release (recordOf ns) c in
-    let t : take n (leftIn (gives (textOf (recordOf ns))) out) ≡ textOf (recordOf ns) = gives-done _ out n (rw (a .1) at e) .taken in
-    rw (a .1, t, written-reads release (recordOf ns) c, fields-back ns h) (holding 21 (isRecord (recordOf ns)) (gives ns) (is-record (recordOf ns) h))
+    rw (a .1, written-reads release (recordOf ns) c, fields-back ns h) (holding 21 (isRecord (recordOf ns)) (gives ns) (is-record (recordOf ns) h))
 
 -- an entry that the reader takes: writing the fields that it read gives its bytes
 pub read-back : (release : Release) (xs room : List ℕ) (n : ℕ) → Bytes xs → answerIn (readResult release xs) room ≡ Done n → writeResult release (take n (leftIn (readResult release xs) room)) ≡ gives xs
 unfolding writeResult readResult
 read-back release xs room n b e =
-    let a = asked-done ((21, isRecord (readOf release xs)) ∷ []) (fieldsOf (readOf release xs)) room n e in
+    let a = asked-gave ((21, isRecord (readOf release xs)) ∷ []) (fieldsOf (readOf release xs)) room n e in
     let c : isRecord (readOf release xs) ≡ true = clause 0 _ (a .0) in
     let w = read-writes release xs b (readOf release xs) refl (not-broken (readOf release xs) c) in
-    let t : take n (leftIn (gives (fieldsOf (readOf release xs))) room) ≡ fieldsOf (readOf release xs) = gives-done _ room n (rw (a .1) at e) .taken in
-    rw (a .1, t, record-back (readOf release xs), w .text) (holding 21 (fieldsRule release (readOf release xs)) (gives xs) (w .rule))
+    rw (a .1, record-back (readOf release xs), w .text) (holding 21 (fieldsRule release (readOf release xs)) (gives xs) (w .rule))

@@ -18,7 +18,7 @@ use Rattle.frames.proofs.Good.{frames-good}
 use Rattle.rule.specs.declared.Answer.the-variants.{Done}
 use Rattle.rule.specs.Results.{Result, answerIn, leftIn}
 use Rattle.rule.specs.Results.Result.{refuses}
-use Rattle.rule.proofs.Results.{refused-not, gives-done, asked-done}
+use Rattle.rule.proofs.Results.{refused-not, asked-gave}
 use Rattle.from_amr.specs.File.{fileOf}
 use Rattle.from_amr.specs.Dump.{magic, opens, withoutMagic, madeOf, dumpOf, fromAmr}
 use Rattle.promises.specs.Runs.{Lent, AllGiven}
@@ -50,12 +50,11 @@ module _ (xs : List ℕ) (v : Bytes xs) (out : List ℕ) (n : ℕ) where
       of-frames : Left (madeOf k l)
       unfolding madeOf
       of-frames e =
-          let d = asked-done _ (fileOf k l) out n e in
-          let c = gives-done (fileOf k l) out n (sym (ap (λ r. answerIn r out) (d .1)) ∙ e) in
+          let d = asked-gave _ (fileOf k l) out n e in
           let few = le-is _ _ (clause 0 _ (d .0)) in
           let short = le-is _ _ (clause 1 _ (d .0)) in
           let m = made k l (frames-good k (withoutMagic k xs)) few short (subst Bytes (sym all-frames) whole) in
-          subst (FromDump xs) (sym (ap (λ r. take n (leftIn r out)) (d .1) ∙ c .taken))
+          subst (FromDump xs) (sym (d .1))
           (record { codec = k; opens = o; recording = m; joined = ap joined (m .samples) ∙ all-frames })
 
     of-codec : Left (dumpOf k xs)

@@ -10,12 +10,12 @@ use lib.Seq.{take-at}
 use Rattle.wire.specs.Clauses.{every, oneIf}
 use Rattle.wire.specs.Writing.{Wrote, Put}
 use Rattle.wire.proofs.Tests.{lt-yea, lt-nay, lt-ways}
-use Rattle.wire.proofs.Clauses.{is-le, not-le, was-yea, was-nay}
+use Rattle.wire.proofs.Clauses.{is-le, not-le, fails, holds, done, was-yea, was-nay}
 use Rattle.wire.proofs.Writing.{pen-front}
 use Rattle.boxes.specs.Containers.{LONGEST}
 use Rattle.rule.specs.declared.Answer.{Answer}
 use Rattle.rule.specs.declared.Answer.the-variants.{Done, Refused}
-use Rattle.rule.specs.Results.{Result, asked, inLimit, answerIn, leftIn, Exact}
+use Rattle.rule.specs.Results.{Result, asked, lengthFine, inLimit, answerIn, leftIn, Exact, toldIn, Reports}
 use Rattle.rule.specs.Results.Result.{gives, refuses}
 
 -- ---- what a call answers
@@ -62,6 +62,17 @@ pub test-all : (g : Result) (out : List ℕ) {r : Answer} {left : List ℕ} → 
 unfolding asked
 test-all g out x = x
 
+-- the first of them may be 1
+module _ (xs : List ℕ) where
+  pub too-short : length xs < 8 → lengthFine xs ≡ false
+  too-short h = sym (fails 0 _ (not-le _ _ h))
+
+  pub too-long : LONGEST < length xs → lengthFine xs ≡ false
+  too-long h = sym (fails 1 _ (not-le _ _ h))
+
+  pub length-fine : 8 ≤ length xs → length xs ≤ LONGEST → lengthFine xs ≡ true
+  length-fine g l = sym (holds _ _ (is-le _ _ g) (holds _ _ (is-le _ _ l) done))
+
 -- the last of them may be 24
 module _ (xs out : List ℕ) where
   pub over-limit : LONGEST < length xs → Exact (asked ((24, inLimit xs) ∷ []) (gives xs)) out (Refused 24 0) out
@@ -70,10 +81,24 @@ module _ (xs out : List ℕ) where
   pub in-limit : length xs ≤ LONGEST → {r : Answer} {left : List ℕ} → Exact (gives xs) out r left → Exact (asked ((24, inLimit xs) ∷ []) (gives xs)) out r left
   in-limit h x = test-so 24 _ [] _ out (is-le _ _ h) (test-all _ out x)
 
+-- ---- a call that reports
+
+module _ {g : Result} {numbers out : List ℕ} (room : List ℕ) where
+  pub reports-refused : {n p : ℕ} → Exact g out (Refused n p) out → Reports g numbers out (Refused n p) out room room
+  unfolding toldIn
+  reports-refused x = record { exact = x; report = rw (← x .answers) }
+
+  pub reports-done : {n m : ℕ} {left after : List ℕ} → Exact g out (Done n) left → Wrote numbers room m after → Reports g numbers out (Done n) left room after
+  unfolding toldIn
+  reports-done x w = record { exact = x; report = rw (← x .answers) (w .is ∙ ap (λ (i : ℕ). numbers ++ drop i room) (w .span)) }
+
 -- ---- two results that the promise allows are equal
 
 pub one-answer : (g : Result) (out : List ℕ) {r s : Answer} {a b : List ℕ} → Exact g out r a → Exact g out s b → (r ≡ s) × (a ≡ b)
 one-answer g out x y = (x .answers ∙ sym (y .answers), x .leaves ∙ sym (y .leaves))
+
+pub one-report : {g : Result} {numbers out room : List ℕ} {r s : Answer} {a b u v : List ℕ} → Reports g numbers out r a room u → Reports g numbers out s b room v → (r ≡ s) × (a ≡ b) × (u ≡ v)
+one-report {g} {out = out} x y = let e = one-answer g out (x .exact) (y .exact) in (e .0, e .1, x .report ∙ sym (y .report))
 
 -- ---- a call that is done
 
@@ -101,3 +126,10 @@ unfolding asked every answerIn
 asked-done [] xs out n e = (refl, refl)
 asked-done ((k, true) ∷ ts) xs out n e = asked-done ts xs out n e
 asked-done ((k, false) ∷ ts) xs out n e = absurd (refused-not k 0 n e)
+
+-- so that what it was to give stands at the front of the room
+pub asked-gave : (ts : List (ℕ × Bool)) (xs out : List ℕ) (n : ℕ) → answerIn (asked ts (gives xs)) out ≡ Done n
+    → (every (map (λ t. t .1) ts) ≡ true) × (take n (leftIn (asked ts (gives xs)) out) ≡ xs)
+asked-gave ts xs out n e =
+    let d = asked-done ts xs out n e in
+    (d .0, ap (λ (r : Result). take n (leftIn r out)) (d .1) ∙ gives-done xs out n (rw (d .1) at e) .taken)
