@@ -15,12 +15,12 @@ ghost use Rattle.rule.specs.Results.{Exact};
 ghost use Rattle.from_amr.specs.Dump.{magic as magicOf, madeOf, dumpOf, fromAmr};
 
 mod field;
-mod file;
+pub mod file;
 mod header;
 mod table;
 
 // "Over 65,536 frames".
-const MOST_FRAMES: usize = 65536;
+pub const MOST_FRAMES: usize = 65536;
 
 // The file of a part that is nothing but good frames, whose run is told.
 fn made(codec: Codec, part: &[u8], run: Run, out: &mut [u8]) -> Answer

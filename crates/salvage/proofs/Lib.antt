@@ -1,0 +1,5 @@
+pub mod Fronts
+pub mod Keeping
+pub mod Answers
+pub mod Saving
+pub mod Examples

@@ -1,0 +1,3 @@
+pub mod Unfinished
+pub mod Salvage
+pub mod Found
