@@ -16,3 +16,5 @@ pub mod Timed
 pub mod Filled
 pub mod Made
 pub mod Dump
+pub mod Salvage
+pub mod Cut
