@@ -2,7 +2,7 @@
 
    A part is a pointer and then its length in elements; an empty part may have any pointer. No function asks anything of the
    caller but that each part can be read, and an output written, as far as its length says, and that an output overlaps no
-   other part. What lies past a result stays as it was.
+   other part. What lies past a result or a report stays as it was.
 
    Every answer is number * 2^32 + value. Number 0: done, and the value is what the function says. Else the number is the refusal
    and the value its place in the file (of 41: in the dump; 0 for all others from 20 on), and nothing was written. Each function names its refusals in the order in
@@ -27,6 +27,8 @@
      40  this is no dump of AMR or wideband AMR with one channel
      41  the frame here has a padding bit set, is of an unknown type or is cut short
      42  there are more than 65,536 frames
+     60  this is not an ftyp and right after it one mdat with size 0 or past the end, and nothing else
+     61  no whole good frame stands at the start of the mdat
 
    A box may have a 64-bit size (size field 1, 16 bytes of header), and the last box of the file may have size 0, which reaches to the
    file's end; inside `stsd`, `dref` and entries only the 8-byte header is read. An edit keeps the form of every header, but
@@ -118,8 +120,16 @@ uint64_t threegp_move(const uint8_t *file, size_t length, uint8_t *out, size_t r
    one frame per sample; docs/FROM_AMR.md has all of its fields. Value: the length of the result, which is 526 without frames; with them 550,
    4 for each frame, and the bytes of the frames. A room of 1,048,576 bytes suffices.
    Refusals: 40 (another magic, that of several channels too), 41 (its place is that of the first bad frame's header in the dump, modulo 2^32),
-   42, 24, 25. Stack: 1344. */
+   42, 24, 25. Stack: 1232. */
 uint64_t threegp_from_amr(const uint8_t *dump, size_t length, uint8_t *out, size_t room);
+
+/* The file of what a recorder that died left: an `ftyp`, and right after it one `mdat` whose size is 0 or past the end, both with 8-byte headers,
+   and nothing else. Kept are the whole good frames from the start of the `mdat`'s payload up to the first bad one, at most 65,536; they are read as
+   AMR where wideband is 0, and as wideband AMR where it is any other number. The result is the file that a dump of them becomes.
+   report[0..4] are the old size field of the `mdat`, the frames kept, the bytes dropped, and the place of the first of these in the file (the file's
+   length where none is). Value: the length of the result. A room of 1,048,576 bytes and a report of 4 numbers suffice; docs/SALVAGE.md has more.
+   Refusals: 1, 60, 61, 24, 25 (report has fewer than 4 numbers, or out is shorter than the result). Stack: 1296. */
+uint64_t threegp_salvage(const uint8_t *file, size_t length, uint64_t wideband, uint8_t *out, size_t room, uint64_t *report, size_t numbers);
 
 /* Which of two files is newer, each with its clock's minutes ahead of universal time. out[0] says whether the first is earlier (0),
    the same (1) or later (2); out[1] is the file of the entry, 1 or 2: the later one, the first on same; out[2] and out[3] are the

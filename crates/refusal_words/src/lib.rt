@@ -71,6 +71,16 @@ fn put_words(out: &mut [u8], at: usize, n: usize) -> usize
             b"the frame here has a padding bit set, is of an unknown type or is cut short",
         ),
         42 => put_part(out, at, b"there are more than 65,536 frames"),
+        60 => put_part(
+            out,
+            at,
+            b"this is not an ftyp and right after it one mdat with size 0 or past the end, and nothing else",
+        ),
+        61 => put_part(
+            out,
+            at,
+            b"no whole good frame stands at the start of the mdat",
+        ),
         _ => put_part(out, at, b"no such refusal"),
     }
 }

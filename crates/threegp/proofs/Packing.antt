@@ -7,18 +7,22 @@ use lib.Seq.{sets-eq}
 use Rattle.clocks.specs.Clocks.{orderNumber}
 use Rattle.rule.specs.declared.Answer.{Answer}
 use Rattle.rule.specs.declared.Answer.the-variants as answer
-use Rattle.rule.specs.Results.{Result, Exact}
+use Rattle.rule.specs.Results.{Result, Exact, Reports}
 use Rattle.rule.proofs.Results.{exact-refuses, exact-wrote}
 use Rattle.newer.specs.declared.Part.{Part}
 use Rattle.newer.specs.declared.Outcome.{Outcome}
 use Rattle.newer.specs.declared.Outcome.the-variants.{Found, Refused}
-use Rattle.threegp.specs.Answers.{packed, ForC, newerResult, Told}
+use Rattle.threegp.specs.Answers.{packed, ForC, ReportsForC, newerResult, Told}
 
 pub packs : {r : ℕ} {a b : Answer} → r ≡ packed a → a ≡ b → r ≡ packed b
 packs e f = e ∙ ap packed f
 
 pub for-c : {g : Result} {out : List ℕ} {r : ℕ} {a : Answer} {left : List ℕ} → r ≡ packed a → Exact g out a left → ForC g out r left
 for-c e x = record { answers = packs e (x .answers); leaves = x .leaves }
+
+pub reports-for-c : {g : Result} {numbers out : List ℕ} {r : ℕ} {a : Answer} {left room after : List ℕ} → r ≡ packed a
+    → Reports g numbers out a left room after → ReportsForC g numbers out r left room after
+reports-for-c e x = record { call = for-c e (x .exact); report = x .report }
 
 -- ---- four numbers
 

@@ -4,7 +4,7 @@ use mathlib.Core.Path.{_≡_}
 use mathlib.Core.List.{List, [], _∷_}
 use Rattle.rule.specs.declared.Answer.{Answer}
 use Rattle.rule.specs.Answers.{answerNumber, answerValue}
-use Rattle.rule.specs.Results.{Result, answerIn, leftIn}
+use Rattle.rule.specs.Results.{Result, answerIn, leftIn, toldIn}
 use Rattle.rule.specs.Results.Result.{gives, refuses}
 use Rattle.clocks.specs.Clocks.{orderNumber}
 use Rattle.judge.specs.declared.Judgement.{Judgement}
@@ -26,6 +26,11 @@ judgeAnswer j = pair (judgement.judgedNumber j) (judgement.judgedPlace j)
 pub record ForC (g : Result) (out : List ℕ) (r : ℕ) (left : List ℕ) : Type 0 where
   pub answers : r ≡ packed (answerIn g out)
   pub leaves : left ≡ leftIn g out
+
+-- and one that reports too
+pub record ReportsForC (g : Result) (numbers : List ℕ) (out : List ℕ) (r : ℕ) (left : List ℕ) (room after : List ℕ) : Type 0 where
+  pub call : ForC g out r left
+  pub report : after ≡ toldIn (answerIn g out) numbers room
 
 -- ---- the newer of two, as four numbers
 

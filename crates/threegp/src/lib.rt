@@ -1,9 +1,12 @@
 // The library's face for C: every call, in the same definitions as the call behind it.
+use frames::codec;
 use judge::Judgement;
 use newer::Outcome;
 use newer::Part;
 use rule::Answer;
 ghost use mathlib.Core.Path.{_≡_};
+ghost use lib.ListN.{length};
+ghost use Rattle.frames.specs.Codecs.{codecNamed};
 ghost use Rattle.rule.specs.Results.{Exact};
 ghost use Rattle.release.specs.Releases.{releaseNamed};
 ghost use Rattle.judge.specs.Judgement.{judged};
@@ -19,7 +22,8 @@ ghost use Rattle.edit_shift.specs.Shift.{shiftResult};
 ghost use Rattle.edit_replace.specs.Replace.{replaceResult};
 ghost use Rattle.edit_move.specs.Moving.{moveResult};
 ghost use Rattle.from_amr.specs.Dump.{fromAmr};
-ghost use Rattle.threegp.specs.Answers.{pair as pairOf, packed, judgeAnswer, ForC, newerResult, Told};
+ghost use Rattle.salvage.specs.Salvage.{reportOf, salvageResult};
+ghost use Rattle.threegp.specs.Answers.{pair as pairOf, packed, judgeAnswer, ForC, ReportsForC, newerResult, Told};
 
 fn pair(n: usize, v: usize) -> u64
     ensures { λ r. ⌜ r ≡ pairOf n v ⌝ }
@@ -126,6 +130,20 @@ pub extern "C" fn threegp_from_amr(dump: &[u8], out: &mut [u8]) -> u64
     ensures { λ r. ⌜ ForC (fromAmr (now (dump .entry))) (now (out .entry)) r (now (out .exit)) ⌝ }
 {
     pack(from_amr::from_amr(dump, out))
+}
+
+// What is saved of a recording whose recorder died.
+#[no_mangle]
+pub extern "C" fn threegp_salvage(
+    file: &[u8],
+    wideband: u64,
+    out: &mut [u8],
+    report: &mut [u64],
+) -> u64
+    ensures { λ r. ⌜ ReportsForC (salvageResult (codecNamed wideband) (now (file .entry)) (length (now (report .entry))))
+        (reportOf (codecNamed wideband) (now (file .entry))) (now (out .entry)) r (now (out .exit)) (now (report .entry)) (now (report .exit)) ⌝ }
+{
+    pack(salvage::salvage(file, codec::of_number(wideband), out, report))
 }
 
 // The fields of a record of a release as numbers.
