@@ -3,11 +3,13 @@ use crate::compare;
 use crate::edit::Edit;
 use crate::job;
 use crate::job::Job;
+use frames::codec::Codec;
 use tidy_numbers::minutes;
 use tidy_numbers::parse;
 use tidy_words::help;
 use tidy_words::tell;
 use tidy_words::word;
+use wire::compare::same;
 
 // A job on the file that argument i names; argument j names what it makes.
 fn with_files(job: Job, i: usize, j: usize) -> usize {
@@ -46,6 +48,19 @@ fn record(count: usize) -> usize {
     }
     let end = count - 2;
     with_files(Job::Change { entry, end }, end, count - 1)
+}
+
+// The file doesn't say which codec its frames are of.
+fn salvage(word: &[u8]) -> usize {
+    let mut name = io::buffer();
+    let n = os::arg(2, &mut name);
+    if same(&name[..n], b"amr") == 1 {
+        return with_files(Job::Salvage(Codec::Amr), 3, 4);
+    }
+    if same(&name[..n], b"wideband") == 1 {
+        return with_files(Job::Salvage(Codec::Wideband), 3, 4);
+    }
+    help::wrong(word)
 }
 
 fn newer() -> usize {
@@ -97,6 +112,9 @@ fn by_word(word: &[u8], count: usize) -> usize {
     }
     if number == word::TABLE && count == 5 {
         return table();
+    }
+    if number == word::SALVAGE && count == 5 {
+        return salvage(word);
     }
     if number == word::NEWER && count == 6 {
         return newer();

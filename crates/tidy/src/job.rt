@@ -3,6 +3,8 @@ use crate::edit;
 use crate::edit::Edit;
 use crate::list;
 use crate::record;
+use crate::rescue;
+use frames::codec::Codec;
 use tidy_files::input;
 use tidy_words::tell;
 use wire::lend;
@@ -13,6 +15,7 @@ pub enum Job {
     Make(Edit),
     Table(usize),
     Dump,
+    Salvage(Codec),
     Record(usize),
     Change { entry: usize, end: usize },
 }
@@ -39,6 +42,7 @@ fn apply(job: Job, from: &[u8], file: &[u8], to: &[u8]) -> usize {
         Job::Make(edit) => edit::run(edit, file, to),
         Job::Table(track) => table(track, from, file, to),
         Job::Dump => dump(from, file, to),
+        Job::Salvage(codec) => rescue::run(codec, file, to),
         Job::Record(i) => record::show(file, i),
         Job::Change { entry, end } => record::change(file, entry, end, to),
     }

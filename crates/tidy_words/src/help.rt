@@ -33,6 +33,7 @@ fn put_others(to: i32) -> usize {
         tidy sheet FILE OUT                        the sheet of all sample entries\n\
         tidy table T SHEET OUT                     the stsd of track T of a sheet\n\
         tidy amr DUMP OUT                          the file that a dump of AMR or wideband AMR becomes\n\
+        tidy salvage amr|wideband FILE OUT         the file of the frames that a dead recorder left\n\
         tidy help [WORD]                           this, or more on a word\n\n\
         FILE, SHEET, DUMP and OUT may be - for standard input and output. OUT must not exist.\n",
     )
@@ -80,8 +81,8 @@ fn put_first(to: i32, number: usize) -> usize {
     }
 }
 
-// More on a word.
-fn put_word(to: i32, number: usize) -> usize {
+// More on the next three, or on one before them.
+fn put_next(to: i32, number: usize) -> usize {
     match number {
         word::NEWER => print(
             to,
@@ -101,6 +102,13 @@ fn put_word(to: i32, number: usize) -> usize {
             tidy table T SHEET OUT\n\
             Writes the stsd box of track T, counted from 1, of a sheet.\n",
         ),
+        _ => put_first(to, number),
+    }
+}
+
+// More on a word.
+fn put_word(to: i32, number: usize) -> usize {
+    match number {
         word::AMR => print(
             to,
             b"\
@@ -108,8 +116,16 @@ fn put_word(to: i32, number: usize) -> usize {
             Makes a 3GP file of a dump with one channel, which opens with #!AMR or #!AMR-WB and a newline: one track, one frame per sample.\n\
             At most 65536 frames, none of them bad. The file's times are 0.\n",
         ),
+        word::SALVAGE => print(
+            to,
+            b"\
+            tidy salvage amr|wideband FILE OUT\n\
+            For a recording whose recorder died: FILE is an ftyp, right after it an mdat whose end was never written (size 0 or past the end), and nothing else.\n\
+            Makes a 3GP file of its whole good frames, AMR or wideband AMR as you say, up to the first bad one and at most 65536. FILE stays as it is.\n\
+            Says how many frames were kept, how many bytes were dropped and from which place in FILE on, and what the size of the mdat was.\n",
+        ),
         word::HELP => print(to, b"tidy help [WORD]\n"),
-        _ => put_first(to, number),
+        _ => put_next(to, number),
     }
 }
 

@@ -17,7 +17,9 @@ pub const TABLE: usize = 6;
 
 pub const AMR: usize = 7;
 
-pub const HELP: usize = 8;
+pub const SALVAGE: usize = 8;
+
+pub const HELP: usize = 9;
 
 // The number of a word; that of none where there is no such word.
 pub fn number(text: &[u8]) -> usize {
@@ -31,6 +33,7 @@ pub fn number(text: &[u8]) -> usize {
         sheet     \
         table     \
         amr       \
+        salvage   \
         help      ",
         text,
     )
