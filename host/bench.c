@@ -1,7 +1,7 @@
 /* How long the library's functions take, and how much stack: tables in Markdown over the files of shapes.h, each at three lengths.
 
      bench          the time of each call, its ratio to one memcpy of the file, its growth from the next smaller length; the stack
-     bench dumps    the same of files made of dumps
+     bench dumps    the same of files made of dumps, and of what a recorder leaves that died
      bench chopped  judgements of files with many `mdat`s, their chunks in every order
      bench worst    one judgement of the slowest file that we know
 
@@ -128,7 +128,7 @@ enum { WORDS = 1 << 20 };
 static const uint64_t UNTOUCHED = 0xA55AC33C0FF0965A;
 static uint64_t stack[WORDS];
 static uint64_t (*made_there)(void);
-static size_t most[CALLS], dump_stack;
+static size_t most[CALLS];
 
 static void make_there(void)
 {
@@ -213,42 +213,58 @@ static void measure_shape(const struct shape *shape)
     fflush(stdout);
 }
 
-static void print_stack(void)
-{
-    printf("\n**Stack**: the most bytes over all these files\n\n| call | bytes |\n|---|--:|\n");
-    for (size_t k = 1; k < CALLS; k++)
-        printf("| %s | %zu |\n", calls[k].name, most[k]);
-    printf("| from_amr | %zu |\n", dump_stack);
-}
-
-/* ---- Dumps */
-
-/* Frames of one type: what a dump opens with, their header and how long they are. */
-static const struct dump {
-    const char *name, *magic;
-    uint8_t header;
-    size_t frame;
-} dumps[] = {
-    {"AMR, type 0", "#!AMR\n", 0x04, 13},
-    {"AMR, type 7", "#!AMR\n", 0x3C, 32},
-    {"wideband, type 8", "#!AMR-WB\n", 0x44, 61},
-};
-enum { DUMPS = sizeof dumps / sizeof *dumps };
+/* ---- Dumps, and what a recorder leaves that died */
 
 /* The bytes of a file besides its frames, and those of its table for each frame. */
 enum { AROUND = 550, LISTED = 4 };
 
 static size_t made;
+static uint64_t wideband;
+
+static void put_magic(void) { put_text(wideband ? "#!AMR-WB\n" : "#!AMR\n"); }
+
+/* An `ftyp`, and the header of an `mdat` that nobody closed. */
+static void put_unended(void)
+{
+    close_box(open_box("ftyp"));
+    open_box("mdat");
+}
 
 static uint64_t call_from_amr(void) { return threegp_from_amr(file, length, out, LONGEST); }
+static uint64_t call_salvage(void) { return threegp_salvage(file, length, wideband, out, LONGEST, numbers, 16); }
 static uint64_t call_copy(void) { return memcpy(sheet, out, made) == NULL; }
+
+/* Those that make a file of frames: what they take before these, and the most stack that they took. */
+static struct maker {
+    const char *name;
+    void (*open)(void);
+    uint64_t (*make)(void);
+    size_t most;
+} from_amr = {"from_amr", put_magic, call_from_amr, 0}, salvage = {"salvage", put_unended, call_salvage, 0};
+
+/* Frames of one type: their codec, their header and how long they are. */
+static const struct dump {
+    const char *name;
+    struct maker *maker;
+    uint64_t wideband;
+    uint8_t header;
+    size_t frame;
+} dumps[] = {
+    {"AMR, type 0", &from_amr, 0, 0x04, 13},
+    {"AMR, type 7", &from_amr, 0, 0x3C, 32},
+    {"wideband, type 8", &from_amr, 1, 0x44, 61},
+    {"salvaged AMR, type 0", &salvage, 0, 0x04, 13},
+    {"salvaged wideband, type 8", &salvage, 1, 0x44, 61},
+};
+enum { DUMPS = sizeof dumps / sizeof *dumps };
 
 /* Builds the dump of the longest file that fits, and answers how many frames it has. */
 static size_t build_dump(const struct dump *dump, size_t limit)
 {
     size_t count = (limit - AROUND) / (LISTED + dump->frame);
+    wideband = dump->wideband;
     length = 0;
-    put_text(dump->magic);
+    dump->maker->open();
     for (size_t k = 0; k < count; k++) {
         put(dump->header, 1);
         put_zeros(dump->frame - 1);
@@ -259,7 +275,7 @@ static size_t build_dump(const struct dump *dump, size_t limit)
 /* The file that the dump becomes has to be accepted. */
 static void check_dump(const struct dump *dump)
 {
-    uint64_t answer = call_from_amr();
+    uint64_t answer = dump->maker->make();
     check(dump->name, answer);
     made = threegp_value(answer);
     check(dump->name, threegp_judge(out, made));
@@ -270,10 +286,10 @@ static void measure_dump(const struct dump *dump, struct time *times, struct tim
     for (size_t k = 0; k < LENGTHS; k++) {
         counts[k] = build_dump(dump, lengths[k]);
         check_dump(dump);
-        times[k] = time_call(call_from_amr);
+        times[k] = time_call(dump->maker->make);
         copies[k] = time_call(call_copy);
-        size_t taken = touched(call_from_amr) - touched(call_nothing);
-        dump_stack = taken > dump_stack ? taken : dump_stack;
+        size_t taken = touched(dump->maker->make) - touched(call_nothing);
+        dump->maker->most = taken > dump->maker->most ? taken : dump->maker->most;
     }
 }
 
@@ -291,6 +307,14 @@ static void measure_dumps(void)
     for (size_t k = 0; k < DUMPS; k++)
         print_row(dumps[k].name, times[k], copies[k]);
     fflush(stdout);
+}
+
+static void print_stack(void)
+{
+    printf("\n**Stack**: the most bytes over all these files\n\n| call | bytes |\n|---|--:|\n");
+    for (size_t k = 1; k < CALLS; k++)
+        printf("| %s | %zu |\n", calls[k].name, most[k]);
+    printf("| %s | %zu |\n| %s | %zu |\n", from_amr.name, from_amr.most, salvage.name, salvage.most);
 }
 
 static void measure_chopped(void)
@@ -341,7 +365,7 @@ int main(int count, char **words)
     }
     if (count == 2 && strcmp(words[1], "dumps") == 0) {
         measure_dumps();
-        printf("\nStack: %zu\n", dump_stack);
+        printf("\nStack: %s %zu, %s %zu\n", from_amr.name, from_amr.most, salvage.name, salvage.most);
         return 0;
     }
     if (count != 1) {

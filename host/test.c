@@ -1,5 +1,5 @@
 /* Plays the stored calls (crates/test_calls/data/groups) through include/threegp.h, and writes what crates/test_calls/stdout
-   holds: of each call its name, its answer, and what it left in its room.
+   holds: of each call its name, its answer, and what it left in its rooms.
 
      test GROUPS end      every part ends right before pages that nobody may touch; an empty one points at them
      test GROUPS start    every part begins right behind such pages; an empty one has a null pointer
@@ -18,7 +18,10 @@
 #include "threegp.h"
 
 /* The kinds of calls, by their numbers in the data. PART is threegp_newer too: the bytes of the entry that it finds. */
-enum kind { JUDGE = 1, TRACKS, BRAND, TRACK, RECORD_READ, NEWER, OFFSETS, PART, SHEET, TABLE, RECORD_WRITE, LISTING, SHIFT, REPLACE, MOVE, FROM_AMR };
+enum kind {
+    JUDGE = 1, TRACKS, BRAND, TRACK, RECORD_READ, NEWER, OFFSETS, PART,
+    SHEET, TABLE, RECORD_WRITE, LISTING, SHIFT, REPLACE, MOVE, FROM_AMR, SALVAGE
+};
 
 struct bytes {
     const uint8_t *at;
@@ -57,11 +60,11 @@ enum { PAGE = 65536, SPACE = 17 * PAGE, GUARD = 4096, GUARD_BYTE = 0x5C, FILL = 
 struct plot {
     uint8_t *start;
     uint8_t *end;
+    uint8_t *beside; /* the guard of the room that was lent last */
 };
 
-static struct plot first_input, second_input, output;
-static bool at_end;     /* parts lie at the end of their plots, else at the start */
-static uint8_t *beside; /* the guard of the room that was lent last */
+static struct plot first_input, second_input, output, second_output;
+static bool at_end; /* parts lie at the end of their plots, else at the start */
 
 static void protect(struct plot plot, int how)
 {
@@ -74,7 +77,7 @@ static struct plot fenced(void)
     uint8_t *all = mmap(NULL, PAGE + SPACE + PAGE, PROT_NONE, MAP_PRIVATE | MAP_ANONYMOUS, -1, 0);
     if (all == MAP_FAILED)
         fail("no memory");
-    struct plot plot = {all + PAGE, all + PAGE + SPACE};
+    struct plot plot = {all + PAGE, all + PAGE + SPACE, NULL};
     protect(plot, PROT_READ | PROT_WRITE);
     return plot;
 }
@@ -100,20 +103,20 @@ static const void *lay(struct plot plot, struct bytes bytes)
 }
 
 /* Lends a room of so many bytes, filled, beside its guard. */
-static void *lend(size_t length)
+static void *lend(struct plot *plot, size_t length)
 {
-    void *room = place(output, length);
-    beside = at_end ? output.end - length - GUARD : output.start + length;
-    memset(beside, GUARD_BYTE, GUARD);
+    void *room = place(*plot, length);
+    plot->beside = at_end ? plot->end - length - GUARD : plot->start + length;
+    memset(plot->beside, GUARD_BYTE, GUARD);
     if (length != 0)
         memset(room, FILL, length);
     return room;
 }
 
-static void check_guard(void)
+static void check_guard(struct plot plot)
 {
     for (size_t k = 0; k < GUARD; k++)
-        if (beside[k] != GUARD_BYTE)
+        if (plot.beside[k] != GUARD_BYTE)
             fail(at_end ? "wrote before its room" : "wrote behind its room");
 }
 
@@ -138,6 +141,12 @@ static void put_sum(const uint8_t *bytes, size_t length)
     for (size_t k = 0; k < length; k++)
         sum = mix(sum, bytes[k]);
     printf(" sum %u", sum);
+}
+
+static void put_numbers(const uint64_t *numbers, size_t count)
+{
+    for (size_t k = 0; k < count; k++)
+        printf(" %llu", (unsigned long long)numbers[k]);
 }
 
 /* The sum of 200 numbers: those of the list, and fill behind it. */
@@ -189,7 +198,6 @@ static int64_t minutes(uint64_t k)
 static uint64_t play_plain(struct bytes file, const struct call *call)
 {
     const uint8_t *at = lay(first_input, file);
-    lend(0);
     uint64_t answer = call->kind == JUDGE    ? threegp_judge(at, file.length)
                       : call->kind == TRACKS ? threegp_tracks(at, file.length)
                                              : threegp_brand(at, file.length, (uint32_t)call->numbers[0]);
@@ -209,7 +217,7 @@ static uint64_t newer(struct bytes second, const struct call *call, uint64_t *ou
 
 static uint64_t play_part(struct bytes file, const struct call *call)
 {
-    uint64_t *out = lend(4 * sizeof *out);
+    uint64_t *out = lend(&output, 4 * sizeof *out);
     uint64_t answer = newer(file, call, out, 4);
     if (threegp_number(answer) != 0) {
         put_answer(answer);
@@ -226,7 +234,7 @@ static uint64_t play_part(struct bytes file, const struct call *call)
 
 static uint64_t play_numbers(struct bytes file, const struct call *call)
 {
-    uint64_t answer, *out = lend(call->room * sizeof *out);
+    uint64_t answer, *out = lend(&output, call->room * sizeof *out);
     if (call->kind == NEWER)
         answer = newer(file, call, out, call->room);
     else if (call->kind == TRACK)
@@ -234,14 +242,13 @@ static uint64_t play_numbers(struct bytes file, const struct call *call)
     else
         answer = threegp_record_read(lay(first_input, file), file.length, call->numbers[0], out, call->room);
     put_answer(answer);
-    for (size_t k = 0; k < call->room; k++)
-        printf(" %llu", (unsigned long long)out[k]);
+    put_numbers(out, call->room);
     return answer;
 }
 
 static uint64_t play_offsets(struct bytes file, const struct call *call)
 {
-    uint32_t *list = lend(call->room * sizeof *list);
+    uint32_t *list = lend(&output, call->room * sizeof *list);
     uint64_t answer = threegp_offsets(lay(first_input, file), file.length, call->numbers[0], list, call->room);
     put_answer(answer);
     put_list_sum(list, call->room);
@@ -276,7 +283,7 @@ static uint64_t ask_bytes(struct bytes file, const struct call *call, uint8_t *o
 
 static uint64_t play_bytes(struct bytes file, const struct call *call)
 {
-    uint8_t *out = lend(call->room);
+    uint8_t *out = lend(&output, call->room);
     uint64_t answer = ask_bytes(file, call, out);
     put_answer(answer);
     put_sum(out, call->room);
@@ -287,6 +294,19 @@ static uint64_t play_bytes(struct bytes file, const struct call *call)
     return answer;
 }
 
+/* The codec is the call's first number, and how long the report's room is its second. */
+static uint64_t play_salvage(struct bytes file, const struct call *call)
+{
+    uint8_t *out = lend(&output, call->room);
+    size_t count = call->numbers[1];
+    uint64_t *report = lend(&second_output, count * sizeof *report);
+    uint64_t answer = threegp_salvage(lay(first_input, file), file.length, call->numbers[0], out, call->room, report, count);
+    put_answer(answer);
+    put_sum(out, call->room);
+    put_numbers(report, count);
+    return answer;
+}
+
 static uint64_t play_kind(struct bytes file, const struct call *call)
 {
     switch (call->kind) {
@@ -294,6 +314,7 @@ static uint64_t play_kind(struct bytes file, const struct call *call)
     case TRACK: case RECORD_READ: case NEWER: return play_numbers(file, call);
     case OFFSETS: return play_offsets(file, call);
     case PART: return play_part(file, call);
+    case SALVAGE: return play_salvage(file, call);
     default: return play_bytes(file, call);
     }
 }
@@ -323,13 +344,14 @@ static const struct {
     [REPLACE] = {"replace", "0" RULES " 20 21 23 24 25"},
     [MOVE] = {"move", "0" RULES " 23 25"},
     [FROM_AMR] = {"from_amr", "0 40 41 42 24 25"},
+    [SALVAGE] = {"salvage", "0 1 60 61 24 25"},
 };
 
-static bool given[FROM_AMR + 1][523];
+static bool given[SALVAGE + 1][523];
 
 static void check_given(void)
 {
-    for (size_t kind = JUDGE; kind <= FROM_AMR; kind++) {
+    for (size_t kind = JUDGE; kind <= SALVAGE; kind++) {
         const char *next = functions[kind].numbers;
         while (*next != 0) {
             unsigned long number = strtoul(next, (char **)&next, 10);
@@ -347,8 +369,11 @@ static void play(struct bytes file, const struct call *call)
 {
     current = call->name;
     fwrite(current.at, 1, current.length, stdout);
+    lend(&output, 0);
+    lend(&second_output, 0);
     uint64_t answer = play_kind(file, call);
-    check_guard();
+    check_guard(output);
+    check_guard(second_output);
     putchar('\n');
     if (threegp_number(answer) >= sizeof *given)
         fail("a number that no function gives");
@@ -406,6 +431,7 @@ int main(int count, char **words)
     first_input = fenced();
     second_input = fenced();
     output = fenced();
+    second_output = fenced();
     struct bytes left = read_whole(words[1]);
     unsigned made = 0;
     for (uint64_t groups = take_number(&left, 4); groups != 0; groups--)

@@ -2,6 +2,8 @@
 
 A call answers its result (bytes, a list of numbers or a number), or raises its refusal. The room that a caller lends is
 looked at last, by `fit`."""
+from itertools import islice
+
 import files
 from files import Box, h, num, tiles, w
 
@@ -383,16 +385,23 @@ def codec_of(dump):
     return found[0]
 
 
+def good_frames(data, at, codec):
+    """The frames from a place on, up to the first that is bad."""
+    while at < len(data):
+        kind = type_of(data[at])
+        end = at + 1 + codec.data.get(kind, 0)
+        if data[at] & PADDING or kind not in codec.data or len(data) < end:
+            return
+        yield data[at:end]
+        at = end
+
+
 def frames_of(dump, codec):
     """The frames behind the magic; the first that is bad is refused at its header."""
-    frames, at = [], len(codec.magic)
-    while at < len(dump):
-        kind = type_of(dump[at])
-        end = at + 1 + codec.data.get(kind, 0)
-        if dump[at] & PADDING or kind not in codec.data or len(dump) < end:
-            raise Refusal(41, at)
-        frames.append(dump[at:end])
-        at = end
+    frames = list(good_frames(dump, len(codec.magic), codec))
+    end = len(codec.magic) + sum(map(len, frames))
+    if end < len(dump):
+        raise Refusal(41, end)
     return frames
 
 
@@ -421,15 +430,49 @@ def speech_file(codec, frames):
     return files.build([Box("ftyp", b"3gp6", w(0), b"3gp6", b"isom"), moov, Box("mdat", b"".join(frames))])
 
 
+def short_enough(file):
+    ask(len(file) <= files.LONGEST, 24)
+    return file
+
+
 def from_amr(dump):
     codec = codec_of(dump)
     frames = frames_of(dump, codec)
     ask(len(frames) <= MOST_FRAMES, 42)
-    file = speech_file(codec, frames)
-    ask(len(file) <= files.LONGEST, 24)
-    return file
+    return short_enough(speech_file(codec, frames))
+
+
+# ---- What a recorder that died leaves
+
+
+def codec_told(wideband):
+    return WIDEBAND if wideband else AMR
+
+
+def unended(file):
+    """The size field of the `mdat` that nobody ended, and where its payload starts; both boxes have headers of 8 bytes."""
+    ask(8 <= len(file) <= files.LONGEST, 1)
+    at = num(file, 0)
+    ask(file[4:8] == b"ftyp" and 8 <= at <= len(file) - 8 and file[at + 4 : at + 8] == b"mdat", 60)
+    field = num(file, at)
+    ask(field == 0 or at + field > len(file), 60)
+    return field, at + 8
+
+
+def salvage(file, codec):
+    """The file of the frames that are kept; the old size field, how many these are, the bytes that are dropped and where they start."""
+    field, start = unended(file)
+    frames = list(islice(good_frames(file, start, codec), MOST_FRAMES))
+    ask(frames, 61)
+    end = start + sum(map(len, frames))
+    return short_enough(speech_file(codec, frames)), [field, len(frames), len(file) - end, end]
 
 
 def fit(result, room):
     ask(len(result) <= room, 25)
     return result
+
+
+def fit_both(result, room, numbers):
+    """A file and its report, each into a room of its own."""
+    return fit(result[0], room), fit(result[1], numbers)

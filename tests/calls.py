@@ -3,12 +3,14 @@
 
 The answers are those of tests/answers.py, which knows the documents and not the library's code."""
 import pathlib
+from itertools import groupby
 
 import answers
 import cases
 import dumps
 import files
 import forms
+import salvages
 from files import Box, audio, bitr, d263, damr, esds, h, num, patch, visual, w
 
 ROOT = pathlib.Path(__file__).resolve().parent.parent
@@ -20,13 +22,14 @@ LONG_ROOM = 1050000
 FILL = 0xAA
 PLAIN = ["judge", "tracks", "brand"]
 NUMBERS = ["track", "record read", "newer"]
-BYTES = ["sheet", "table", "record write", "listing", "shift", "replace", "move", "from amr"]
+BYTES = ["sheet", "table", "record write", "listing", "shift", "replace", "move", "from amr", "salvage"]
 # by the numbers that the program has for them, from 1
 KINDS = [*PLAIN, *NUMBERS, "offsets", "part", *BYTES]
 # by the numbers that the program has for them, from 0
 MINUTES = [0, 1, -1, 60, -60, 61, -61, 839, -839, 840, -840, 841, -841, 71582788, -71582788, 2**63 - 1, -(2**63)]
 MINUTES += [2, -2, 2**32, -(2**32)]
 HUGE = [2**32, 2**32 + 1, 2**63, 2**64 - 1]
+NUMBER_FILL = 0xAAAAAAAAAAAAAAAA
 
 
 # ---- What the program writes of a call
@@ -39,23 +42,45 @@ def checksum(numbers):
     return total
 
 
+def value(result):
+    """What is said of a result that was given: a number itself, else its length; of a file and its report the file's."""
+    if isinstance(result, int):
+        return result
+    return len(result[0] if isinstance(result, tuple) else result)
+
+
 def told(call):
     """What a call answers, and its result, None where it is refused."""
     try:
         result = call()
     except answers.Refusal as refusal:
         return ": %d at %d" % (refusal.number, refusal.place), None
-    return ": done %d" % (result if isinstance(result, int) else len(result)), result
+    return ": done %d" % value(result), result
+
+
+def room_of_bytes(written, room):
+    return " sum %d" % checksum(written.ljust(room, bytes([FILL])))
+
+
+def room_of_numbers(written, room):
+    return "".join(" %d" % n for n in written + [NUMBER_FILL] * (room - len(written)))
 
 
 def line_bytes(call, room):
     text, result = told(lambda: answers.fit(call(), room))
-    return text + " sum %d" % checksum((result or b"").ljust(room, bytes([FILL])))
+    return text + room_of_bytes(result or b"", room)
 
 
 def line_numbers(call, room):
     text, result = told(lambda: answers.fit(call(), room))
-    return text + "".join(" %d" % n for n in (result or []) + [0xAAAAAAAAAAAAAAAA] * (room - len(result or [])))
+    return text + room_of_numbers(result or [], room)
+
+
+def line_both(call, room, numbers):
+    """Of a call with two rooms: one for a file, one for its report."""
+    text, result = told(lambda: answers.fit_both(call(), room, numbers))
+    file, report = result or (b"", [])
+    return text + room_of_bytes(file, room) + room_of_numbers(report, numbers)
 
 
 def line_list(call, room):
@@ -122,6 +147,12 @@ def move(label, file, room):
 def from_amr(label, dump, room):
     line = line_bytes(lambda: answers.from_amr(dump), room)
     return "from amr", "from amr %s room %d" % (label, room), room, (), b"", line
+
+
+def salvage(label, file, wideband, room, numbers=4):
+    line = line_both(lambda: answers.salvage(file, answers.codec_told(wideband)), room, numbers)
+    name = "salvage %s told %d room %d report %d" % (label, wideband, room, numbers)
+    return "salvage", name, room, (wideband, numbers), b"", line
 
 
 def listing(label, file, room):
@@ -1066,20 +1097,23 @@ RESULTS = ("none-amr", "none-wideband", "amr-type-0-quality-1", "wideband-type-1
 RESULTS += ("a09_5.15k", "a10_8.85k")
 
 
-def speech_groups():
-    """Files that dumps become: judged, read, listed and edited, alone and in turn."""
+def speech_groups(label, file):
+    """A file that was made of frames: judged, read, listed and edited, alone and in turn."""
+    calls = [judge(label, file), *reads_of(label, file), *edits_of(label, file), *replacements_of(label, file)]
+    yield file, calls + [from_amr(label, file, 2000), salvage(label, file, 0, 2000)]
+    for what in ("shift", "damr", "move"):
+        call, result = edit(what, label, file)
+        yield file, [call]
+        label, file = label + "-then-" + what, result
+    yield file, [judge(label, file), listing(label, file, 400)]
+    yield file + dated(0), both(label + "-and-dated-0", file, 0, dated(0), 0, 1)
+
+
+def dumped_groups():
+    """Files that dumps become."""
     for name, given, _ in dumps.cases():
-        if name[2:] not in RESULTS:
-            continue
-        label, file = "speech-" + name[2:], answers.from_amr(given)
-        calls = [judge(label, file), *reads_of(label, file), *edits_of(label, file), *replacements_of(label, file)]
-        yield file, calls + [from_amr(label, file, 2000)]
-        for what in ("shift", "damr", "move"):
-            call, result = edit(what, label, file)
-            yield file, [call]
-            label, file = label + "-then-" + what, result
-        yield file, [judge(label, file), listing(label, file, 400)]
-        yield file + dated(0), both(label + "-and-dated-0", file, 0, dated(0), 0, 1)
+        if name[2:] in RESULTS:
+            yield from speech_groups("speech-" + name[2:], answers.from_amr(given))
 
 
 def long_dump_groups():
@@ -1088,6 +1122,73 @@ def long_dump_groups():
         given = start.ljust(length, b"\0")
         n = len(answers.from_amr(given)) if name.startswith("0-") else files.LONGEST
         yield start, length, [from_amr(name, given, room) for room in (n, n - 1, 0)]
+
+
+# ---- What a recorder leaves that died
+
+
+def saved(file, wideband):
+    return answers.salvage(file, answers.codec_told(wideband))[0]
+
+
+def salvage_fitting(name, file, wideband):
+    """With as much room as it needs, or with some where it is refused."""
+    return salvage(name, file, wideband, len(saved(file, wideband)) if name.startswith("0-") else 2000)
+
+
+def salvage_groups():
+    """Each file once, with all that is told of it."""
+    for file, same in groupby(salvages.cases(), lambda case: case[2]):
+        yield file, [salvage_fitting(name, file, wideband) for name, wideband, _, _ in same]
+
+
+# these are lent rooms of every length; what comes of those that are done goes to the other calls
+ROOMED = ("0-amr-size-0", "0-wideband-padding-80-frame-2", "0-left-of-a09_5.15k.amr-first-77-size-0")
+REFUSED = ("1-empty", "60-amr-size-9", "61-amr-magic")
+
+
+def salvage_rooms(name, wideband, file):
+    """Either room exact, too short, longer and empty, and both of them too short."""
+    n = len(saved(file, wideband))
+    for room in rooms(n):
+        for numbers in (4, 3, 5, 0):
+            yield salvage(name, file, wideband, room, numbers)
+    yield salvage(name, file, wideband, n, 1)
+    yield salvage(name, file, wideband, ROOM, 16)
+
+
+def salvage_room_groups():
+    """Rooms of every length; those of a refused file don't count."""
+    for name, wideband, file, _ in salvages.cases():
+        if name in ROOMED:
+            yield file, salvage_rooms(name, wideband, file)
+        if name in REFUSED:
+            yield file, [salvage(name, file, wideband, *lent) for lent in ((0, 4), (2000, 3), (0, 0))]
+
+
+def told_groups():
+    """What is told as a number: 0 is AMR, any other is wideband."""
+    for label, payload in (("zeros", bytes(234)), ("amr", salvages.GOOD), ("wideband", salvages.several(answers.WIDEBAND))):
+        file = salvages.left(payload)
+        yield file, [salvage("told-" + label, file, n, 1000) for n in (0, 1, 2, 255, 256, 65536, 2**31, *HUGE)]
+
+
+def saved_groups():
+    """Files that were saved."""
+    for name, wideband, file, _ in salvages.cases():
+        if name in ROOMED:
+            yield from speech_groups("saved-" + name[2:], saved(file, wideband))
+
+
+def long_salvage_groups():
+    """(start, whole length, calls) of files of many frames."""
+    for name, wideband, start, length, _ in salvages.long_salvages():
+        file = start.ljust(length, b"\0")
+        if name.startswith("0-"):
+            n = len(saved(file, wideband))
+            yield start, length, [salvage(name, file, wideband, *lent) for lent in ((n, 4), (n - 1, 4), (n, 3))]
+        else:
+            yield start, length, [salvage(name, file, wideband, *lent) for lent in ((ROOM, 4), (0, 0))]
 
 
 def short_groups():
@@ -1109,7 +1210,11 @@ def short_groups():
     yield from form_groups()
     yield from form_table_groups()
     yield from dump_groups()
-    yield from speech_groups()
+    yield from dumped_groups()
+    yield from salvage_groups()
+    yield from salvage_room_groups()
+    yield from told_groups()
+    yield from saved_groups()
 
 
 # ---- Files and sheets at the limits of length: a start, and zeros behind it
@@ -1208,6 +1313,7 @@ def all_groups():
     yield from long_groups()
     yield from long_open_groups()
     yield from long_dump_groups()
+    yield from long_salvage_groups()
 
 
 def fresh(start, length, calls, seen):
@@ -1233,6 +1339,7 @@ def split(start, length, calls):
 def check_reader():
     files.check_builder()
     dumps.check()
+    salvages.check()
     example = b"file 0\ntrack 1 soun 160/8000\nentry 1 track 1 samr place 397 size 53\n"
     example += b"brand 3gp4 no\nbrand 3gp5 no\nbrand 3gp6 yes\nbrand 3gr6 no\n"
     assert answers.listing(files.build(files.movie(files.trak()))) == example

@@ -70,3 +70,8 @@ pub fn bytes(file: &[u8], call: &[u8], out: &mut [u8]) -> u64 {
         _ => threegp::threegp_from_amr(file, out),
     }
 }
+
+// The one that writes bytes and a report of numbers.
+pub fn salvage(file: &[u8], call: &[u8], out: &mut [u8], report: &mut [u64]) -> u64 {
+    threegp::threegp_salvage(file, call::first(call) as u64, out, report)
+}

@@ -1,4 +1,4 @@
-// The room that a call is lent, and the line that is written of both.
+// The rooms that a call is lent, and the line that is written of it and of them.
 use crate::ask;
 use crate::call;
 use crate::print;
@@ -61,9 +61,29 @@ fn bytes(file: &[u8], call: &[u8], all: &mut [u8]) {
     }
 }
 
+// The one with two rooms: its second number says how long that of the report is.
+fn salvage(file: &[u8], call: &[u8], all: &mut [u8]) {
+    let mut list = [0xAAAAAAAAAAAAAAAAu64; 16];
+    let report: &mut [u64] = &mut list;
+    let n = number::least(call::asked(call), all.len());
+    let k = number::least(call::second(call), report.len());
+    print::answer(ask::salvage(file, call, &mut all[0..n], &mut report[0..k]));
+    print::sum(lend::front(all, n));
+    let written = &report[..];
+    print::all(&written[0..k]);
+}
+
+fn fill(file: &[u8], call: &[u8], all: &mut [u8]) {
+    if call::kind(call) == 17 {
+        salvage(file, call, all);
+        return;
+    }
+    bytes(file, call, all);
+}
+
 fn short(file: &[u8], call: &[u8]) {
     let mut room = [0xAAu8; 40000];
-    bytes(file, call, &mut room);
+    fill(file, call, &mut room);
 }
 
 fn fresh() -> [u8; 1050000] {
@@ -72,7 +92,7 @@ fn fresh() -> [u8; 1050000] {
 
 fn long(file: &[u8], call: &[u8]) {
     let mut room = fresh();
-    bytes(file, call, &mut room);
+    fill(file, call, &mut room);
 }
 
 fn make_kind(kind: usize, file: &[u8], call: &[u8]) {
@@ -91,7 +111,7 @@ fn make_kind(kind: usize, file: &[u8], call: &[u8]) {
     }
 }
 
-// One line: the name, the answer, and what the room holds.
+// One line: the name, the answer, and what the rooms hold.
 pub fn make(file: &[u8], call: &[u8]) {
     io::write_all(1, call::name(call));
     make_kind(call::kind(call), file, call);
