@@ -25,7 +25,8 @@ use Rattle.from_amr.specs.Dump.{magic, opens, withoutMagic, madeOf, dump
 
 -- no frames; and two without data, of types 14 and 15
 made : (answerIn (fromAmr (magic Amr)) (bytes 600 0) ≡ Done 526) × (answerIn (fromAmr (magic Wideband ++ 0x70 ∷ 0x7C ∷ [])) (bytes 600 0) ≡ Done 560)
-unfolding fromAmr opens same dumpOf withoutMagic framesTo frames rest joined good typeOf frameSize dataBytes every isEq isLe isLt madeOf asked answerIn ifEq ifLe ifLt
+unfolding fromAmr opens same dumpOf withoutMagic framesTo frames rest joined good typeOf frameSize dataBytes every isEq isLe isLt madeOf asked
+    answerIn ifEq ifLe ifLt
     fileOf start write header ftyp mvhd tkhd mdhd hdlr smhd dref stsd stsz oneFor sizesOf fields bytes bytesOn amrText audioHead commonHead boxHeader codeOf
     modeSet modeBit typeBit seen sumTo
 made = (refl, refl)

@@ -52,7 +52,8 @@ frames-cut k n (f ∷ l) (some g s a) =
     (λ h. le-nay _ _ _ _ _ h (rw (take-append-le n f (joined l) (omega arith)) (frames-stop k (take n f) (cut-bad k f n s h))))
     (λ h.
     let m : n ≡ length f + (n - length f) = omega arith in
-    let t : take n (f ++ joined l) ≡ f ++ take (n - length f) (joined l) = ap (λ (i : ℕ). take i (f ++ joined l)) m ∙ take-past f (joined l) (length f) (n - length f) refl in
+    let t : take n (f ++ joined l) ≡ f ++ take (n - length f) (joined l) =
+    ap (λ (i : ℕ). take i (f ++ joined l)) m ∙ take-past f (joined l) (length f) (n - length f) refl in
     le-yea _ _ _ _ _ h (rw t (frames-cons k f (take (n - length f) (joined l)) g s ∙ rw (frames-cut k (n - length f) l a))))
 
 -- ---- the file that is cut

@@ -97,7 +97,8 @@ module _ {g : Result} {numbers out : List ℕ} (room : List ℕ) where
 pub one-answer : (g : Result) (out : List ℕ) {r s : Answer} {a b : List ℕ} → Exact g out r a → Exact g out s b → (r ≡ s) × (a ≡ b)
 one-answer g out x y = (x .answers ∙ sym (y .answers), x .leaves ∙ sym (y .leaves))
 
-pub one-report : {g : Result} {numbers out room : List ℕ} {r s : Answer} {a b u v : List ℕ} → Reports g numbers out r a room u → Reports g numbers out s b room v → (r ≡ s) × (a ≡ b) × (u ≡ v)
+pub one-report : {g : Result} {numbers out room : List ℕ} {r s : Answer} {a b u v : List ℕ} → Reports g numbers out r a room u
+    → Reports g numbers out s b room v → (r ≡ s) × (a ≡ b) × (u ≡ v)
 one-report {g} {out = out} x y = let e = one-answer g out (x .exact) (y .exact) in (e .0, e .1, x .report ∙ sym (y .report))
 
 -- ---- a call that is done

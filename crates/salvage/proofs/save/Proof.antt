@@ -39,7 +39,9 @@ returns-4 c =
     let d = fits .before .before .before .before in
     let p = d .before .before .before .before .pre in
     let e = long-as p (d .start .ensures .0) refl in
-    saved p _ _ (omega (arith, fits .before .before .if1 .left)) (omega (arith, fits .before .if2 .left)) (omega (arith, fits .if3 .left)) e (put-are p refl (put .put .ensures)) (report-are p (size .word32 .ensures .0) (told .put-report .ensures))
+    let file = put-are p refl (put .put .ensures) in
+    let report = report-are p (size .word32 .ensures .0) (told .put-report .ensures) in
+    saved p _ _ (omega (arith, fits .before .before .if1 .left)) (omega (arith, fits .before .if2 .left)) (omega (arith, fits .if3 .left)) e file report
 
 pub save-spec : {M : Type 1} → statement M
 save-spec = tie.close (tie.spec

@@ -11,4 +11,7 @@ threegp-salvage-spec = tie.close (tie.spec
     (λ c κs. search needs)
     (λ c. search needs)
     (λ c. search needs)
-    (λ c. reports-for-c (c .pack .ensures) (rw (c .before .before .before .before .before .before .before .before .of-number .ensures) at (c .before .before .before .before .before .salvage .ensures))))
+    (λ c.
+    let called = c .before .before .before .before .before in
+    let named = called .before .before .before in
+    reports-for-c (c .pack .ensures) (rw (named .of-number .ensures) at (called .salvage .ensures))))
