@@ -1,3 +1,3 @@
-pub mod Pieces
+pub mod Judged
 pub mod Listed
 pub mod Examples

@@ -6,11 +6,12 @@ use mathlib.Core.Path.{_≡_, refl, sym, _∙_}
 use mathlib.Core.List.{List, [], _∷_, _++_}
 use lib.ListN.{length, take, drop, length-take, length-drop, drop-of-length-le}
 use lib.Seq.{drop-drop}
-use Rattle.wire.specs.Writing.{Put}
+use Rattle.wire.specs.Writing.{Put, Rest}
 use Rattle.wire.specs.Numbers.{word}
 use Rattle.wire.specs.Clauses.{oneIf}
 use Rattle.codes.specs.Codes.{STTS}
 use Rattle.wire.proofs.Writing.{pen-none, pen-then, pen-is}
+use Rattle.wire.proofs.Resting.{rest-all, rest-more, rest-none}
 use Rattle.sample_tables.specs.declared.time.MediaTicks.{MediaTicks}
 use Rattle.sample_tables.specs.Times.{mediaTicks}
 use Rattle.movie.specs.declared.entry.EntryAt.{EntryAt}
@@ -31,8 +32,6 @@ use Rattle.read_tracks.proofs.Accepted.{readable}
 use Rattle.read_tracks.proofs.Reading.{media-is}
 use Rattle.listing.specs.Lines.{trackLine, entryNamed, entryPlaced, entryLine, brandLine}
 use Rattle.listing.specs.Listing.{lineOf, trackLines, entryLines, firstLine, brandOf}
-use Rattle.listing.specs.Rest.{Rest}
-use Rattle.listing.proofs.Pieces.{rest-all, rest-more, rest-none}
 
 -- ---- tracks
 

@@ -4,6 +4,7 @@ pub mod Opened
 pub mod Keeping
 pub mod Traverse
 pub mod Results
+pub mod Telling
 pub mod Alike
 pub mod Bounds
 pub mod Firsts

@@ -8,10 +8,9 @@ use mathlib.Core.Logic.{_⊎_, ⊎-elim}
 use lib.ListN.{length, take, drop}
 use lib.Seq.{take-at}
 use Rattle.wire.specs.Clauses.{every, oneIf}
-use Rattle.wire.specs.Writing.{Wrote, Put}
+use Rattle.wire.specs.Writing.{Wrote}
 use Rattle.wire.proofs.Tests.{lt-yea, lt-nay, lt-ways}
 use Rattle.wire.proofs.Clauses.{is-le, not-le, fails, holds, done, was-yea, was-nay}
-use Rattle.wire.proofs.Writing.{pen-front}
 use Rattle.boxes.specs.Containers.{LONGEST}
 use Rattle.rule.specs.declared.Answer.{Answer}
 use Rattle.rule.specs.declared.Answer.the-variants.{Done, Refused}
@@ -32,14 +31,6 @@ pub exact-wrote : (xs out : List ℕ) → length xs ≤ length out → {n : ℕ}
 unfolding answerIn leftIn
 exact-wrote xs out h w =
     record { answers = lt-nay _ _ _ _ _ h (ap Done (w .span)); leaves = lt-nay _ _ _ _ _ h (w .is ∙ ap (λ (m : ℕ). xs ++ drop m out) (w .span)) }
-
--- a text whose length a total writer told first
-module _ (xs out : List ℕ) {start mid : List ℕ} {n : ℕ} (p : Put xs start 0 n mid) where
-  pub told-short : length out < n → Exact (gives xs) out (Refused 25 0) out
-  told-short h = exact-short xs out (omega (arith, p .next))
-
-  pub told-wrote : n ≤ length out → {r : ℕ} {left : List ℕ} → Put xs out 0 r left → Exact (gives xs) out (Done r) left
-  told-wrote h q = exact-wrote xs out (omega (arith, p .next)) (pen-front q (omega (arith, p .next, q .next)))
 
 -- ---- the tests before it, each told by code as 1 or 0
 

@@ -3,6 +3,7 @@ pub mod Lists
 pub mod Numbers
 pub mod Sums
 pub mod Writing
+pub mod Resting
 pub mod Putting
 pub mod Same
 pub mod Comparing

@@ -18,3 +18,8 @@ pub record Put (xs out : List ℕ) (at r : ℕ) (after : List ℕ) : Type 0 wher
   pub next : r ≡ at + length xs
   pub same : length after ≡ length out
   pub is : r ≤ length out → after ≡ put out at xs
+
+-- of the text `whole`, which goes to place `from` of `out₀` piece by piece, `rest` is left to write, at place `at` of what is now `out`
+pub record Rest (whole rest out₀ : List ℕ) (from : ℕ) (out : List ℕ) (at : ℕ) : Type 0 where
+  pub same : length out ≡ length out₀
+  pub then : (r : ℕ) (after : List ℕ) → Put rest out at r after → Put whole out₀ from r after

@@ -1,7 +1,7 @@
 -- Written at once where there is certainly room; else a run into no room tells the length, and then 25, or the lines are written.
 use borrow.Author.Needs.{needs}
 use Rattle.listing.proofs.Listed.{few-tracks}
-use Rattle.listing.proofs.Pieces.{at-once, too-short, all-written}
+use Rattle.rule.proofs.Telling.{at-once, told-short, told-wrote}
 use native.Mathlib.Omega.{arith}
 use Rattle.listing.proofs.list_accepted.Statement.{statement}
 use Rattle.listing.proofs.list_accepted.Tie as tie
@@ -21,7 +21,7 @@ list-accepted-spec = tie.close (tie.spec
     (λ c. search needs)
     (λ c κs. search needs)
     (λ c. search needs)
-    (λ c. too-short _ (c .before .before .before .before .before .before .before .before .before .before .before .args .out .now) (c .before .before .before .put-accepted2 .ensures .0) (omega arith))
+    (λ c. told-short _ (c .before .before .before .before .before .before .before .before .before .before .before .args .out .now) (c .before .before .before .put-accepted2 .ensures .0) (omega arith))
     (λ c κs. search needs)
     (λ c. search needs)
-    (λ c. all-written _ (c .before .before .before .before .before .before .before .before .before .before .before .before .before .before .before .args .out .now) (c .before .before .before .before .before .before .before .put-accepted2 .ensures .0) (c .before .before .put-accepted3 .ensures .0) (omega arith)))
+    (λ c. told-wrote _ (c .before .before .before .before .before .before .before .before .before .before .before .before .before .before .before .args .out .now) (c .before .before .before .before .before .before .before .put-accepted2 .ensures .0) (c .before .before .put-accepted3 .ensures .0) (omega arith)))

@@ -1,7 +1,7 @@
 -- The judgement, and then the lines of it.
 use borrow.Author.Needs.{needs}
 use Rattle.judge.proofs.Calls.{met}
-use Rattle.listing.proofs.Pieces.{listed-accepted, listed-refused}
+use Rattle.listing.proofs.Judged.{listed-accepted, listed-refused}
 use Rattle.listing.proofs.listing.Statement.{statement}
 use Rattle.listing.proofs.listing.Tie as tie
 

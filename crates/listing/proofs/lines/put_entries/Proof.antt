@@ -3,8 +3,8 @@ use borrow.Author.Needs.{needs}
 use Prim.Native.Nat.{_+_, _-_, _*_, _≤_}
 use Rattle.boxes.specs.Containers.{LONGEST}
 use Rattle.listing.specs.Listing.{entryLines}
-use Rattle.listing.specs.Rest.{Rest}
 use Rattle.listing.proofs.Listed.{few-tracks, entries-start, entries-more, entries-all}
+use Rattle.wire.specs.Writing.{Rest}
 use Rattle.movie.specs.Entries.{entries}
 use lib.ListN.{length, drop}
 use mathlib.Core.Path.{_≡_}
