@@ -12,7 +12,7 @@ pub const DEPTH: usize = 6;
 pub const LONGEST: usize = 1048576;
 
 // The kind of container that a container of a code stands in.
-fn parent(c: usize) -> usize
+pub fn parent(c: usize) -> usize
     ensures { λ r. ⌜ r ≡ parentOf c ⌝ }
 {
     if c == codes::MOOV {

@@ -137,6 +137,11 @@ GP6 = coded "3gp6"
 abbrev pub GR6 : ℕ
 GR6 = coded "3gr6"
 
+-- ---- what a member wrote of a recording, or a program of itself
+
+abbrev pub UDTA : ℕ
+UDTA = coded "udta"
+
 -- ---- boxes of files that no edit takes
 
 abbrev pub MOOF : ℕ

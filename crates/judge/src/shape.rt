@@ -49,13 +49,7 @@ fn formed(n: usize, k: usize, form: Form) -> usize
     if n != 2 {
         return 1;
     }
-    if k == containers::FILE {
-        return 1;
-    }
-    if walk::is_open(form) != 0 {
-        return 0;
-    }
-    1
+    rule_shape::may_have(k, form)
 }
 
 // A box of a container of kind k: an opaque one is asked for its form alone. The verdict is a number, since that is handed back faster.

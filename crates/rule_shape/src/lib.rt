@@ -1,7 +1,9 @@
-// Rule 3 and refusal 23 of one container: which boxes it has to have, or may not have.
+// Rules 2 and 3 and refusal 23 of one container: which boxes it has to have, or may not have, and which form they may have.
 use boxes::containers::FILE;
 use boxes::seek;
 use boxes::seek::Seen;
+use boxes::walk;
+use boxes::walk::Form;
 use boxes::walk::Step;
 use boxes::walk::Walk;
 ghost use mathlib.Core.Path.{_≡_};
@@ -11,6 +13,20 @@ ghost use Rattle.boxes.specs.Boxes.{boxes};
 ghost use Rattle.boxes.specs.Seek.{count};
 ghost use Rattle.rule_shape.specs.Three.{exactly as exactlyOf, needed, first, besides as besidesOf, shape};
 ghost use Rattle.rule_shape.specs.TwentyThree.{barred};
+ghost use Rattle.rule_shape.specs.Two.{mayHave};
+
+// Whether a box may have a form in a container of kind k, as rule 2 asks: 1 or 0.
+pub fn may_have(k: usize, form: Form) -> usize
+    ensures { λ r. ⌜ r ≡ oneIf (mayHave k form) ⌝ }
+{
+    if k == FILE {
+        return 1;
+    }
+    if walk::is_open(form) != 0 {
+        return 0;
+    }
+    1
+}
 
 // Whether a part has exactly n boxes of each code: 1 or 0.
 fn exactly(n: usize, part: &[u8], list: &[usize]) -> usize
