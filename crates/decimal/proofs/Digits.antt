@@ -27,7 +27,7 @@ unfolding decimal
 decimal-more n h = lt-nay n 10 _ _ _ h (ap (λ (t : List ℕ). t ++ (48 + n % 10) ∷ []) (enough (suc (n / 10)) n (n / 10) (omega arith) (omega arith)))
 
 -- at most k + 1 digits below 10 ^ (k + 1)
-decimal-short : (k n : ℕ) → n < 10 ^ suc k → length (decimal n) ≤ suc k
+pub decimal-short : (k n : ℕ) → n < 10 ^ suc k → length (decimal n) ≤ suc k
 decimal-short zero n h = rw (← decimal-one n (omega arith)) (omega arith)
 decimal-short (suc k) n h =
     lt-or n 10
