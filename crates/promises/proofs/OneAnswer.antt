@@ -11,6 +11,7 @@ use Rattle.read_tracks.specs.Reads.{trackResult, offsetsResult}
 use Rattle.sheet.specs.Reader.{sheetResult}
 use Rattle.sheet_table.specs.Table.{tableResult}
 use Rattle.listing.specs.Listing.{listingResult}
+use Rattle.outline.specs.Outline.{outlineResult}
 use Rattle.entry_fields.specs.Numbers.{readResult, writeResult}
 use Rattle.edit_shift.specs.Shift.{shiftResult}
 use Rattle.edit_replace.specs.Replace.{replaceResult}
@@ -35,6 +36,9 @@ module _ (file : List ℕ) where
 
   pub one-listing : One (listingResult file)
   one-listing = one _
+
+  pub one-outline : One (outlineResult file)
+  one-outline = one _
 
   pub one-shift : (z : ℤ) → One (shiftResult z file)
   one-shift z = one _

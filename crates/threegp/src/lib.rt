@@ -15,6 +15,7 @@ ghost use Rattle.sheet.specs.Reader.{sheetResult};
 ghost use Rattle.sheet_table.specs.Table.{tableResult};
 ghost use Rattle.brands.specs.Calls.{brandAnswer};
 ghost use Rattle.listing.specs.Listing.{listingResult};
+ghost use Rattle.outline.specs.Outline.{outlineResult};
 ghost use Rattle.newer.specs.declared.Outcome.the-variants.{Found};
 ghost use Rattle.newer.specs.Newer.{newestOf};
 ghost use Rattle.entry_fields.specs.Numbers.{readResult, writeResult};
@@ -168,6 +169,14 @@ pub extern "C" fn threegp_listing(file: &[u8], out: &mut [u8]) -> u64
     ensures { λ r. ⌜ ForC (listingResult (now (file .entry))) (now (out .entry)) r (now (out .exit)) ⌝ }
 {
     pack(listing::listing(file, out))
+}
+
+// Every box of a file, as text.
+#[no_mangle]
+pub extern "C" fn threegp_outline(file: &[u8], out: &mut [u8]) -> u64
+    ensures { λ r. ⌜ ForC (outlineResult (now (file .entry))) (now (out .entry)) r (now (out .exit)) ⌝ }
+{
+    pack(outline::outline(file, out))
 }
 
 // The four numbers of an entry of the later file.
