@@ -1,9 +1,10 @@
 /* How long the library's functions take, and how much stack: tables in Markdown over the files of shapes.h, each at three lengths.
 
-     bench          the time of each call, its ratio to one memcpy of the file, its growth from the next smaller length; the stack
-     bench dumps    the same of files made of dumps, and of what a recorder leaves that died
-     bench chopped  judgements of files with many `mdat`s, their chunks in every order
-     bench worst    one judgement of the slowest file that we know
+     bench           the time of each call, its ratio to one memcpy of the file, its growth from the next smaller length; the stack
+     bench dumps     the same of files made of dumps, and of what a recorder leaves that died
+     bench outlines  the same of outlines of files with many boxes
+     bench chopped   judgements of files with many `mdat`s, their chunks in every order
+     bench worst     one judgement of the slowest file that we know
 
    A time is the processor's for one call: the shortest of five rounds, each of so many calls that it takes 20 ms or more. After a
    second no further round begins; the time then has a star. */
@@ -22,7 +23,9 @@ static const size_t lengths[LENGTHS] = {4096 - RATES, 65536 - RATES, LONGEST - R
 
 /* ---- Calls */
 
-static uint8_t out[LONGEST], sheet[LONGEST];
+/* No outline is 7 times as long as its file: the most text is that of containers of 9 bytes, 60 for each and the broken byte in it. */
+enum { TEXT = 7 * LONGEST };
+static uint8_t out[TEXT], sheet[TEXT];
 static uint32_t list[LONGEST / 4];
 static uint64_t numbers[16];
 static size_t sheet_length;
@@ -44,6 +47,7 @@ static uint64_t call_sheet(void) { return threegp_sheet(file, length, sheet, LON
 static uint64_t call_newer(void) { return threegp_newer(file, length, 60, file, length, 0, 1, numbers, 16); }
 static uint64_t call_shift(void) { return threegp_shift(file, length, 60, out, LONGEST); }
 static uint64_t call_move(void) { return threegp_move(file, length, out, LONGEST); }
+static uint64_t call_outline(void) { return threegp_outline(file, length, out, TEXT); }
 static uint64_t call_table(void) { return threegp_table(sheet, sheet_length, 1, out, LONGEST); }
 static uint64_t call_record_read(void) { return threegp_record_read(sheet + (sheet[0] == 1 ? 100 : 388), 53, 6, numbers, 16); }
 static uint64_t call_record_write(void) { return threegp_record_write(fields, 11, 6, out, LONGEST); }
@@ -54,17 +58,17 @@ static uint64_t call_replace(void)
                  : threegp_replace(file, length, 1, damr, sizeof damr, out, LONGEST);
 }
 
-/* The first TIMED take a file and are timed; the stack is measured of all but memcpy. */
+/* The first TIMED take a file and are timed, OUTLINE is the last of these; the stack is measured of all but memcpy. */
 static const struct call {
     const char *name;
     uint64_t (*make)(void);
 } calls[] = {
     {"`memcpy`", call_memcpy}, {"judge", call_judge}, {"tracks", call_tracks}, {"track", call_track}, {"brand", call_brand},
     {"offsets", call_offsets}, {"listing", call_listing}, {"sheet", call_sheet}, {"newer", call_newer}, {"shift", call_shift},
-    {"replace", call_replace}, {"move", call_move}, {"table", call_table}, {"record_read", call_record_read},
-    {"record_write", call_record_write},
+    {"replace", call_replace}, {"move", call_move}, {"outline", call_outline}, {"table", call_table},
+    {"record_read", call_record_read}, {"record_write", call_record_write},
 };
-enum { CALLS = sizeof calls / sizeof *calls, TIMED = CALLS - 3 };
+enum { CALLS = sizeof calls / sizeof *calls, TIMED = CALLS - 3, OUTLINE = TIMED - 1 };
 
 static void check(const char *name, uint64_t answer)
 {
@@ -309,6 +313,102 @@ static void measure_dumps(void)
     fflush(stdout);
 }
 
+/* ---- Outlines */
+
+/* Empty boxes, as many as fit. */
+static size_t build_many(size_t limit)
+{
+    size_t count = (limit - 8) / 8, start = open_box("moov");
+    put_empties(count);
+    close_box(start);
+    return 1 + count;
+}
+
+/* Containers of 9 bytes: the byte in each of them is broken. */
+static size_t build_broken(size_t limit)
+{
+    size_t count = (limit - 8) / 9, start = open_box("moov");
+    for (size_t k = 0; k < count; k++) {
+        size_t inner = open_box("trak");
+        put_zeros(1);
+        close_box(inner);
+    }
+    close_box(start);
+    return 1 + 2 * count;
+}
+
+/* 16 containers in each other, the last of them empty; in the others empty boxes before and behind the next. */
+static size_t build_nested(size_t limit)
+{
+    static const char *const codes[] = {"moov", "trak", "mdia", "minf", "stbl", "dinf", "udta"};
+    enum { DEPTH = 16 };
+    size_t starts[DEPTH], count = (limit / 8 - DEPTH) / (2 * (DEPTH - 1));
+    for (size_t k = 0; k < DEPTH; k++) {
+        starts[k] = open_box(codes[k % 7]);
+        put_empties(k == DEPTH - 1 ? 0 : count);
+    }
+    for (size_t k = DEPTH; k != 0; k--) {
+        put_empties(k == DEPTH ? 0 : count);
+        close_box(starts[k - 1]);
+    }
+    return DEPTH + 2 * (DEPTH - 1) * count;
+}
+
+/* Builds a file up to a length, and answers how many lines its outline has. */
+static const struct drawing {
+    const char *name;
+    size_t (*build)(size_t limit);
+} drawings[] = {
+    {"many empty boxes in one `moov`", build_many},
+    {"many broken boxes in one `moov`", build_broken},
+    {"empty boxes in 15 of 16 nested containers", build_nested},
+};
+enum { DRAWINGS = sizeof drawings / sizeof *drawings };
+
+/* The text has to have so many lines. */
+static void check_outline(const char *name, size_t lines)
+{
+    uint64_t answer = call_outline();
+    check(name, answer);
+    made = threegp_value(answer);
+    size_t found = 0;
+    for (size_t k = 0; k < made; k++)
+        found += out[k] == '\n';
+    if (found == lines && out[made - 1] == '\n')
+        return;
+    fprintf(stderr, "bench: %s: %zu lines for %zu\n", name, found, lines);
+    exit(1);
+}
+
+static void measure_drawing(const struct drawing *drawing, struct time *times, struct time *copies, size_t *lines)
+{
+    for (size_t k = 0; k < LENGTHS; k++) {
+        length = 0;
+        lines[k] = drawing->build(lengths[k]);
+        check_outline(drawing->name, lines[k]);
+        times[k] = time_call(call_outline);
+        copies[k] = time_call(call_copy);
+        size_t taken = touched(call_outline) - touched(call_nothing);
+        most[OUTLINE] = taken > most[OUTLINE] ? taken : most[OUTLINE];
+    }
+}
+
+static void measure_outlines(void)
+{
+    struct time times[DRAWINGS][LENGTHS], copies[DRAWINGS][LENGTHS];
+    size_t lines[DRAWINGS][LENGTHS];
+    printf("\n**Outlines**, by the length of the file; the ratio is to one copy of the text:");
+    for (size_t k = 0; k < DRAWINGS; k++) {
+        measure_drawing(&drawings[k], times[k], copies[k], lines[k]);
+        printf("%s %zu, %zu and %zu lines of %s", k == 0 ? "" : ";", lines[k][0], lines[k][1], lines[k][2], drawings[k].name);
+    }
+    printf("\n\n| file | 4 KiB | ratio | 64 KiB | ratio | growth | 1 MiB | ratio | growth |\n|---|--:|--:|--:|--:|--:|--:|--:|--:|\n");
+    print_row("`memcpy`", copies[0], copies[0]);
+    for (size_t k = 0; k < DRAWINGS; k++)
+        print_row(drawings[k].name, times[k], copies[k]);
+    fflush(stdout);
+}
+
 static void print_stack(void)
 {
     printf("\n**Stack**: the most bytes over all these files\n\n| call | bytes |\n|---|--:|\n");
@@ -368,13 +468,19 @@ int main(int count, char **words)
         printf("\nStack: %s %zu, %s %zu\n", from_amr.name, from_amr.most, salvage.name, salvage.most);
         return 0;
     }
+    if (count == 2 && strcmp(words[1], "outlines") == 0) {
+        measure_outlines();
+        printf("\nStack: %s %zu\n", calls[OUTLINE].name, most[OUTLINE]);
+        return 0;
+    }
     if (count != 1) {
-        fprintf(stderr, "bench, bench dumps, bench chopped, or bench worst\n");
+        fprintf(stderr, "bench, bench dumps, bench outlines, bench chopped, or bench worst\n");
         return 1;
     }
     for (size_t k = 0; k < SHAPES; k++)
         measure_shape(&shapes[k]);
     measure_dumps();
+    measure_outlines();
     print_stack();
     return 0;
 }

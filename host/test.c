@@ -20,7 +20,7 @@
 /* The kinds of calls, by their numbers in the data. PART is threegp_newer too: the bytes of the entry that it finds. */
 enum kind {
     JUDGE = 1, TRACKS, BRAND, TRACK, RECORD_READ, NEWER, OFFSETS, PART,
-    SHEET, TABLE, RECORD_WRITE, LISTING, SHIFT, REPLACE, MOVE, FROM_AMR, SALVAGE
+    SHEET, TABLE, RECORD_WRITE, LISTING, SHIFT, REPLACE, MOVE, FROM_AMR, SALVAGE, OUTLINE
 };
 
 struct bytes {
@@ -277,8 +277,15 @@ static uint64_t ask_bytes(struct bytes file, const struct call *call, uint8_t *o
     case REPLACE: return threegp_replace(at, file.length, call->numbers[0], more, call->more.length, out, call->room);
     case MOVE: return threegp_move(at, file.length, out, call->room);
     case FROM_AMR: return threegp_from_amr(at, file.length, out, call->room);
+    case OUTLINE: return threegp_outline(at, file.length, out, call->room);
     default: fail("no such call");
     }
+}
+
+/* Whether a call's text is written, too: of listings all, of outlines those whose first number is 1. */
+static bool shown(const struct call *call)
+{
+    return call->kind == LISTING || (call->kind == OUTLINE && call->numbers[0] == 1);
 }
 
 static uint64_t play_bytes(struct bytes file, const struct call *call)
@@ -287,7 +294,7 @@ static uint64_t play_bytes(struct bytes file, const struct call *call)
     uint64_t answer = ask_bytes(file, call, out);
     put_answer(answer);
     put_sum(out, call->room);
-    if (call->kind == LISTING && threegp_number(answer) == 0) {
+    if (shown(call) && threegp_number(answer) == 0) {
         putchar('\n');
         fwrite(out, 1, threegp_value(answer), stdout);
     }
@@ -345,13 +352,14 @@ static const struct {
     [MOVE] = {"move", "0" RULES " 23 25"},
     [FROM_AMR] = {"from_amr", "0 40 41 42 24 25"},
     [SALVAGE] = {"salvage", "0 1 60 61 24 25"},
+    [OUTLINE] = {"outline", "0 1 25"},
 };
 
-static bool given[SALVAGE + 1][523];
+static bool given[OUTLINE + 1][523];
 
 static void check_given(void)
 {
-    for (size_t kind = JUDGE; kind <= SALVAGE; kind++) {
+    for (size_t kind = JUDGE; kind <= OUTLINE; kind++) {
         const char *next = functions[kind].numbers;
         while (*next != 0) {
             unsigned long number = strtoul(next, (char **)&next, 10);

@@ -468,6 +468,39 @@ def salvage(file, codec):
     return short_enough(speech_file(codec, frames)), [field, len(frames), len(file) - end, end]
 
 
+# ---- An outline
+
+
+# the six containers of the rules, and `udta`
+OPENED = ["moov", "trak", "mdia", "minf", "stbl", "dinf", "udta"]
+DEEPEST = 16
+
+
+def code_printed(code):
+    """A code as it is, or in hexadecimal where a byte of it is none of the printed ones."""
+    letters = code.encode("latin-1")
+    return letters if all(0x20 <= letter <= 0x7E for letter in letters) else b"0x" + letters.hex().upper().encode()
+
+
+def outline_of_box(at, head, code, payload, depth):
+    """The line of a box, and those of the list that it holds."""
+    line = b"box %s place %d size %d depth %d\n" % (code_printed(code), at, head + len(payload), depth)
+    opened = code in OPENED and depth < DEEPEST
+    return line + (outline_of_list(payload, at + head, depth + 1) if opened else b"")
+
+
+def outline_of_list(part, start, depth):
+    """The lines of the boxes of a part that starts at a place of the file; what doesn't fit ends them. Only at the top a box may be open."""
+    boxes, torn = tiles(part, files.WIDE, *([files.OPEN] if depth == 1 else []))
+    lines = [outline_of_box(start + at, head, code, payload, depth) for at, head, code, payload in boxes]
+    return b"".join(lines) + (b"" if torn is None else b"broken place %d\n" % (start + torn))
+
+
+def outline(file):
+    ask(8 <= len(file) <= files.LONGEST, 1)
+    return outline_of_list(file, 0, 1)
+
+
 def fit(result, room):
     ask(len(result) <= room, 25)
     return result

@@ -10,6 +10,7 @@ import cases
 import dumps
 import files
 import forms
+import outlines
 import salvages
 from files import Box, audio, bitr, d263, damr, esds, h, num, patch, visual, w
 
@@ -22,7 +23,7 @@ LONG_ROOM = 1050000
 FILL = 0xAA
 PLAIN = ["judge", "tracks", "brand"]
 NUMBERS = ["track", "record read", "newer"]
-BYTES = ["sheet", "table", "record write", "listing", "shift", "replace", "move", "from amr", "salvage"]
+BYTES = ["sheet", "table", "record write", "listing", "shift", "replace", "move", "from amr", "salvage", "outline"]
 # by the numbers that the program has for them, from 1
 KINDS = [*PLAIN, *NUMBERS, "offsets", "part", *BYTES]
 # by the numbers that the program has for them, from 0
@@ -160,6 +161,14 @@ def listing(label, file, room):
     if room >= len(answers.listing(file)):
         line += "\n" + answers.listing(file).decode()
     return "listing", "listing %s room %d" % (label, room), room, (), b"", line
+
+
+def outline(label, file, room, shown=0):
+    """Its first number is 1 where the text is shown."""
+    line = line_bytes(lambda: answers.outline(file), room)
+    if shown:
+        line += "\n" + answers.outline(file).decode()
+    return "outline", "outline %s room %d" % (label, room), room, (shown,), b"", line
 
 
 def replace(label, file, entry, what, record, room):
@@ -320,6 +329,7 @@ def reads_of(label, file):
         yield sheet(label, file, room)
     for room in rooms(len(answers.listing(file))):
         yield listing(label, file, room)
+    yield outline(label, file, len(answers.outline(file)))
 
 
 def edits_of(label, file):
@@ -1191,6 +1201,37 @@ def long_salvage_groups():
             yield start, length, [salvage(name, file, wideband, *lent) for lent in ((ROOM, 4), (0, 0))]
 
 
+# ---- Outlines
+
+
+# these are lent rooms of every length
+LENT = ("empty-moov", "moov-in-udta", "nest-all-16-loose", "code-byte-7f", "size-7-first", "broken-levels-15", "zeros-8", "open-moov")
+LENT += ("wide-movie", "open-movie", "many-2000", "nest-16-with-60-each", "f33_h264_aac", "c05_faststart_cut")
+# the texts of these are shown
+SHOWN = ("empty-moov", "udta-of-eight-zeros-in-movie", "nest-all-17-free", "nest-broken-behind-17", "all-strange-codes", "size-7-in-all")
+SHOWN += ("every-list-torn", "wide-in-turns", "open-moov-over-moov", "zeros-8", "eight-bits", "f02_amrnb_time", "c05_faststart_cut")
+
+
+def outline_calls(name, file):
+    """With as much room as it needs; a file that is refused is lent some and none."""
+    if name.startswith("1-"):
+        return [outline(name, file, room) for room in (2000, 0)]
+    n = len(answers.outline(file))
+    shown = outline(name, file, n, int(name in SHOWN))
+    return [shown, *[outline(name, file, room) for room in rooms(n)[1:] if name in LENT]]
+
+
+def outline_groups():
+    for name, file, _ in outlines.cases():
+        yield file, outline_calls(name, file)
+
+
+def long_outline_groups():
+    """(start, whole length, calls) of files at the limits of length."""
+    for name, start, length, _ in outlines.long_outlines():
+        yield start, length, outline_calls(name, start.ljust(length, b"\0"))
+
+
 def short_groups():
     """(a file, the calls on it)."""
     yield from plain_groups()
@@ -1215,6 +1256,7 @@ def short_groups():
     yield from salvage_room_groups()
     yield from told_groups()
     yield from saved_groups()
+    yield from outline_groups()
 
 
 # ---- Files and sheets at the limits of length: a start, and zeros behind it
@@ -1314,6 +1356,7 @@ def all_groups():
     yield from long_open_groups()
     yield from long_dump_groups()
     yield from long_salvage_groups()
+    yield from long_outline_groups()
 
 
 def fresh(start, length, calls, seen):
@@ -1340,6 +1383,8 @@ def check_reader():
     files.check_builder()
     dumps.check()
     salvages.check()
+    outlines.check()
+    assert {*LENT, *SHOWN} <= {name for name, _, _ in outlines.cases()}
     example = b"file 0\ntrack 1 soun 160/8000\nentry 1 track 1 samr place 397 size 53\n"
     example += b"brand 3gp4 no\nbrand 3gp5 no\nbrand 3gp6 yes\nbrand 3gr6 no\n"
     assert answers.listing(files.build(files.movie(files.trak()))) == example

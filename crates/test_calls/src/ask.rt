@@ -67,7 +67,8 @@ pub fn bytes(file: &[u8], call: &[u8], out: &mut [u8]) -> u64 {
         13 => threegp::threegp_shift(file, call::minutes(call::first(call)), out),
         14 => threegp::threegp_replace(file, call::first(call) as u64, call::more(call), out),
         15 => threegp::threegp_move(file, out),
-        _ => threegp::threegp_from_amr(file, out),
+        16 => threegp::threegp_from_amr(file, out),
+        _ => threegp::threegp_outline(file, out),
     }
 }
 

@@ -51,12 +51,20 @@ fn part(files: &[u8], call: &[u8]) {
     print::sum(part);
 }
 
+// Whether a call's text is written, too: of listings all, of outlines those whose first number is 1.
+fn shown(call: &[u8]) -> bool {
+    if call::kind(call) == 18 {
+        return call::first(call) == 1;
+    }
+    call::kind(call) == 12
+}
+
 fn bytes(file: &[u8], call: &[u8], all: &mut [u8]) {
     let n = number::least(call::asked(call), all.len());
     let answer = ask::bytes(file, call, &mut all[0..n]);
     print::answer(answer);
     print::sum(lend::front(all, n));
-    if call::kind(call) == 12 {
+    if shown(call) {
         print::text(answer, all);
     }
 }
