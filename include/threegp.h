@@ -101,6 +101,13 @@ uint64_t threegp_record_write(const uint64_t *fields, size_t count, uint64_t rel
    Refusals: 25. Stack: 20416. */
 uint64_t threegp_listing(const uint8_t *file, size_t length, uint8_t *out, size_t room);
 
+/* The outline of a file, also of one that is refused by 2 to 10: a line `box CODE place P size S depth D` for each box in file order, and `broken place P`
+   where a box doesn't fit, which ends its list; the list around it goes on. Opened are `moov`, `trak`, `mdia`, `minf`, `stbl`, `dinf` and `udta`, wherever
+   they stand, but not at depth 16; the top is depth 1. A code with a byte outside 0x20 to 0x7E is printed as `0x` and 8 hexadecimal digits in capitals, and
+   the size is the box's true length, with its header. Value: the text's length; 8 bytes for each byte of the file, and 13 more, suffice.
+   docs/OUTLINE.md has more. Refusals: 1, 25. Stack: 2752. */
+uint64_t threegp_outline(const uint8_t *file, size_t length, uint8_t *out, size_t room);
+
 /* The file with 60 times the minutes taken from each of its times that is not 0. Value: the length of the result, which is the file's.
    Refusals: 1 to 10, 22, 23 (of `moof`, `mfra`, `sidx` and `meta` at the top, `meta` in `moov` or `trak`, `co64` and `saio` in an `stbl`),
    25. Stack: 18624. */

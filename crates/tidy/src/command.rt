@@ -1,9 +1,9 @@
 // The first argument, and the arguments that its word takes.
 use crate::compare;
-use crate::edit::Edit;
 use crate::job;
 use crate::job::Job;
 use frames::codec::Codec;
+use tidy_edits::edit::Edit;
 use tidy_numbers::minutes;
 use tidy_numbers::parse;
 use tidy_words::help;
@@ -89,6 +89,9 @@ fn help() -> usize {
 fn by_short(word: &[u8], number: usize, count: usize) -> usize {
     if number == word::LIST && count == 3 {
         return with_files(Job::List, 2, 3);
+    }
+    if number == word::OUTLINE && count == 3 {
+        return with_files(Job::Outline, 2, 3);
     }
     if number == word::MOVE && count == 4 {
         return with_files(Job::Make(Edit::Move), 2, 3);

@@ -1,10 +1,10 @@
 // The word `newer`: which of two files is newer.
-use crate::time;
 use clocks::Order;
 use clocks::Zone;
 use clocks::Zoned;
 use newer::Outcome;
 use tidy_files::input;
+use tidy_files::time;
 use tidy_words::line;
 use tidy_words::tell;
 use wire::compare::same;

@@ -1,10 +1,10 @@
 // What is done with one file, once it is read.
-use crate::edit;
-use crate::edit::Edit;
 use crate::list;
-use crate::record;
-use crate::rescue;
 use frames::codec::Codec;
+use tidy_edits::edit;
+use tidy_edits::edit::Edit;
+use tidy_edits::record;
+use tidy_edits::rescue;
 use tidy_files::input;
 use tidy_words::tell;
 use wire::lend;
@@ -12,6 +12,7 @@ use wire::lend;
 // A record is that of an entry; its changes are the arguments from 3 to an end.
 pub enum Job {
     List,
+    Outline,
     Make(Edit),
     Table(usize),
     Dump,
@@ -39,6 +40,7 @@ fn dump(from: &[u8], dump: &[u8], to: &[u8]) -> usize {
 fn apply(job: Job, from: &[u8], file: &[u8], to: &[u8]) -> usize {
     match job {
         Job::List => list::run(file),
+        Job::Outline => list::outline(file),
         Job::Make(edit) => edit::run(edit, file, to),
         Job::Table(track) => table(track, from, file, to),
         Job::Dump => dump(from, file, to),

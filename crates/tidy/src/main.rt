@@ -1,12 +1,8 @@
-// Lists, shifts, moves, changes, compares, makes and salvages 3GP files, as its first argument says.
+// Lists, outlines, shifts, moves, changes, compares, makes and salvages 3GP files, as its first argument says.
 mod command;
 mod compare;
-mod edit;
 mod job;
 mod list;
-mod record;
-mod rescue;
-mod time;
 
 use tidy_words::tell;
 

@@ -11,6 +11,7 @@ fn put_edits(to: i32) -> usize {
         to,
         b"\
         tidy list FILE                             what the file holds\n\
+        tidy outline FILE                          every box of the file: its code, place, size and depth\n\
         tidy shift MINUTES FILE OUT                every time less so many minutes\n\
         tidy move FILE OUT                         moov right after ftyp\n",
     )
@@ -45,7 +46,7 @@ fn put_all(to: i32) -> usize {
     put_others(to)
 }
 
-// More on the first four words.
+// More on the first five words.
 fn put_first(to: i32, number: usize) -> usize {
     match number {
         word::LIST => print(
@@ -54,6 +55,16 @@ fn put_first(to: i32, number: usize) -> usize {
             tidy list FILE\n\
             Prints whether the file is accepted, then its tracks, its entries and its brands.\n\
             A file of more than 65536 bytes is too long here.\n",
+        ),
+        word::OUTLINE => print(
+            to,
+            b"\
+            tidy outline FILE\n\
+            Prints a line for each box: its code, its place in the file, its size and its depth, which is 1 at the top.\n\
+            Opened are moov, trak, mdia, minf, stbl, dinf and udta, wherever they stand, but not at depth 16.\n\
+            Where a box doesn't fit, the line is broken and its place; its list ends there, and the list around it goes on.\n\
+            A file that list refuses has an outline too, and the exit status is 0: an outline doesn't judge.\n\
+            A file of less than 8 bytes is refused; one of more than 65536 bytes is too long here.\n",
         ),
         word::SHIFT => print(
             to,

@@ -1,8 +1,8 @@
 // The words that make one file of another: `move`, `shift`, `sheet`, `table` and `amr`.
-use crate::time;
 use rule::Answer;
 use tidy_files::input;
 use tidy_files::output;
+use tidy_files::time;
 use tidy_words::line;
 use tidy_words::tell;
 use wire::lend;
