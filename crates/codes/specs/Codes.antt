@@ -137,7 +137,7 @@ GP6 = coded "3gp6"
 abbrev pub GR6 : ℕ
 GR6 = coded "3gr6"
 
--- ---- what a member wrote of a recording, or a program of itself
+-- ---- user data
 
 abbrev pub UDTA : ℕ
 UDTA = coded "udta"

@@ -84,7 +84,7 @@ pub const GP6: usize = 0x33677036;
 
 pub const GR6: usize = 0x33677236;
 
-// What a member wrote of a recording, or a program of itself.
+// User data.
 pub const UDTA: usize = 0x75647461;
 
 // Boxes of files that no edit takes.

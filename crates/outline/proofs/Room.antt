@@ -24,7 +24,7 @@ use Rattle.rule.specs.Results.{asked, lengthFine, answerIn}
 use Rattle.rule_shape.specs.Two.{shutIn}
 use Rattle.outline.specs.Lines.{Line, prints, hex, codePrinted, boxText, brokenText, printed}
 use Rattle.outline.specs.Lines.Line.{broken}
-use Rattle.outline.specs.Outline.{Kinds, wherever, rowLines, listLines, boxLines, roundsAt, outline, outlineResult}
+use Rattle.outline.specs.Outline.{Opening, wherever, rowLines, listLines, boxLines, roundsAt, outline, outlineResult}
 use Rattle.outline.proofs.Printing.{printed-one, printed-append}
 
 -- ---- a line
@@ -75,7 +75,7 @@ module _ (f : ℕ → Box → List Line) (each : (q : ℕ) (x : Box) → q + siz
 
 -- ---- a list and a box, each by the other
 
-module _ (o : Kinds) where
+module _ (o : Opening) where
   mutual
     unfolding listLines printed
 

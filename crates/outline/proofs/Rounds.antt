@@ -20,7 +20,7 @@ use Rattle.boxes.proofs.Seeking.{payload-length, ran-next}
 use Rattle.rule_shape.specs.Two.{mayHave}
 use Rattle.outline.specs.Lines.{Line, boxText, brokenText, printed}
 use Rattle.outline.specs.Lines.Line.{broken}
-use Rattle.outline.specs.Outline.{Kinds, rowLines, listLines, boxLines}
+use Rattle.outline.specs.Outline.{Opening, rowLines, listLines, boxLines}
 use Rattle.outline.proofs.Printing.{printed-append, printed-one}
 
 -- a box that lies in a part is as long as it says
@@ -31,7 +31,7 @@ span-size {xs} {b} i = omega (arith, payload-length xs b (i .least) (i .inside),
 pub body-length : {xs ys : List ℕ} {b : BoxAt} → BoxInside xs b → ys ≡ payload xs b → length ys ≡ b .span - b .head
 body-length {xs} {b = b} i e = ap length e ∙ payload-length xs b (i .least) (i .inside)
 
-module _ (o : Kinds) where
+module _ (o : Opening) where
   -- ---- a box, of which s is the size
 
   module _ (n k d p : ℕ) (x : Box) {m s : ℕ} (e : m ≡ suc n) (q : s ≡ size x) where
@@ -84,7 +84,8 @@ module _ (o : Kinds) where
     unfolding rowLines
     list-more {at} {b} {w} s t =
         rw (s .list, s .rest, t, ran-next s p)
-        (printed-append (line (p + at) (boxAt xs b)) (from (w .at)) ∙ ap (λ (i : ℕ). printed (line (p + i) (boxAt xs b)) ++ printed (from (w .at))) (sym (s .start)))
+        (printed-append (line (p + at) (boxAt xs b)) (from (w .at))
+        ∙ ap (λ (i : ℕ). printed (line (p + i) (boxAt xs b)) ++ printed (from (w .at))) (sym (s .start)))
 
     -- a box that may not stand there, what is no box, and the end
     pub list-open : {at : ℕ} {b : BoxAt} {w : Walk} → Ran xs at b w → mayHave k (b .form) ≡ false → brokenText (p + b .at) ≡ printed (from at)

@@ -12,7 +12,7 @@ use Rattle.boxes.specs.Containers.{FILE}
 use Rattle.rule_shape.specs.Two.{mayHave, shutIn}
 use Rattle.outline.specs.Lines.{Line}
 use Rattle.outline.specs.Lines.Line.{box, broken}
-use Rattle.outline.specs.Outline.{Kinds, rowLines, listLines, boxLines, outline, wherever}
+use Rattle.outline.specs.Outline.{Opening, rowLines, listLines, boxLines, outline, wherever}
 use Rattle.outline.specs.Said.{atDepth, topLines}
 
 at-append : (d : ℕ) (l m : List Line) → atDepth d (l ++ m) ≡ atDepth d l ++ atDepth d m
@@ -34,7 +34,7 @@ module _ (d : ℕ) where
   row-deeper f h k p [] rest = either-way (nothing rest) _ _ refl refl
   row-deeper f h k p (x ∷ l) rest = either-way (shutIn k x) _ _ (at-append d (f p x) _ ∙ rw (h p x, row-deeper f h k (p + size x) l rest)) refl
 
-  module _ (o : Kinds) where
+  module _ (o : Opening) where
     mutual
       unfolding listLines atDepth
 
@@ -50,7 +50,7 @@ module _ (d : ℕ) where
 
 -- ---- the top
 
-top-box : (o : Kinds) (n p : ℕ) (x : Box) → atDepth 1 (boxLines o (suc n) FILE 1 p x) ≡ box (x .code) p (size x) 1 ∷ []
+top-box : (o : Opening) (n p : ℕ) (x : Box) → atDepth 1 (boxLines o (suc n) FILE 1 p x) ≡ box (x .code) p (size x) 1 ∷ []
 unfolding listLines atDepth
 top-box o n p x =
     sym (eq-yea _ _ _ _ _ refl (sym (ap (λ (l : List Line). box (x .code) p (size x) 1 ∷ l)

@@ -13,14 +13,14 @@ use Rattle.outline.specs.Lines.{Line, printed}
 use Rattle.outline.specs.Lines.Line.{box, broken}
 
 -- the kind of a box of code c in a container of kind k, and 0 where it isn't opened
-abbrev pub Kinds : Type 0
-Kinds = ℕ → ℕ → ℕ
+abbrev pub Opening : Type 0
+Opening = ℕ → ℕ → ℕ
 
 -- "any of the six container codes, or `udta`, opens a container wherever it stands": the six are those that have a parent
 unfoldable pub opensAs : ℕ → ℕ
 opensAs c = ifEq (parent c) 0 (ifEq c UDTA c 0) c
 
-abbrev pub wherever : Kinds
+abbrev pub wherever : Opening
 wherever k c = opensAs c
 
 -- the boxes of a container of kind k from place p on, each by f. "A box that doesn't fit .. ends its list": one that may not have
@@ -31,11 +31,11 @@ rowLines f k p (x ∷ l) rest = pick (shutIn k x) (f p x ++ rowLines f k (p + si
 
 -- a list, and a box that may hold a list, each by the other: each takes one of the rounds left. d is their depth, p their place
 unfoldable mutual
-  pub listLines : Kinds → (rounds k d p : ℕ) → List ℕ → List Line
+  pub listLines : Opening → (rounds k d p : ℕ) → List ℕ → List Line
   listLines o zero k d p xs = []
   listLines o (suc n) k d p xs = rowLines (λ q x. boxLines o n k d q x) k p (boxes xs) (after xs)
 
-  pub boxLines : Kinds → (rounds k d p : ℕ) → Box → List Line
+  pub boxLines : Opening → (rounds k d p : ℕ) → Box → List Line
   boxLines o zero k d p x = []
   boxLines o (suc n) k d p x = box (x .code) p (size x) d ∷ ifEq (o k (x .code)) 0 [] (listLines o n (o k (x .code)) (d + 1) (p + head x) (x .body))
 

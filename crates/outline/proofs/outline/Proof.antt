@@ -15,4 +15,5 @@ outline-spec = tie.close (tie.spec
     (λ c. search needs)
     (λ c.
     let p = c .before .before in
-    test-so _ _ _ _ _ (length-fine (p .before .before .before .before .before .before .args .file .now) (omega arith) (omega arith)) (test-all _ _ (p .print .ensures))))
+    let a = p .before .before .before .before .before .before in
+    test-so _ _ _ _ _ (length-fine (a .args .file .now) (omega arith) (omega arith)) (test-all _ _ (p .print .ensures))))

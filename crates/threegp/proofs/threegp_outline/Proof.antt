@@ -1,3 +1,4 @@
+-- The call, and its answer as one number.
 use borrow.Author.Needs.{needs}
 use Rattle.threegp.proofs.Packing.{for-c}
 use Rattle.threegp.proofs.threegp_outline.Statement.{statement}

@@ -47,11 +47,11 @@ put-list-at t = and 2 put-list-kinds.ps (is 2 put-list-kinds.ps μ-put-list t) p
 abbrev put-list-below : ℕ → In 2 put-list-kinds.ps
 put-list-below t = and 2 put-list-kinds.ps (falls 2 put-list-kinds.ps _<_ μ-put-list t) put-list.Pre
 
+-- the lines from the walk's place on are left
 abbrev put-list-Inv-loop : put-list-lts.InvT-loop
 put-list-Inv-loop out₀ from₀ part k place depth at₀ w₀ out at w =
-    (w .at ≤ length part)
-    × Rest (printed (listLines wherever (roundsAt depth) k depth place part)) (printed (from wherever (roundsAt depth - 1) k depth place part (w .at))) out₀ from₀ out at
-    × (at ≤ from₀ + 40 * w .at)
+    let whole = printed (listLines wherever (roundsAt depth) k depth place part) in
+    (w .at ≤ length part) × Rest whole (printed (from wherever (roundsAt depth - 1) k depth place part (w .at))) out₀ from₀ out at × (at ≤ from₀ + 40 * w .at)
 
 abbrev put-list-μ-loop : put-list-lts.MeasureT-loop
 put-list-μ-loop out₀ from₀ part k place depth at₀ w₀ out at w = length part - w .at
@@ -81,7 +81,8 @@ pub +put-box+put-list-spec : {M : Type 1} → statement M
     (λ c. search needs)
     (λ c. search needs)
     (λ c κs.
-    let n = body-length (c .before .before .before .before .before .before .before .before .before .before .before .before .before .pre .1 .0) (c .before .body .ensures) in
+    let a = c .before .before .before .before .before .before .before .before .before .before .before .before .before in
+    let n = body-length (a .pre .1 .0) (c .before .body .ensures) in
     (omega arith, (omega (arith, n), omega arith, omega (arith, n))))
     (λ c. search needs)
     (λ c.
@@ -89,7 +90,8 @@ pub +put-box+put-list-spec : {M : Type 1} → statement M
     let l = y .before .before .before .before .before .before .before in
     let a = l .before .before .before .before .before in
     let i = a .pre .1 .0 in
-    let e = box-holds _ _ _ _ _ _ (omega arith) (span-size i) (y .before .before .before .opens-as .ensures) (y .before .before .if2 .left) (i .head) (y .body .ensures) in
+    let k = y .before .before in
+    let e = box-holds _ _ _ _ _ _ (omega arith) (span-size i) (k .before .opens-as .ensures) (k .if2 .left) (i .head) (y .body .ensures) in
     (pen-is e (pen-then (l .put-box .ensures .0) (c .before .before .put-list .ensures .0)), omega (arith, body-length i (y .body .ensures)))))
     (λ t.
     put-list-lts.spec
