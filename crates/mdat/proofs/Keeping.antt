@@ -14,20 +14,17 @@ use Rattle.sample_tables.specs.Tables.{items}
 use Rattle.sample_tables.specs.Sizes.{sizeAt, bytesFrom}
 use Rattle.sample_tables.specs.Chunks.{samplesIn, firstSample, offsetAt, chunkAt, extentOf}
 use Rattle.sample_tables.proofs.Sizes.{sample-within}
+use Rattle.sample_walk.proofs.Joins.{join-same}
 use Rattle.mdat.specs.Payloads.{mdats}
 use Rattle.mdat.specs.Relocate.{Relocated}
 use Rattle.mdat.specs.Rules.{chunkIn, chunksLie}
-use Rattle.mdat.specs.Samples.{joinTo, sampleIn, chunkSamples, samplesOf}
+use Rattle.mdat.specs.Samples.{samplesOf}
+use Rattle.mdat.proofs.Cutting.{chunkCut, samples-cut}
 use Rattle.mdat.proofs.Inside.{lies-at}
 use Rattle.mdat.proofs.Eight.{eight-at, eight-of, chunk-in}
 use Rattle.mdat.proofs.Relocating.{relocate-in, relocate-bytes}
 
--- ---- lists of samples
-
-join-same : (f g : ℕ → List (List ℕ)) (n : ℕ) → ((i : ℕ) → i < n → f i ≡ g i) → joinTo f n ≡ joinTo g n
-unfolding joinTo
-join-same f g zero h = refl
-join-same f g (suc n) h = rw (join-same f g n (λ i k. h i (omega arith)), h n (omega arith))
+-- ---- parts of bytes
 
 -- a part of the first n bytes
 part-of : (b s n : ℕ) (xs : List ℕ) → b + s ≤ n → take s (drop b (take n xs)) ≡ take s (drop b xs)
@@ -46,8 +43,8 @@ module _ (xs ys stsc stsz o p : List ℕ) (k : ℕ) where
   abbrev bytesIn : ℕ
   bytesIn = bytesFrom stsz (firstSample stsc k) (samplesIn stsc k)
 
-  chunk-same : take bytesIn (drop (offsetAt o k) xs) ≡ take bytesIn (drop (offsetAt p k) ys) → chunkSamples xs stsz (chunkAt stsc o k) ≡ chunkSamples ys stsz (chunkAt stsc p k)
-  unfolding chunkSamples sampleIn chunkAt
+  chunk-same : take bytesIn (drop (offsetAt o k) xs) ≡ take bytesIn (drop (offsetAt p k) ys) → chunkCut xs stsz (chunkAt stsc o k) ≡ chunkCut ys stsz (chunkAt stsc p k)
+  unfolding chunkAt
   chunk-same e = join-same _ _ (samplesIn stsc k) (λ j h. ap (λ (b : List ℕ). b ∷ []) (go j (sample-within stsz (firstSample stsc k) j (samplesIn stsc k) h)))
     where
       go : (j : ℕ) → bytesFrom stsz (firstSample stsc k) j + sizeAt stsz (firstSample stsc k + j) ≤ bytesIn
@@ -66,9 +63,9 @@ module _ (l m : List Box) (same : mdats l ≡ mdats m) (stsc stsz o p : List ℕ
       rw (r .offsets k n) (lies-at m _ _ ∙ relocate-in l m same _ _ (chunk-in l stsc stsz o k (eight-at l stsc stsz o e k n))))
 
   pub samples-kept : chunksLie l stsc stsz o ≡ true → samplesOf (write l) stsc stsz o ≡ samplesOf (write m) stsc stsz p
-  unfolding samplesOf extentOf chunkAt
+  unfolding extentOf chunkAt
   samples-kept e =
-      rw (r .same) (join-same _ _ (items o) (λ k h.
+      rw (samples-cut (write l) stsc stsz o, samples-cut (write m) stsc stsz p, r .same) (join-same _ _ (items o) (λ k h.
       chunk-same (write l) (write m) stsc stsz o p k (rw (r .offsets k h) (relocate-bytes l m same _ _ (chunk-in l stsc stsz o k (eight-at l stsc stsz o e k h))))))
 
 -- ---- files that boxes tile

@@ -16,5 +16,6 @@ pub mod Moving
 pub mod Swapping
 pub mod Amounts
 pub mod Eight
+pub mod Cutting
 pub mod Keeping
 pub mod Vectors

@@ -12,10 +12,11 @@ use Rattle.boxes.specs.Boxes.{whole, boxes, formOf}
 use Rattle.sample_tables.specs.Sizes.{sizeAt, bytesFrom}
 use Rattle.sample_tables.specs.Runs.{runAmong, runOf}
 use Rattle.sample_tables.specs.Chunks.{samplesIn, firstSample, descriptionOf, chunkAt, extentOf}
+use Rattle.sample_walk.specs.Samples.{joinTo, chunkSamples, samplesAt}
 use Rattle.mdat.specs.Payloads.{inBox, past, resolve, placeOf}
 use Rattle.mdat.specs.Relocate.{relocate}
 use Rattle.mdat.specs.Rules.{lies, chunkIn, chunksIn, chunksLie}
-use Rattle.mdat.specs.Samples.{joinTo, sampleIn, chunkSamples, samplesOf}
+use Rattle.mdat.specs.Samples.{samplesOf}
 
 abbrev media : List ℕ
 media = bytes 4 13 ++ (text "mdat" ++ (1 ∷ 2 ∷ 3 ∷ 4 ∷ 5 ∷ []))
@@ -34,7 +35,7 @@ stco o = bytes 4 0 ++ (bytes 4 1 ++ bytes 4 o)
 
 -- each sample whole, one behind the other
 samples : samplesOf file stsc stsz (stco 20) ≡ (1 ∷ 2 ∷ []) ∷ (3 ∷ 4 ∷ 5 ∷ []) ∷ []
-unfolding samplesOf joinTo chunkSamples sampleIn chunkAt samplesIn firstSample descriptionOf runOf runAmong sizeAt bytesFrom sumTo word bytes bytesOn ifEq ifLe
+unfolding samplesOf samplesAt joinTo chunkSamples chunkAt samplesIn firstSample descriptionOf runOf runAmong sizeAt bytesFrom sumTo word bytes bytesOn ifEq ifLe
 samples = refl
 
 abbrev eightAt : ℕ → Bool

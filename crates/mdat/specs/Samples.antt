@@ -1,23 +1,12 @@
 -- The samples of a track, byte for byte and in order, cut out of the file's own bytes.
-use Prim.Native.Nat.{ℕ, zero, suc, _+_}
-use mathlib.Core.List.{List, [], _∷_, _++_}
+use Prim.Native.Nat.{ℕ}
+use mathlib.Core.List.{List, map}
 use lib.ListN.{take, drop}
-use Rattle.sample_tables.specs.Tables.{items}
-use Rattle.sample_tables.specs.Sizes.{sizeAt, bytesFrom}
-use Rattle.sample_tables.specs.Chunks.{chunkAt}
-use Rattle.sample_tables.specs.declared.chunk.Chunk.{Chunk}
+use Rattle.sample_walk.specs.declared.walk.Sample.{Sample}
+use Rattle.sample_walk.specs.Samples.{samplesAt}
 
--- f 0, and then .. f (n - 1)
-unfoldable pub joinTo : (ℕ → List (List ℕ)) → ℕ → List (List ℕ)
-joinTo f zero = []
-joinTo f (suc n) = joinTo f n ++ f n
-
--- sample j of a chunk, from 0: past the bytes of the chunk's samples before it
-unfoldable pub sampleIn : (file stsz : List ℕ) → Chunk → ℕ → List ℕ
-sampleIn file stsz c j = take (sizeAt stsz (c .first + j)) (drop (c .offset + bytesFrom stsz (c .first) j) file)
-
-unfoldable pub chunkSamples : (file stsz : List ℕ) → Chunk → List (List ℕ)
-chunkSamples file stsz c = joinTo (λ j. sampleIn file stsz c j ∷ []) (c .samples)
+abbrev pub sampleBytes : List ℕ → Sample → List ℕ
+sampleBytes file s = take (s .bytes) (drop (s .place) file)
 
 unfoldable pub samplesOf : (file stsc stsz stco : List ℕ) → List (List ℕ)
-samplesOf file stsc stsz stco = joinTo (λ k. chunkSamples file stsz (chunkAt stsc stco k)) (items stco)
+samplesOf file stsc stsz stco = map (sampleBytes file) (samplesAt stsc stsz stco)

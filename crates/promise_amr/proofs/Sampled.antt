@@ -13,7 +13,9 @@ use Rattle.boxes.specs.Box.{Box, plainBox, header, write}
 use Rattle.boxes.specs.Seek.{meant, nth}
 use Rattle.boxes.proofs.Whole.{length-header}
 use Rattle.boxes.proofs.Reading.{write-append}
-use Rattle.mdat.specs.Samples.{joinTo, sampleIn, chunkSamples, samplesOf}
+use Rattle.sample_walk.specs.Samples.{joinTo, sampleIn, samplesAt}
+use Rattle.mdat.specs.Samples.{sampleBytes, samplesOf}
+use Rattle.mdat.proofs.Cutting.{chunkCut, samples-cut}
 use Rattle.sample_tables.specs.declared.chunk.Chunk.{Chunk}
 use Rattle.sample_tables.specs.Chunks.{chunkAt}
 use Rattle.frames.specs.declared.codec.Codec.{Codec}
@@ -55,8 +57,7 @@ module _ (k : Codec) (l : List (List ℕ)) where
   media-is = rw file-is (drop-at front (joined l) (start k l) front-length)
 
   module _ (s : length (joined l) < 4294967296) (c : Chunk) (o : c .offset ≡ start k l) (z : c .first ≡ 0) where
-    sample-is : (j : ℕ) → j < length l → sampleIn file (stsz l) c j ≡ getD l j []
-    unfolding sampleIn
+    sample-is : (j : ℕ) → j < length l → sampleBytes file (sampleIn (stsz l) c j) ≡ getD l j []
     sample-is j h =
         let after = joined (drop (suc j) l) in
         rw (
@@ -72,25 +73,24 @@ module _ (k : Codec) (l : List (List ℕ)) where
         )
         (take-at (getD l j []) after (length (getD l j [])) refl)
 
-    first-samples : (n : ℕ) → n ≤ length l → joinTo (λ j. sampleIn file (stsz l) c j ∷ []) n ≡ take n l
+    first-samples : (n : ℕ) → n ≤ length l → joinTo (λ j. sampleBytes file (sampleIn (stsz l) c j) ∷ []) n ≡ take n l
     unfolding joinTo
     first-samples zero h = refl
     first-samples (suc n) h = rw (first-samples n (omega arith), sample-is n (omega arith)) (sym (take-suc l n [] (omega arith)))
 
-    all-samples : c .samples ≡ length l → chunkSamples file (stsz l) c ≡ l
-    unfolding chunkSamples
-    all-samples n = ap (joinTo (λ j. sampleIn file (stsz l) c j ∷ [])) n ∙ first-samples (length l) (omega arith) ∙ take-length l
+    all-samples : c .samples ≡ length l → chunkCut file (stsz l) c ≡ l
+    all-samples n = ap (joinTo (λ j. sampleBytes file (sampleIn (stsz l) c j) ∷ [])) n ∙ first-samples (length l) (omega arith) ∙ take-length l
 
   module _ (h : length l ≡ 0 → ⊥) (f : length l < 4294967296) (s : length (joined l) < 4294967296) (g : start k l < 4294967296) where
     some-samples : samplesOf file (stsc (length l)) (stsz l) (stco (length l) (start k l)) ≡ l
-    unfolding samplesOf joinTo
+    unfolding joinTo
     some-samples =
         let c = chunk-is k l h f s g in
-        rw (one-chunk k (length l) h f (start k l) g .0) (all-samples s (chunkAt (stsc (length l)) (stco (length l) (start k l)) 0) (c .0) (c .1) (c .2))
+        rw (samples-cut file (stsc (length l)) (stsz l) (stco (length l) (start k l)), one-chunk k (length l) h f (start k l) g .0) (all-samples s (chunkAt (stsc (length l)) (stco (length l) (start k l)) 0) (c .0) (c .1) (c .2))
 
 pub samples-are : (k : Codec) (l : List (List ℕ)) → length l < 4294967296 → length (joined l) < 4294967296 → start k l < 4294967296
     → samplesOf (fileOf k l) (stsc (length l)) (stsz l) (stco (length l) (start k l)) ≡ l
-unfolding samplesOf joinTo oneFor ifEq fields bytes bytesOn word ifLe
+unfolding samplesOf samplesAt joinTo oneFor ifEq fields bytes bytesOn word ifLe
 samples-are k [] f s g = refl
 samples-are k (x ∷ l) f s g = some-samples k (x ∷ l) (λ e. omega arith) f s g
 

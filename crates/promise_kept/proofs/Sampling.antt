@@ -14,7 +14,8 @@ use Rattle.boxes.specs.Seek.{count, nth, find}
 use Rattle.boxes.specs.Kin.{Kin}
 use Rattle.boxes.proofs.Kin.{kin-count, kin-child}
 use Rattle.mdat.specs.Rules.{chunksLie}
-use Rattle.mdat.specs.Samples.{joinTo, samplesOf}
+use Rattle.sample_walk.specs.Samples.{joinTo, samplesAt}
+use Rattle.mdat.specs.Samples.{samplesOf}
 use Rattle.mdat.proofs.Keeping.{file-samples-kept}
 use Rattle.movie.specs.Ways.{follow}
 use Rattle.movie.specs.Movie.{movie, tracks, track, sampleTable}
@@ -61,7 +62,7 @@ module _ {A : List Box → List Box} (a : Arranges A) (xs ys : List ℕ) (w : By
   Same b b′ = chunksLie (boxes xs) (find STSC (boxes b)) (find STSZ (boxes b)) (find STCO (boxes b)) ≡ true → cut xs b ≡ cut result b′
 
   same-none : Same [] []
-  unfolding boxes nth samplesOf joinTo word ifLe
+  unfolding boxes nth samplesOf samplesAt joinTo word ifLe
   same-none q = refl
 
   same-stbl : (b b′ : List ℕ) → Kin (Changes a xs ys w m c) 1 STBL b b′ → Same b b′

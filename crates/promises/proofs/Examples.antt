@@ -25,7 +25,8 @@ use Rattle.movie.specs.Ways.{follow, placeAlong, startAlong}
 use Rattle.mdat.specs.Payloads.{inBox, past, placeOf, resolve}
 use Rattle.mdat.specs.Relocate.{relocate}
 use Rattle.mdat.specs.Rules.{chunkIn, chunksIn, lies}
-use Rattle.mdat.specs.Samples.{chunkSamples, joinTo, sampleIn, samplesOf}
+use Rattle.mdat.specs.Samples.{samplesOf}
+use Rattle.sample_walk.specs.Samples.{chunkSamples, joinTo, samplesAt}
 use Rattle.sample_tables.specs.Chunks.{chunkAt, descriptionOf, extentOf, firstSample, samplesIn}
 use Rattle.sample_tables.specs.Rules.{emptyTogether, tablesAgree}
 use Rattle.sample_tables.specs.Runs.{rises, runAmong, runFine, runOf, runsFine}
@@ -74,5 +75,5 @@ pub examples : (numbers kinds ≡ 0 ∷ 0 ∷ 0 ∷ 0 ∷ 0 ∷ 0 ∷ 0 ∷ 0 �
     × (answers edits mediaFirst ≡ Done 603 ∷ Done 603 ∷ Done 619 ∷ Done 603 ∷ [])
     × (files edits mediaFirst ≡ expected)
     × (map (λ xs. samples xs 0) (mediaFirst ∷ expected) ≡ map (λ xs. (60 ∷ []) ∷ []) (mediaFirst ∷ expected))
-unfolding either every isEq isLe isLt oneIf bytes bytesOn word allTo sumTo ifEq ifLe ifLt header write after boxes formOf total whole kindIn parent editBox editIn overBoxes allPlain count meant nth placeBy placeIn startIn around boxBy editWay nthBy overNth overTurn eachWord reword rewordLeaf mayShift shiftTime entries entriesFrom entriesIn entriesOf handler references sampleTable scale track bytesAt spotIn stsds stsdsFrom follow placeAlong startAlong inBox past placeOf resolve relocate chunkIn chunksIn lies chunkSamples joinTo sampleIn samplesOf chunkAt descriptionOf extentOf firstSample samplesIn emptyTogether tablesAgree rises runAmong runFine runOf runsFine bytesFrom sizeAt sizesListed hasForm timedTo audioHead audioRule boxHeader commonHead commonRule headRule headSize nameRule visualHead visualRule visualStart handlerOf kindOf boxRule d263Rule damrRule framesRule modeMask modesRule periodRule ratedRule recordRule avcRule entryRule esdsRule handlerRule insideRule ruleAs scaleRule trackRule judgeBox judgeIn judgeList answerIn asked leftIn allBox allIn allList sooner unless besides exactly first needed shape mayHave barred brandsForm form handlerForm headForm ifBox tracksIn fresh freshTo identity tkhdPlace listFormIn listForm passing isUrl eightAt eightHolds sevenHolds sevenIn tableFine tableIn timesTo brandListed brandMissing releaseIn aroundOf entriesJudged stsdsJudged tenAt resultOn whenAccepted judged judgedFrom unlessBroken oneIn closed formAfter settled allTimes allTimesBy both hasTimes shiftOf shiftResult shiftable timesLeaf trackTimes kindAt recordCode recordReplaced replaceOf replaceResult takes just moovSecond moveOf moveResult others samples
+unfolding either every isEq isLe isLt oneIf bytes bytesOn word allTo sumTo ifEq ifLe ifLt header write after boxes formOf total whole kindIn parent editBox editIn overBoxes allPlain count meant nth placeBy placeIn startIn around boxBy editWay nthBy overNth overTurn eachWord reword rewordLeaf mayShift shiftTime entries entriesFrom entriesIn entriesOf handler references sampleTable scale track bytesAt spotIn stsds stsdsFrom follow placeAlong startAlong inBox past placeOf resolve relocate chunkIn chunksIn lies chunkSamples joinTo samplesAt samplesOf chunkAt descriptionOf extentOf firstSample samplesIn emptyTogether tablesAgree rises runAmong runFine runOf runsFine bytesFrom sizeAt sizesListed hasForm timedTo audioHead audioRule boxHeader commonHead commonRule headRule headSize nameRule visualHead visualRule visualStart handlerOf kindOf boxRule d263Rule damrRule framesRule modeMask modesRule periodRule ratedRule recordRule avcRule entryRule esdsRule handlerRule insideRule ruleAs scaleRule trackRule judgeBox judgeIn judgeList answerIn asked leftIn allBox allIn allList sooner unless besides exactly first needed shape mayHave barred brandsForm form handlerForm headForm ifBox tracksIn fresh freshTo identity tkhdPlace listFormIn listForm passing isUrl eightAt eightHolds sevenHolds sevenIn tableFine tableIn timesTo brandListed brandMissing releaseIn aroundOf entriesJudged stsdsJudged tenAt resultOn whenAccepted judged judgedFrom unlessBroken oneIn closed formAfter settled allTimes allTimesBy both hasTimes shiftOf shiftResult shiftable timesLeaf trackTimes kindAt recordCode recordReplaced replaceOf replaceResult takes just moovSecond moveOf moveResult others samples
 examples = (refl, refl, refl, refl, refl, refl)

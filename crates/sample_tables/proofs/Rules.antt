@@ -11,7 +11,7 @@ use Rattle.sample_tables.specs.Sizes.{sampleCount}
 use Rattle.sample_tables.specs.Runs.{runsFine}
 use Rattle.sample_tables.specs.Chunks.{offsetAt, chunkAt, extentOf, extentAt, Walkable}
 use Rattle.sample_tables.specs.Rules.{Six, emptyTogether, tablesAgree, Seven}
-use Rattle.sample_tables.proofs.Runs.{rising}
+use Rattle.sample_tables.proofs.Runs.{rising, filled}
 
 some-runs : (chunks runs n : ℕ) → emptyTogether chunks runs n ≡ true → 0 < chunks → 0 < runs
 unfolding emptyTogether
@@ -32,6 +32,7 @@ module _ (stts stsc stsz stco : List ℕ) (descriptions : ℕ) (six : Six stts s
         timely = eq-is _ _ (clause 1 _ e);
         total = eq-is _ _ (clause 3 _ e);
         walk = walkable (clause 2 _ e) (clause 4 _ e);
+        filled = filled stsc (items stco) descriptions (clause 2 _ e);
       }
 
 -- ---- `stco` is read by its count and its offsets alone

@@ -6,9 +6,9 @@ use mathlib.Core.Bool.{true, false}
 use mathlib.Core.List.{List}
 use Rattle.wire.proofs.Tests.{eq-yea, eq-nay}
 use Rattle.wire.proofs.Sums.{all-none, all-more, all-at, all-fails}
-use Rattle.wire.proofs.Clauses.{eq-is, lt-is, clause}
+use Rattle.wire.proofs.Clauses.{eq-is, lt-is, le-is, clause}
 use Rattle.sample_tables.specs.Tables.{items}
-use Rattle.sample_tables.specs.Runs.{rises, runFine, runsFine, Rising}
+use Rattle.sample_tables.specs.Runs.{rises, runFine, runsFine, Rising, Filled}
 
 module _ (stsc : List ℕ) (chunks descriptions : ℕ) where
   pub runs-none : runsFine stsc chunks descriptions 0 ≡ true
@@ -36,4 +36,13 @@ module _ (stsc : List ℕ) (chunks descriptions : ℕ) where
         rise = λ i h.
             let s : i + 1 - 1 ≡ i = omega arith in
             rw s at (lt-is _ _ (eq-nay _ _ _ _ _ (λ z. omega arith) refl ∙ rises-at (items stsc) e (i + 1) h));
+      }
+
+  -- and each has a sample and a description
+  pub filled : runsFine stsc chunks descriptions (items stsc) ≡ true → Filled stsc
+  unfolding runsFine runFine
+  filled e =
+      record {
+        samples = λ i h. le-is _ _ (clause 2 _ (all-at (runFine stsc chunks descriptions) (items stsc) e i h));
+        described = λ i h. le-is _ _ (clause 3 _ (all-at (runFine stsc chunks descriptions) (items stsc) e i h));
       }

@@ -5,10 +5,10 @@ use native.Mathlib.Numerals.{add-one}
 use mathlib.Core.Path.{_≡_, refl, sym, ap, _∙_}
 use mathlib.Core.List.{List}
 use lib.ListN.{length}
-use Rattle.wire.specs.Numbers.{word}
-use Rattle.wire.proofs.Numbers.{word-out}
-use Rattle.wire.proofs.Tests.{eq-yea, eq-nay, lt-or}
-use Rattle.wire.proofs.Sums.{sum-none, sum-more, sum-mono, sum-flat, sum-level}
+use Rattle.wire.specs.Numbers.{word, Bytes}
+use Rattle.wire.proofs.Numbers.{word-out, word-most}
+use Rattle.wire.proofs.Tests.{eq-or, eq-yea, eq-nay, lt-or}
+use Rattle.wire.proofs.Sums.{sum-none, sum-more, sum-mono, sum-flat, sum-level, sum-at-most}
 use Rattle.sample_tables.specs.Sizes.{common, sampleCount, sizesListed, Sizes, sizeAt, bytesFrom, fourAt}
 
 pub bytes-none : (stsz : List ℕ) (first : ℕ) → 0 ≡ bytesFrom stsz first 0
@@ -39,6 +39,13 @@ bytes-join stsz first i (suc j) =
       rw a at
           (bytes-more stsz (first + i) j),
     ))
+
+-- they fit: a size is at most the largest of four bytes
+pub bytes-fit : (stsz : List ℕ) → Bytes stsz → (first n : ℕ) → bytesFrom stsz first n ≤ n * 4294967295
+unfolding bytesFrom sizeAt
+bytes-fit stsz b first n =
+    sum-at-most (λ j. sizeAt stsz (first + j)) 4294967295 n
+    (λ j. eq-or (common stsz) 0 (λ e. rw (← eq-yea _ _ _ _ _ e refl) (word-most _ _ b)) (λ e. rw (← eq-nay _ _ _ _ _ e refl) (word-most _ _ b)))
 
 -- with a common size by one product
 pub bytes-common : (stsz : List ℕ) (first n : ℕ) {one : ℕ} → one ≡ common stsz → (one ≡ 0 → ⊥) → n * one ≡ bytesFrom stsz first n

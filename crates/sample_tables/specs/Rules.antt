@@ -8,7 +8,7 @@ use Rattle.wire.specs.Clauses.{isEq, isLe, every}
 use Rattle.sample_tables.specs.Tables.{items, Table}
 use Rattle.sample_tables.specs.Times.{timed}
 use Rattle.sample_tables.specs.Sizes.{sampleCount, Sizes}
-use Rattle.sample_tables.specs.Runs.{runsFine}
+use Rattle.sample_tables.specs.Runs.{runsFine, Filled}
 use Rattle.sample_tables.specs.Chunks.{samplesOver, Walkable}
 
 -- rule 6: the four tables have their forms
@@ -33,9 +33,10 @@ tablesAgree stts stsc stsz stco descriptions =
     ∷ emptyTogether (items stco) (items stsc) (sampleCount stsz)
     ∷ [])
 
--- what it says, past the single runs
+-- what it says
 pub record Seven (stts stsc stsz stco : List ℕ) : Type 0 where
   pub few : sampleCount stsz ≤ 65536
   pub timely : timed stts ≡ sampleCount stsz
   pub total : samplesOver stsc (items stco) ≡ sampleCount stsz
   pub walk : Walkable stsc stco
+  pub filled : Filled stsc

@@ -1,5 +1,5 @@
 -- `stsc`: runs of chunks. Each item is the number of the run's first chunk (from 1), its samples per chunk, its description index.
-use Prim.Native.Nat.{ℕ, zero, suc, _+_, _-_, _<_, min}
+use Prim.Native.Nat.{ℕ, zero, suc, _+_, _-_, _≤_, _<_, min}
 use mathlib.Core.Bool.{Bool}
 use mathlib.Core.Path.{_≡_}
 use mathlib.Core.List.{List, [], _∷_}
@@ -40,6 +40,11 @@ runsFine stsc chunks descriptions n = allTo (runFine stsc chunks descriptions) n
 pub record Rising (stsc : List ℕ) : Type 0 where
   pub one : 0 < items stsc → firstChunk stsc 0 ≡ 1
   pub rise : (i : ℕ) → i + 1 < items stsc → firstChunk stsc i < firstChunk stsc (i + 1)
+
+-- and what it finds in each run
+pub record Filled (stsc : List ℕ) : Type 0 where
+  pub samples : (i : ℕ) → i < items stsc → 1 ≤ perChunk stsc i
+  pub described : (i : ℕ) → i < items stsc → 1 ≤ description stsc i
 
 -- the run of chunk k (from 0): the last of the first n runs that starts at or before it
 unfoldable pub runAmong : List ℕ → ℕ → ℕ → ℕ

@@ -5,7 +5,7 @@ ghost use mathlib.Core.Path.{_≡_};
 ghost use Prim.Native.Nat.{_+_, _-_, _*_, _/_, _^_, _≤_, _<_, min};
 ghost use lib.ListN.{length};
 ghost use Rattle.wire.specs.Clauses.{oneIf};
-ghost use Rattle.sample_tables.specs.Sizes.{common, fourAt, sizesForm, sizesListed, sampleCount, bytesFrom, Held};
+ghost use Rattle.sample_tables.specs.Sizes.{common, fourAt, sizesForm, sizesListed, sampleCount, sizeAt, bytesFrom, Held};
 
 // The sizes that the table holds: none beside a common size.
 fn listed(stsz: &[u8]) -> usize
@@ -29,6 +29,18 @@ pub fn samples(stsz: &[u8]) -> usize
     ensures { λ r. ⌜ (r ≡ sampleCount (now (stsz .entry))) × (r < 2 ^ 32) ⌝ }
 {
     number::word32(stsz, 8)
+}
+
+// The size of sample j, from 0.
+pub fn size_at(stsz: &[u8], j: usize) -> usize
+    requires { ⌜ j < 65536 ⌝ }
+    ensures { λ r. ⌜ (r ≡ sizeAt (now (stsz .entry)) j) × (r < 2 ^ 32) ⌝ }
+{
+    let one = number::word32(stsz, 4);
+    if one != 0 {
+        return one;
+    }
+    number::word32(stsz, 12 + 4 * j)
 }
 
 // The sum of four sizes.

@@ -1,0 +1,2 @@
+// The walk by sample.
+pub mod walk;
