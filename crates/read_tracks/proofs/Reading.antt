@@ -3,7 +3,7 @@ use Prim.Native.Nat.{ℕ, zero, suc, _+_, _-_, _≤_, _<_}
 use native.Mathlib.Omega.{arith}
 use native.Mathlib.Numerals.{add-one}
 use mathlib.Core.Path.{_≡_, refl, sym, ap, _∙_}
-use mathlib.Core.Bool.{Bool}
+use mathlib.Core.Bool.{Bool, false}
 use mathlib.Core.List.{List, [], _∷_, _++_}
 use lib.ListN.{length, getD, drop, set, length-append}
 use lib.Seq.{drop-cons, set-at, sets-eq, append-snoc}
@@ -28,8 +28,10 @@ use Rattle.layout.proofs.LayingOut.{slot-at}
 use Rattle.judge.specs.Acceptance.{Meets}
 use Rattle.movie.specs.declared.MovieTicks.{MovieTicks}
 use Rattle.movie.specs.Movie.{tracks, track, sampleTable, handler, scale, movieTicks}
-use Rattle.read_tracks.specs.Tracks.{Readable}
-use Rattle.read_tracks.specs.Reads.{isTrack, mediaOf, movieOf, saidBy, numbersOf, offsetsTo, offsetsOf}
+use Rattle.read_tracks.specs.Tracks.{Readable, Numbered, NumberedAs}
+use Rattle.read_tracks.specs.declared.NumberedTrack.{NumberedTrack}
+use Rattle.read_tracks.specs.declared.NumberedTrack.the-variants as numbered
+use Rattle.read_tracks.specs.Reads.{isTrack, trackBody, mediaOf, movieOf, saidBy, numbersOf, offsetsTo, offsetsOf}
 use Rattle.read_tracks.specs.declared.said.Said.{Said}
 use Rattle.read_tracks.proofs.Accepted.{readable}
 
@@ -60,13 +62,33 @@ module _ (xs : List ℕ) (t : ℕ) where
     pub track-four : Meets xs → t - 1 < 4
     track-four m = omega (arith, track-first, track-last, tracks-few xs (m .three) .1)
 
-    -- its slot
+    -- where its boxes stand
     pub track-slot : Meets xs → {m : Movie} → LaidOut xs m → {s : Slot} → s ≡ trackSlot m (t - 1) → At xs (track xs (t - 1)) s
     track-slot m l e = rw e (slot-at l (t - 1) (track-four m))
+
+    pub track-numbered : {s : Slot} → At xs (track xs (t - 1)) s → {k : Track} → Laid xs (slotIn xs s) k → Numbered xs t k
+    track-numbered a l = record { there = was-yea _ _ z e; first = track-first; last = track-last; laid = rw (a .is) at l }
 
     -- it can be read
     pub track-readable : Meets xs → {b : List ℕ} → b ≡ track xs (t - 1) → Readable b
     track-readable m f = rw f (readable xs m (t - 1) (omega (arith, track-first, track-last)))
+
+  -- none of that number
+  pub track-none : {i : ℕ} → i ≡ oneIf (isTrack xs t) → i ≡ 0 → isTrack xs t ≡ false
+  track-none e z = was-nay _ _ z e
+
+  -- back from the answer
+  module _ (r : NumberedTrack) (a : NumberedAs xs t r) where
+    pub numbered-at : {k : Track} → r ≡ numbered.At k → Numbered xs t k
+    unfolding NumberedAs
+    numbered-at e = rw e at a
+
+    pub numbered-none : r ≡ numbered.Missing → isTrack xs t ≡ false
+    unfolding NumberedAs
+    numbered-none e = rw e at a
+
+  pub numbered-readable : Meets xs → {k : Track} → Numbered xs t k → Readable (trackBody xs t)
+  numbered-readable m n = readable xs m (t - 1) (omega (arith, n .first, n .last))
 
 -- ---- a choice that code made by the answer of a test
 
@@ -133,15 +155,15 @@ module _ (stco : List ℕ) where
   pub offsets-all : (list : List ℕ) {i n : ℕ} {mid : List ℕ} → mid ≡ offsetsTo stco i ++ drop i list → i ≡ n → n ≡ items stco → Wrote (offsetsTo stco (items stco)) list n mid
   offsets-all list e f g = record { span = g ∙ sym (length-offsets (items stco)); is = e ∙ rw (f, g) }
 
--- of a track
-module _ (d : List ℕ) {b stco : List ℕ} (f : b ≡ d) (e : stco ≡ sampleTable STCO b) where
-  pub offsets-length : {n : ℕ} → n ≡ items stco → n ≡ length (offsetsOf d)
+-- of the track with payload b
+module _ (b : List ℕ) {stco : List ℕ} (e : stco ≡ sampleTable STCO b) where
+  pub offsets-length : {n : ℕ} → n ≡ items stco → n ≡ length (offsetsOf b)
   unfolding offsetsOf
-  offsets-length g = g ∙ sym (length-offsets (sampleTable STCO d) (items (sampleTable STCO d)) ∙ rw (e, f))
+  offsets-length g = g ∙ sym (length-offsets (sampleTable STCO b) (items (sampleTable STCO b)) ∙ rw e)
 
-  pub offsets-wrote : {list after : List ℕ} {n : ℕ} → Wrote (offsetsTo stco (items stco)) list n after → Wrote (offsetsOf d) list n after
+  pub offsets-wrote : {list after : List ℕ} {n : ℕ} → Wrote (offsetsTo stco (items stco)) list n after → Wrote (offsetsOf b) list n after
   unfolding offsetsOf
-  offsets-wrote w = rw (e, f) at w
+  offsets-wrote w = rw e at w
 
 pub offsets-table : {b stco : List ℕ} → stco ≡ sampleTable STCO b → Readable b → Table 4 stco
 offsets-table e r = rw e (r .offsets)

@@ -6,6 +6,7 @@ use judge::Judgement;
 use layout::every::Tracks;
 use layout::gather;
 use layout::track;
+use layout::track::Track;
 use layout::tracks;
 use movie::MovieTicks;
 use rule::Answer;
@@ -21,6 +22,7 @@ ghost use Rattle.layout.specs.Every.{TracksAt};
 ghost use Rattle.judge.specs.Acceptance.{Meets};
 ghost use Rattle.read_tracks.specs.declared.MediaLength.the-variants as media;
 ghost use Rattle.read_tracks.specs.declared.MovieLength.the-variants as movie;
+ghost use Rattle.read_tracks.specs.Tracks.{NumberedAs};
 ghost use Rattle.read_tracks.specs.Reads.{tracksAnswer, isTrack, trackBody, mediaOf, movieOf, mediaLength, movieLength, saidBy, numbersOf, trackResult, offsetsOf, offsetsResult};
 
 // How many tracks a file has.
@@ -131,22 +133,41 @@ pub fn track(file: &[u8], track: usize, out: &mut [u64]) -> Answer
     }
 }
 
+// Where the boxes of a track stand, or no such track.
+pub enum NumberedTrack {
+    At(Track),
+    Missing,
+}
+
+// The track of a number, from 1, of a file that is accepted.
+pub fn numbered_track(file: &[u8], track: usize) -> NumberedTrack
+    requires { ⌜ Meets (now file) ⌝ }
+    ensures { λ r. ⌜ NumberedAs (now (file .entry)) track r ⌝ }
+{
+    let m = tracks::found(file);
+    if is_track(file, m.tracks, track) == 0 {
+        return NumberedTrack::Missing;
+    }
+    let trak = tracks::track_slot(m, track - 1);
+    NumberedTrack::At(track::found(file, trak))
+}
+
 // Of a file that is accepted.
 fn offsets_in(file: &[u8], track: usize, list: &mut [u32]) -> Answer
     requires { ⌜ Meets (now file) ⌝ }
     ensures { λ r. ⌜ Exact (asked ((20, isTrack (now (file .entry)) track) ∷ []) (gives (offsetsOf (trackBody (now (file .entry)) track)))) (now (list .entry)) r (now (list .exit)) ⌝ }
 {
-    let m = tracks::found(file);
-    if is_track(file, m.tracks, track) == 0 {
-        return Answer::Refused(20, 0);
+    match numbered_track(file, track) {
+        NumberedTrack::At(k) => {
+            let slot = k.stco;
+            let stco = gather::bytes(file, slot);
+            if list.len() < sample_tables::table::items(stco) {
+                return Answer::Refused(25, 0);
+            }
+            Answer::Done(offset::put(stco, list))
+        }
+        NumberedTrack::Missing => Answer::Refused(20, 0),
     }
-    let k = track::found(file, tracks::track_slot(m, track - 1));
-    let slot = k.stco;
-    let stco = gather::bytes(file, slot);
-    if list.len() < sample_tables::table::items(stco) {
-        return Answer::Refused(25, 0);
-    }
-    Answer::Done(offset::put(stco, list))
 }
 
 // The chunk offsets of a track, in order.
