@@ -34,13 +34,13 @@ module _ (k : Codec) (xs : List ℕ) (at size : ℕ) (g : good k (drop at xs) �
       let e : most - n ≡ suc (most - (n + 1)) = omega arith in
       rw (e, s, ← drop-drop (frameSize k (drop at xs)) at xs) (to-next (most - (n + 1)) k (drop at xs) g)
 
-  type-next : (h : ℕ) → h ≡ getD xs at 0 → h / 8 % 16 ≡ typeOf (take size (drop at xs))
+  pub type-next : (h : ℕ) → h ≡ getD xs at 0 → h / 8 % 16 ≡ typeOf (take size (drop at xs))
   unfolding typeOf
   type-next h e =
       let z : at + 0 ≡ at = omega arith in
       rw (getD-take size (drop at xs) 0 0 (omega (arith, size-least k (drop at xs))), getD-drop at xs 0 0, z, e)
 
-  next-inside : at ≤ length xs → at + size ≤ length xs
+  pub next-inside : at ≤ length xs → at + size ≤ length xs
   next-inside h = omega (arith, size-inside k (drop at xs) g, length-drop at xs)
 
   length-next : size ≡ length (take size (drop at xs))
