@@ -1,3 +1,4 @@
 pub mod Runs
 pub mod Examples
 pub mod OneAnswer
+pub mod Stepping

@@ -8,6 +8,8 @@ use Rattle.rule.specs.declared.Answer.{Answer}
 use Rattle.rule.specs.Results.{Result, Exact}
 use Rattle.rule.proofs.Results.{one-answer}
 use Rattle.read_tracks.specs.Reads.{trackResult, offsetsResult}
+use Rattle.read_samples.specs.Reads.{samplesResult}
+use Rattle.modes.specs.Track.{modesResult}
 use Rattle.sheet.specs.Reader.{sheetResult}
 use Rattle.sheet_table.specs.Table.{tableResult}
 use Rattle.listing.specs.Listing.{listingResult}
@@ -30,6 +32,12 @@ module _ (file : List ℕ) where
 
   pub one-offsets : (t : ℕ) → One (offsetsResult file t)
   one-offsets t = one _
+
+  pub one-samples : (t : ℕ) → One (samplesResult file t)
+  one-samples t = one _
+
+  pub one-modes : (t : ℕ) → One (modesResult file t)
+  one-modes t = one _
 
   pub one-sheet : One (sheetResult file)
   one-sheet = one _

@@ -10,6 +10,8 @@ ghost use Rattle.frames.specs.Codecs.{codecNamed};
 ghost use Rattle.rule.specs.Results.{Exact};
 ghost use Rattle.release.specs.Releases.{releaseNamed};
 ghost use Rattle.judge.specs.Judgement.{judged};
+ghost use Rattle.read_samples.specs.Reads.{samplesResult};
+ghost use Rattle.modes.specs.Track.{modesResult};
 ghost use Rattle.read_tracks.specs.Reads.{tracksAnswer, trackResult, offsetsResult};
 ghost use Rattle.sheet.specs.Reader.{sheetResult};
 ghost use Rattle.sheet_table.specs.Table.{tableResult};
@@ -99,6 +101,22 @@ pub extern "C" fn threegp_track(file: &[u8], track: u64, out: &mut [u64]) -> u64
     ensures { λ r. ⌜ ForC (trackResult (now (file .entry)) track) (now (out .entry)) r (now (out .exit)) ⌝ }
 {
     pack(read_tracks::track(file, track as usize, out))
+}
+
+// Where each sample of a track lies: its place and its length, in turn.
+#[no_mangle]
+pub extern "C" fn threegp_samples(file: &[u8], track: u64, out: &mut [u64]) -> u64
+    ensures { λ r. ⌜ ForC (samplesResult (now (file .entry)) track) (now (out .entry)) r (now (out .exit)) ⌝ }
+{
+    pack(read_samples::samples(file, track as usize, out))
+}
+
+// The first sample of a track of speech that fails, and why.
+#[no_mangle]
+pub extern "C" fn threegp_modes(file: &[u8], track: u64, out: &mut [u64]) -> u64
+    ensures { λ r. ⌜ ForC (modesResult (now (file .entry)) track) (now (out .entry)) r (now (out .exit)) ⌝ }
+{
+    pack(modes::modes(file, track as usize, out))
 }
 
 // The times of a file shifted.
