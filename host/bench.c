@@ -3,6 +3,7 @@
      bench           the time of each call, its ratio to one memcpy of the file, its growth from the next smaller length; the stack
      bench dumps     the same of files made of dumps, and of what a recorder leaves that died
      bench outlines  the same of outlines of files with many boxes
+     bench modes     the same of the samples and the modes of files of much speech
      bench chopped   judgements of files with many `mdat`s, their chunks in every order
      bench worst     one judgement of the slowest file that we know
 
@@ -28,6 +29,9 @@ enum { TEXT = 7 * LONGEST };
 static uint8_t out[TEXT], sheet[TEXT];
 static uint32_t list[LONGEST / 4];
 static uint64_t numbers[16];
+/* As many samples as a track may have, and the numbers of them. */
+enum { MOST_SAMPLES = 65536 };
+static uint64_t places[2 * MOST_SAMPLES];
 static size_t sheet_length;
 static bool grows; /* a replacement makes the file longer */
 
@@ -48,6 +52,9 @@ static uint64_t call_newer(void) { return threegp_newer(file, length, 60, file, 
 static uint64_t call_shift(void) { return threegp_shift(file, length, 60, out, LONGEST); }
 static uint64_t call_move(void) { return threegp_move(file, length, out, LONGEST); }
 static uint64_t call_outline(void) { return threegp_outline(file, length, out, TEXT); }
+static uint64_t call_samples(void) { return threegp_samples(file, length, 1, places, 2 * MOST_SAMPLES); }
+/* Of the files of shapes.h the first sample fails: it isn't of whole frames. */
+static uint64_t call_modes(void) { return threegp_modes(file, length, 1, numbers, 16); }
 static uint64_t call_table(void) { return threegp_table(sheet, sheet_length, 1, out, LONGEST); }
 static uint64_t call_record_read(void) { return threegp_record_read(sheet + (sheet[0] == 1 ? 100 : 388), 53, 6, numbers, 16); }
 static uint64_t call_record_write(void) { return threegp_record_write(fields, 11, 6, out, LONGEST); }
@@ -58,17 +65,17 @@ static uint64_t call_replace(void)
                  : threegp_replace(file, length, 1, damr, sizeof damr, out, LONGEST);
 }
 
-/* The first TIMED take a file and are timed, OUTLINE is the last of these; the stack is measured of all but memcpy. */
+/* The first TIMED take a file and are timed, the last of these are OUTLINE and those of samples; the stack is measured of all but memcpy. */
 static const struct call {
     const char *name;
     uint64_t (*make)(void);
 } calls[] = {
     {"`memcpy`", call_memcpy}, {"judge", call_judge}, {"tracks", call_tracks}, {"track", call_track}, {"brand", call_brand},
     {"offsets", call_offsets}, {"listing", call_listing}, {"sheet", call_sheet}, {"newer", call_newer}, {"shift", call_shift},
-    {"replace", call_replace}, {"move", call_move}, {"outline", call_outline}, {"table", call_table},
-    {"record_read", call_record_read}, {"record_write", call_record_write},
+    {"replace", call_replace}, {"move", call_move}, {"outline", call_outline}, {"samples", call_samples},
+    {"modes", call_modes}, {"table", call_table}, {"record_read", call_record_read}, {"record_write", call_record_write},
 };
-enum { CALLS = sizeof calls / sizeof *calls, TIMED = CALLS - 3, OUTLINE = TIMED - 1 };
+enum { CALLS = sizeof calls / sizeof *calls, TIMED = CALLS - 3, OUTLINE = TIMED - 3, SAMPLES, MODES };
 
 static void check(const char *name, uint64_t answer)
 {
@@ -409,6 +416,76 @@ static void measure_outlines(void)
     fflush(stdout);
 }
 
+/* ---- Samples and modes */
+
+/* Zeros are frames of type 0, so long in AMR. */
+enum { FRAME = 13 };
+
+/* One track of speech in one chunk, as long as fits: a frame in each sample, or all of them in one. Answers how many frames it has. */
+static size_t build_speech(bool one, size_t limit)
+{
+    struct plan plan = {.mdats = 1, .tracks = 1, .chunks = 1, .samples = 1, .bytes = FRAME};
+    build(&plan, 0);
+    size_t count = 1 + (limit - length) / FRAME;
+    count = one || count < MOST_SAMPLES ? count : MOST_SAMPLES;
+    *(one ? &plan.bytes : &plan.samples) *= count;
+    build(&plan, 0);
+    return count;
+}
+
+static const struct speech {
+    const char *name;
+    bool one;
+    size_t call;
+} speeches[] = {
+    {"samples, of a frame each", false, SAMPLES},
+    {"modes, of a frame each", false, MODES},
+    {"samples, one of all frames", true, SAMPLES},
+    {"modes, one of all frames", true, MODES},
+};
+enum { SPEECHES = sizeof speeches / sizeof *speeches };
+
+/* Every sample has to be found; those of one frame pass, and one of many has a wrong count. */
+static void check_speech(const struct speech *speech, size_t frames)
+{
+    size_t samples = speech->one ? 1 : frames;
+    uint64_t found = call_samples(), heard = call_modes();
+    check(speech->name, found);
+    check(speech->name, heard);
+    bool all = threegp_value(found) == 2 * samples && places[2 * samples - 2] == places[0] + (samples - 1) * FRAME;
+    if (all && (speech->one ? threegp_value(heard) == 2 && numbers[0] == 1 && numbers[1] == 2 : threegp_value(heard) == 0))
+        return;
+    fprintf(stderr, "bench: %s: another answer\n", speech->name);
+    exit(1);
+}
+
+static void measure_speech(const struct speech *speech, struct time *times, struct time *copies, size_t *frames)
+{
+    for (size_t k = 0; k < LENGTHS; k++) {
+        frames[k] = build_speech(speech->one, lengths[k]);
+        check_speech(speech, frames[k]);
+        times[k] = time_call(calls[speech->call].make);
+        copies[k] = time_call(call_memcpy);
+        size_t taken = touched(calls[speech->call].make) - touched(call_nothing);
+        most[speech->call] = taken > most[speech->call] ? taken : most[speech->call];
+    }
+}
+
+static void measure_modes(void)
+{
+    struct time times[SPEECHES][LENGTHS], copies[SPEECHES][LENGTHS];
+    size_t frames[SPEECHES][LENGTHS];
+    for (size_t k = 0; k < SPEECHES; k++)
+        measure_speech(&speeches[k], times[k], copies[k], frames[k]);
+    printf("\n**Speech**, by the length of the file: %zu, %zu and %zu samples of a frame each; one sample of %zu, %zu and %zu frames",
+           frames[0][0], frames[0][1], frames[0][2], frames[SPEECHES - 1][0], frames[SPEECHES - 1][1], frames[SPEECHES - 1][2]);
+    printf("\n\n| call | 4 KiB | ratio | 64 KiB | ratio | growth | 1 MiB | ratio | growth |\n|---|--:|--:|--:|--:|--:|--:|--:|--:|\n");
+    print_row("`memcpy`", copies[0], copies[0]);
+    for (size_t k = 0; k < SPEECHES; k++)
+        print_row(speeches[k].name, times[k], copies[k]);
+    fflush(stdout);
+}
+
 static void print_stack(void)
 {
     printf("\n**Stack**: the most bytes over all these files\n\n| call | bytes |\n|---|--:|\n");
@@ -473,14 +550,20 @@ int main(int count, char **words)
         printf("\nStack: %s %zu\n", calls[OUTLINE].name, most[OUTLINE]);
         return 0;
     }
+    if (count == 2 && strcmp(words[1], "modes") == 0) {
+        measure_modes();
+        printf("\nStack: %s %zu, %s %zu\n", calls[SAMPLES].name, most[SAMPLES], calls[MODES].name, most[MODES]);
+        return 0;
+    }
     if (count != 1) {
-        fprintf(stderr, "bench, bench dumps, bench outlines, bench chopped, or bench worst\n");
+        fprintf(stderr, "bench, bench dumps, bench outlines, bench modes, bench chopped, or bench worst\n");
         return 1;
     }
     for (size_t k = 0; k < SHAPES; k++)
         measure_shape(&shapes[k]);
     measure_dumps();
     measure_outlines();
+    measure_modes();
     print_stack();
     return 0;
 }

@@ -88,6 +88,7 @@ struct plan {
     size_t outside, between, inside; /* empty boxes before the first `mdat`, between any two, and in `moov` before the tracks */
     size_t mdats, tracks;
     size_t chunks, samples; /* of a track, of a chunk */
+    size_t bytes;           /* of a sample; 0: SAMPLE */
     size_t turns;           /* of an `mdat`; 0: as the chunks are spread over all of them */
     size_t entries;         /* of the last kind of track; 0: as many as the kind says */
     enum order order;
@@ -113,6 +114,11 @@ static const struct {
 };
 enum { KINDS = sizeof kinds / sizeof *kinds };
 
+static size_t bytes_of(const struct plan *plan)
+{
+    return plan->bytes != 0 ? plan->bytes : SAMPLE;
+}
+
 static size_t turns_of(const struct plan *plan)
 {
     return plan->same ? 1 : plan->turns != 0 ? plan->turns : plan->chunks / plan->mdats;
@@ -136,7 +142,7 @@ static size_t turn_of(const struct plan *plan, size_t chunk)
 static size_t chunk_place(const struct plan *plan, size_t payload, size_t track, size_t chunk)
 {
     size_t turn = turn_of(plan, chunk);
-    return payload + (turn * plan->tracks + track) * plan->samples * SAMPLE + turn / turns_of(plan) * 8 * (1 + plan->between);
+    return payload + (turn * plan->tracks + track) * plan->samples * bytes_of(plan) + turn / turns_of(plan) * 8 * (1 + plan->between);
 }
 
 static void put_entries(const struct plan *plan, size_t track)
@@ -157,9 +163,9 @@ static void put_tables(const struct plan *plan, size_t payload, size_t track)
     put_entries(plan, track);
     close_box(OPEN_TABLE("stts", 0, 1, samples, 160));
     close_box(OPEN_TABLE("stsc", 0, 1, 1, plan->samples, 1));
-    size_t table = OPEN_TABLE("stsz", 0, plan->listed ? 0 : SAMPLE, samples);
+    size_t table = OPEN_TABLE("stsz", 0, plan->listed ? 0 : bytes_of(plan), samples);
     for (size_t k = 0; plan->listed && k < samples; k++)
-        put(SAMPLE, 4);
+        put(bytes_of(plan), 4);
     close_box(table);
     table = OPEN_TABLE("stco", 0, plan->chunks);
     for (size_t chunk = 0; chunk < plan->chunks; chunk++)
@@ -210,7 +216,7 @@ static size_t put_media(const struct plan *plan, size_t spare)
         if (left != plan->mdats)
             put_empties(plan->between);
         size_t start = open_box("mdat");
-        put_zeros(turns_of(plan) * plan->tracks * plan->samples * SAMPLE + (left == 1 ? spare : 0));
+        put_zeros(turns_of(plan) * plan->tracks * plan->samples * bytes_of(plan) + (left == 1 ? spare : 0));
         close_box(start);
     }
     return payload;

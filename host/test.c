@@ -20,7 +20,7 @@
 /* The kinds of calls, by their numbers in the data. PART is threegp_newer too: the bytes of the entry that it finds. */
 enum kind {
     JUDGE = 1, TRACKS, BRAND, TRACK, RECORD_READ, NEWER, OFFSETS, PART,
-    SHEET, TABLE, RECORD_WRITE, LISTING, SHIFT, REPLACE, MOVE, FROM_AMR, SALVAGE, OUTLINE
+    SHEET, TABLE, RECORD_WRITE, LISTING, SHIFT, REPLACE, MOVE, FROM_AMR, SALVAGE, OUTLINE, SAMPLES, MODES
 };
 
 struct bytes {
@@ -158,6 +158,15 @@ static void put_list_sum(const uint32_t *list, size_t length)
     printf(" sum %u", sum);
 }
 
+/* The sum of both halves of each number. */
+static void put_halves_sum(const uint64_t *numbers, size_t count)
+{
+    uint32_t sum = 7;
+    for (size_t k = 0; k < count; k++)
+        sum = mix(mix(sum, (uint32_t)(numbers[k] >> 32)), (uint32_t)numbers[k]);
+    printf(" sum %u", sum);
+}
+
 /* ---- The data: numbers with their highest byte first, parts behind their lengths */
 
 /* Takes so many bytes from the front of what is left. */
@@ -232,17 +241,29 @@ static uint64_t play_part(struct bytes file, const struct call *call)
     return answer;
 }
 
+static uint64_t ask_numbers(struct bytes file, const struct call *call, uint64_t *out)
+{
+    if (call->kind == NEWER)
+        return newer(file, call, out, call->room);
+    const uint8_t *at = lay(first_input, file);
+    switch (call->kind) {
+    case TRACK: return threegp_track(at, file.length, call->numbers[0], out, call->room);
+    case SAMPLES: return threegp_samples(at, file.length, call->numbers[0], out, call->room);
+    case MODES: return threegp_modes(at, file.length, call->numbers[0], out, call->room);
+    default: return threegp_record_read(at, file.length, call->numbers[0], out, call->room);
+    }
+}
+
+/* A room of up to 16 numbers is written whole, of a longer one the sum. */
 static uint64_t play_numbers(struct bytes file, const struct call *call)
 {
-    uint64_t answer, *out = lend(&output, call->room * sizeof *out);
-    if (call->kind == NEWER)
-        answer = newer(file, call, out, call->room);
-    else if (call->kind == TRACK)
-        answer = threegp_track(lay(first_input, file), file.length, call->numbers[0], out, call->room);
-    else
-        answer = threegp_record_read(lay(first_input, file), file.length, call->numbers[0], out, call->room);
+    uint64_t *out = lend(&output, call->room * sizeof *out);
+    uint64_t answer = ask_numbers(file, call, out);
     put_answer(answer);
-    put_numbers(out, call->room);
+    if (call->room <= 16)
+        put_numbers(out, call->room);
+    else
+        put_halves_sum(out, call->room);
     return answer;
 }
 
@@ -318,7 +339,7 @@ static uint64_t play_kind(struct bytes file, const struct call *call)
 {
     switch (call->kind) {
     case JUDGE: case TRACKS: case BRAND: return play_plain(file, call);
-    case TRACK: case RECORD_READ: case NEWER: return play_numbers(file, call);
+    case TRACK: case RECORD_READ: case NEWER: case SAMPLES: case MODES: return play_numbers(file, call);
     case OFFSETS: return play_offsets(file, call);
     case PART: return play_part(file, call);
     case SALVAGE: return play_salvage(file, call);
@@ -353,13 +374,15 @@ static const struct {
     [FROM_AMR] = {"from_amr", "0 40 41 42 24 25"},
     [SALVAGE] = {"salvage", "0 1 60 61 24 25"},
     [OUTLINE] = {"outline", "0 1 25"},
+    [SAMPLES] = {"samples", "0" RULES " 20 25"},
+    [MODES] = {"modes", "0" RULES " 20 25"},
 };
 
-static bool given[OUTLINE + 1][523];
+static bool given[MODES + 1][523];
 
 static void check_given(void)
 {
-    for (size_t kind = JUDGE; kind <= OUTLINE; kind++) {
+    for (size_t kind = JUDGE; kind <= MODES; kind++) {
         const char *next = functions[kind].numbers;
         while (*next != 0) {
             unsigned long number = strtoul(next, (char **)&next, 10);

@@ -501,6 +501,54 @@ def outline(file):
     return outline_of_list(file, 0, 1)
 
 
+# ---- Samples, and the modes of speech
+
+
+def samples_in(trak):
+    """(place, length, description) of each sample in turn, descriptions from 1."""
+    stbl = trak.one("mdia/minf/stbl")
+    runs, left = files.rows(stbl.one("stsc").payload, 3), iter(files.sizes(stbl.one("stsz").payload))
+    for chunk, (at,) in enumerate(files.rows(stbl.one("stco").payload, 1), 1):
+        _, count, description = [run for run in runs if run[0] <= chunk][-1]
+        for size in islice(left, count):
+            yield at, size, description
+            at += size
+
+
+def samples(file, track):
+    """The place and the length of each sample in turn."""
+    return [n for place, size, _ in samples_in(named_track(parsed(file), track)) for n in (place, size)]
+
+
+BY_CODE = {codec.code: codec for codec in (AMR, WIDEBAND)}
+BAD_FRAME, WRONG_COUNT, BIT_NOT_SET = 1, 2, 3
+
+
+def failing(sample, entry, last):
+    """Why a sample of this description fails, or None; the last of its track may have fewer frames."""
+    codec, mode_set, most = BY_CODE[entry[4:8].decode()], num(entry, 49, 2), entry[52]
+    frames = list(good_frames(sample, 0, codec))
+    if sum(map(len, frames)) < len(sample):
+        return BAD_FRAME
+    if not (1 if last else most) <= len(frames) <= most:
+        return WRONG_COUNT
+    if any(not mode_set >> kind & 1 for kind in {type_of(frame[0]) for frame in frames} - {14}):
+        return BIT_NOT_SET
+
+
+def modes(file, track):
+    """The first sample that fails and why; nothing where none does."""
+    top = parsed(file)
+    found = list(samples_in(named_track(top, track)))
+    described = [(code, entry) for number, code, _, entry in entries_in(top) if number == track]
+    ask(all(code in BY_CODE for code, _ in described), 20)
+    for number, (place, size, description) in enumerate(found, 1):
+        why = failing(file[place : place + size], described[description - 1][1], number == len(found))
+        if why:
+            return [number, why]
+    return []
+
+
 def fit(result, room):
     ask(len(result) <= room, 25)
     return result

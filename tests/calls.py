@@ -10,6 +10,7 @@ import cases
 import dumps
 import files
 import forms
+import modes
 import outlines
 import salvages
 from files import Box, audio, bitr, d263, damr, esds, h, num, patch, visual, w
@@ -25,12 +26,15 @@ PLAIN = ["judge", "tracks", "brand"]
 NUMBERS = ["track", "record read", "newer"]
 BYTES = ["sheet", "table", "record write", "listing", "shift", "replace", "move", "from amr", "salvage", "outline"]
 # by the numbers that the program has for them, from 1
-KINDS = [*PLAIN, *NUMBERS, "offsets", "part", *BYTES]
+KINDS = [*PLAIN, *NUMBERS, "offsets", "part", *BYTES, "samples", "modes"]
 # by the numbers that the program has for them, from 0
 MINUTES = [0, 1, -1, 60, -60, 61, -61, 839, -839, 840, -840, 841, -841, 71582788, -71582788, 2**63 - 1, -(2**63)]
 MINUTES += [2, -2, 2**32, -(2**32)]
 HUGE = [2**32, 2**32 + 1, 2**63, 2**64 - 1]
 NUMBER_FILL = 0xAAAAAAAAAAAAAAAA
+# a room of so many numbers is shown, of a longer one its sum
+SHOWN_NUMBERS = 16
+MOST_NUMBERS = 131080
 
 
 # ---- What the program writes of a call
@@ -87,6 +91,13 @@ def line_both(call, room, numbers):
 def line_list(call, room):
     text, result = told(lambda: answers.fit(call(), room))
     return text + " sum %d" % checksum(((result or []) + [0xAAAAAAAA] * 200)[:200])
+
+
+def line_long_numbers(call, room):
+    """The sum is that of both halves of each number."""
+    text, result = told(lambda: answers.fit(call(), room))
+    numbers = (result or []) + [NUMBER_FILL] * (room - len(result or []))
+    return text + " sum %d" % checksum(half for n in numbers for half in (n >> 32, n % 2**32))
 
 
 def line_part(call, files_given):
@@ -169,6 +180,16 @@ def outline(label, file, room, shown=0):
     if shown:
         line += "\n" + answers.outline(file).decode()
     return "outline", "outline %s room %d" % (label, room), room, (shown,), b"", line
+
+
+def samples(label, file, number, room):
+    line = (line_numbers if room <= SHOWN_NUMBERS else line_long_numbers)(lambda: answers.samples(file, number), room)
+    return "samples", "samples %d of %s room %d" % (number, label, room), room, (number,), b"", line
+
+
+def listen(label, file, number, room):
+    line = line_numbers(lambda: answers.modes(file, number), room)
+    return "modes", "modes %d of %s room %d" % (number, label, room), room, (number,), b"", line
 
 
 def replace(label, file, entry, what, record, room):
@@ -1232,6 +1253,93 @@ def long_outline_groups():
         yield start, length, outline_calls(name, start.ljust(length, b"\0"))
 
 
+# ---- Samples and modes
+
+
+# these are lent rooms of every length
+HEARD = ("amr-type-0-quality-0", "amr-type-0-no-bits", "wideband-257-frames-of-1-middle", "codecs-wideband-in-amr", "empty-chunks")
+HEARD += ("runs-one-in-many", "most-samples-last", "no-samples-amr", "all-kinds")
+
+
+def track_calls(label, file, number, numbers, wanted):
+    """With as much room as each needs; what is refused is lent some."""
+    return [listen(label, file, number, 2 if wanted == modes.NONE else len(wanted)), samples(label, file, number, len(numbers))]
+
+
+def room_calls(label, file, number, numbers):
+    for room in (0, 1, 2, 3, SHOWN_NUMBERS):
+        yield listen(label, file, number, room)
+    for room in sorted({0, 1, 2, 3, SHOWN_NUMBERS, max(len(numbers) - 1, 0), len(numbers), len(numbers) + 5}):
+        yield samples(label, file, number, room)
+
+
+def no_track_calls(label, file):
+    """Tracks that aren't there, with room and with none."""
+    for number in (0, answers.tracks(file) + 1, 5, 255, 256, *HUGE):
+        for room in (0, SHOWN_NUMBERS):
+            yield from (listen(label, file, number, room), samples(label, file, number, room))
+
+
+def heard_calls(label, file, tracks, walked):
+    for number, (numbers, wanted) in enumerate(tracks, 1):
+        yield from track_calls(label, file, number, numbers, wanted)[: 2 if walked else 1]
+        if label in HEARD:
+            yield from room_calls(label, file, number, numbers)
+    if label in ("amr-type-0-no-bits", "all-kinds"):
+        yield from no_track_calls(label, file)
+
+
+def all_heard(label, file):
+    """Each track of a file that was not made for this."""
+    for number in range(1, answers.tracks(file) + 1):
+        yield listen(label, file, number, 2)
+        yield samples(label, file, number, len(answers.samples(file, number)))
+
+
+def heard_elsewhere():
+    """(name, file) of the other tests: films, files of wide and open boxes, real ones, and those that were made of frames."""
+    yield from list(all_films())[::3]
+    yield from list(plain_files())
+    yield from list(formed_films())[::4]
+    for path in sorted(REAL.glob("*.3gp")):
+        if files.judge(path.read_bytes()) == (0, 0):
+            yield path.stem, path.read_bytes()
+    for name, given, _ in dumps.cases():
+        if name[2:] in RESULTS:
+            yield "speech-" + name[2:], answers.from_amr(given)
+    for name, wideband, file, _ in salvages.cases():
+        if name in ROOMED:
+            yield "saved-" + name[2:], saved(file, wideband)
+
+
+def heard_refused():
+    """(name, file) of files that are refused by each rule, real ones too."""
+    seen = {}
+    for name, parts, _ in [*files.cases(), *forms.cases()]:
+        number = name.split("-")[0]
+        seen[number] = seen.get(number, 0) + 1
+        if number != "0" and seen[number] % 60 == 1:
+            yield name, files.build(parts)
+    for path in sorted(REAL.glob("*.3gp")):
+        if files.judge(path.read_bytes()) != (0, 0):
+            yield path.stem, path.read_bytes()
+
+
+def heard_groups():
+    """(start, whole length, calls)."""
+    for name, file, tracks, walked in modes.cases():
+        yield file, len(file), heard_calls(name, file, tracks, walked)
+    for label, file in heard_elsewhere():
+        yield file, len(file), all_heard(label, file)
+    for label, file in heard_refused():
+        calls = [call(label, file, *lent) for call in (listen, samples) for lent in ((1, SHOWN_NUMBERS), (0, 0))]
+        yield file, len(file), calls
+    for name, file, tracks in modes.long_cases():
+        yield file.rstrip(b"\0"), len(file), heard_calls(name, file, tracks, True)
+    for label, length in (("zeros-over", files.LONGEST + 1), ("zeros-longest", files.LONGEST)):
+        yield b"", length, [call(label, bytes(length), 1, 2) for call in (listen, samples)]
+
+
 def short_groups():
     """(a file, the calls on it)."""
     yield from plain_groups()
@@ -1339,7 +1447,8 @@ def behind_length(data):
 
 def packed(call):
     kind, name, room, numbers, more, _ = call
-    assert len(name) < 256 and room <= LONG_ROOM, name
+    most = {"samples": MOST_NUMBERS, "modes": SHOWN_NUMBERS}.get(kind, LONG_ROOM)
+    assert len(name) < 256 and room <= most, name
     start = bytes([1 + KINDS.index(kind)]) + w(room)
     for n in (tuple(numbers) + (0, 0, 0))[:3]:
         start += n.to_bytes(8, "big")
@@ -1357,6 +1466,7 @@ def all_groups():
     yield from long_dump_groups()
     yield from long_salvage_groups()
     yield from long_outline_groups()
+    yield from heard_groups()
 
 
 def fresh(start, length, calls, seen):
@@ -1384,7 +1494,9 @@ def check_reader():
     dumps.check()
     salvages.check()
     outlines.check()
+    modes.check()
     assert {*LENT, *SHOWN} <= {name for name, _, _ in outlines.cases()}
+    assert {*HEARD} <= {case[0] for case in [*modes.cases(), *modes.long_cases()]}
     example = b"file 0\ntrack 1 soun 160/8000\nentry 1 track 1 samr place 397 size 53\n"
     example += b"brand 3gp4 no\nbrand 3gp5 no\nbrand 3gp6 yes\nbrand 3gr6 no\n"
     assert answers.listing(files.build(files.movie(files.trak()))) == example

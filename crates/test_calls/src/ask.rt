@@ -33,6 +33,8 @@ pub fn numbers(file: &[u8], call: &[u8], out: &mut [u64]) -> u64 {
     match call::kind(call) {
         4 => threegp::threegp_track(file, call::first(call) as u64, out),
         5 => threegp::threegp_record_read(file, call::first(call) as u64, out),
+        19 => threegp::threegp_samples(file, call::first(call) as u64, out),
+        20 => threegp::threegp_modes(file, call::first(call) as u64, out),
         _ => newer(file, call, out),
     }
 }

@@ -73,3 +73,22 @@ pub fn sum_numbers(list: &[u32]) {
     }
     say(b" sum ", sum);
 }
+
+// A running sum with both halves of a number more.
+fn mix_halves(sum: u64, n: u64) -> u64
+    requires { ⌜ sum < 2147483648 ⌝ }
+    ensures { λ r. ⌜ r < 2147483648 ⌝ }
+{
+    mix(mix(sum, n / 4294967296), n % 4294967296)
+}
+
+// All numbers of a list in one, both halves of each.
+pub fn sum_halves(list: &[u64]) {
+    let mut sum = 7;
+    let mut at = 0;
+    while at < list.len() {
+        sum = mix_halves(sum, list[at]);
+        at = at + 1;
+    }
+    say(b" sum ", sum);
+}

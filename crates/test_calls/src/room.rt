@@ -8,6 +8,12 @@ use wire::number;
 // The longest room but for the files of a megabyte.
 const SHORT: usize = 40000;
 
+// The longest room whose numbers are all written.
+const SHOWN: usize = 16;
+
+// The longest room of numbers but for a track of many samples.
+const FEW: usize = 400;
+
 fn numbers(file: &[u8], call: &[u8]) {
     let mut list = [0xAAAAAAAAAAAAAAAAu64; 16];
     let all: &mut [u64] = &mut list;
@@ -15,6 +21,41 @@ fn numbers(file: &[u8], call: &[u8]) {
     print::answer(ask::numbers(file, call, &mut all[0..n]));
     let written = &all[..];
     print::all(&written[0..n]);
+}
+
+// The sum of the numbers, where there are more.
+fn sum_numbers(file: &[u8], call: &[u8], all: &mut [u64]) {
+    let n = number::least(call::asked(call), all.len());
+    print::answer(ask::numbers(file, call, &mut all[0..n]));
+    let written = &all[..];
+    print::sum_halves(&written[0..n]);
+}
+
+fn few_numbers(file: &[u8], call: &[u8]) {
+    let mut list = [0xAAAAAAAAAAAAAAAAu64; 400];
+    sum_numbers(file, call, &mut list);
+}
+
+fn fresh_numbers() -> [u64; 131080] {
+    [0xAAAAAAAAAAAAAAAA; 131080]
+}
+
+fn many_numbers(file: &[u8], call: &[u8]) {
+    let mut list = fresh_numbers();
+    sum_numbers(file, call, &mut list);
+}
+
+fn samples(file: &[u8], call: &[u8]) {
+    let n = call::asked(call);
+    if n <= SHOWN {
+        numbers(file, call);
+        return;
+    }
+    if n <= FEW {
+        few_numbers(file, call);
+        return;
+    }
+    many_numbers(file, call);
 }
 
 fn offsets(file: &[u8], call: &[u8]) {
@@ -106,9 +147,10 @@ fn long(file: &[u8], call: &[u8]) {
 fn make_kind(kind: usize, file: &[u8], call: &[u8]) {
     match kind {
         1 | 2 | 3 => print::answer(ask::numbered(file, call)),
-        4 | 5 | 6 => numbers(file, call),
+        4 | 5 | 6 | 20 => numbers(file, call),
         7 => offsets(file, call),
         8 => part(file, call),
+        19 => samples(file, call),
         _ => {
             if call::asked(call) <= SHORT {
                 short(file, call);
