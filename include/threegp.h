@@ -73,6 +73,18 @@ uint64_t threegp_brand(const uint8_t *file, size_t length, uint32_t code);
    Refusals: 1 to 10, 20, 25. Stack: 19184. */
 uint64_t threegp_offsets(const uint8_t *file, size_t length, uint64_t track, uint32_t *list, size_t room);
 
+/* The samples of a track (from 1) in order: out[2k] and out[2k + 1] are the place and the length of sample k + 1. Value: how many numbers these are;
+   131,072 suffice, since a track has at most 65,536 samples.
+   Refusals: 1 to 10, 20, 25. Stack: 19200. */
+uint64_t threegp_samples(const uint8_t *file, size_t length, uint64_t track, uint64_t *out, size_t room);
+
+/* The first sample of a track (from 1) of AMR or wideband AMR that isn't as its description says: out[0] is its number (from 1), out[1] why. Asked in turn are
+   1, a bad frame: one with a padding bit set, of an unknown type or cut short; 2, a wrong count of frames: none, more than frames_per_sample, or, but for
+   the track's last sample, fewer; 3, a frame of a type t whose bit, 2^t of mode_set, is not set, but for type 14. Value: 2, or 0 where every sample passes.
+   docs/MODES.md has more.
+   Refusals: 1 to 10, 20 (also where an entry of the track is no `samr` or `sawb`), 25 (a sample fails, and out has fewer than 2 numbers). Stack: 19376. */
+uint64_t threegp_modes(const uint8_t *file, size_t length, uint64_t track, uint64_t *out, size_t room);
+
 /* The sheet of the file's sample entries, which is of edition 1, with 8 slots, where there are at most 8 of them, and else of edition 2, with 32.
    Byte 0 is the edition, byte 1 the count of entries, bytes 2 and 3 are 0; then the slots of 12 bytes, one for each entry in file order: its kind
    (0 other, 1 mp4v, 2 mp4a, 3 samr, 4 sawb, 5 s263, 6 avc1), its track from 1, two zeros, its place in the file (4 bytes) and its length (4);

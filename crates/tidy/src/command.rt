@@ -28,6 +28,14 @@ fn shift() -> usize {
     with_files(Job::Make(Edit::Shift(z.value)), 3, 4)
 }
 
+fn modes() -> usize {
+    let track = parse::argument(2);
+    if track.fault != parse::NOTHING {
+        return tell::FAILED;
+    }
+    with_files(Job::Modes(track.value as usize), 3, 4)
+}
+
 fn table() -> usize {
     let track = parse::argument(2);
     if track.fault != parse::NOTHING {
@@ -92,6 +100,9 @@ fn by_short(word: &[u8], number: usize, count: usize) -> usize {
     }
     if number == word::OUTLINE && count == 3 {
         return with_files(Job::Outline, 2, 3);
+    }
+    if number == word::MODES && count == 4 {
+        return modes();
     }
     if number == word::MOVE && count == 4 {
         return with_files(Job::Make(Edit::Move), 2, 3);

@@ -1,5 +1,6 @@
 // What is done with one file, once it is read.
 use crate::list;
+use crate::speech;
 use frames::codec::Codec;
 use tidy_edits::edit;
 use tidy_edits::edit::Edit;
@@ -13,6 +14,7 @@ use wire::lend;
 pub enum Job {
     List,
     Outline,
+    Modes(usize),
     Make(Edit),
     Table(usize),
     Dump,
@@ -41,6 +43,7 @@ fn apply(job: Job, from: &[u8], file: &[u8], to: &[u8]) -> usize {
     match job {
         Job::List => list::run(file),
         Job::Outline => list::outline(file),
+        Job::Modes(track) => speech::run(file, track),
         Job::Make(edit) => edit::run(edit, file, to),
         Job::Table(track) => table(track, from, file, to),
         Job::Dump => dump(from, file, to),

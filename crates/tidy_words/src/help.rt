@@ -12,6 +12,7 @@ fn put_edits(to: i32) -> usize {
         b"\
         tidy list FILE                             what the file holds\n\
         tidy outline FILE                          every box of the file: its code, place, size and depth\n\
+        tidy modes T FILE                          whether the frames of track T are as its descriptions say\n\
         tidy shift MINUTES FILE OUT                every time less so many minutes\n\
         tidy move FILE OUT                         moov right after ftyp\n",
     )
@@ -46,7 +47,7 @@ fn put_all(to: i32) -> usize {
     put_others(to)
 }
 
-// More on the first five words.
+// More on the first six words.
 fn put_first(to: i32, number: usize) -> usize {
     match number {
         word::LIST => print(
@@ -65,6 +66,17 @@ fn put_first(to: i32, number: usize) -> usize {
             Where a box doesn't fit, the line is broken and its place; its list ends there, and the list around it goes on.\n\
             A file that list refuses has an outline too, and the exit status is 0: an outline doesn't judge.\n\
             A file of less than 8 bytes is refused; one of more than 65536 bytes is too long here.\n",
+        ),
+        word::MODES => print(
+            to,
+            b"\
+            tidy modes T FILE\n\
+            Goes through the samples of track T, counted from 1, which has AMR or wideband AMR alone (samr, sawb).\n\
+            Says that every sample passes, or names the first that fails, counted from 1, and why:\n\
+            a bad frame: it has a padding bit set, is of an unknown type or is cut short;\n\
+            a wrong count of frames: not as many as its description says; the track's last sample may have fewer, but not none;\n\
+            a frame of a mode that its description doesn't allow: record shows the modes.\n\
+            The exit status is 1 where a sample fails, too.\n",
         ),
         word::SHIFT => print(
             to,

@@ -5,23 +5,25 @@ pub const LIST: usize = 0;
 
 pub const OUTLINE: usize = 1;
 
-pub const SHIFT: usize = 2;
+pub const MODES: usize = 2;
 
-pub const MOVE: usize = 3;
+pub const SHIFT: usize = 3;
 
-pub const RECORD: usize = 4;
+pub const MOVE: usize = 4;
 
-pub const NEWER: usize = 5;
+pub const RECORD: usize = 5;
 
-pub const SHEET: usize = 6;
+pub const NEWER: usize = 6;
 
-pub const TABLE: usize = 7;
+pub const SHEET: usize = 7;
 
-pub const AMR: usize = 8;
+pub const TABLE: usize = 8;
 
-pub const SALVAGE: usize = 9;
+pub const AMR: usize = 9;
 
-pub const HELP: usize = 10;
+pub const SALVAGE: usize = 10;
+
+pub const HELP: usize = 11;
 
 // The number of a word; that of none where there is no such word.
 pub fn number(text: &[u8]) -> usize {
@@ -29,6 +31,7 @@ pub fn number(text: &[u8]) -> usize {
         b"\
         list      \
         outline   \
+        modes     \
         shift     \
         move      \
         record    \
