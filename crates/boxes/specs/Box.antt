@@ -15,10 +15,10 @@ is_plain Plain = true
 is_plain Wide = false
 is_plain Open = false
 
-abbrev pub isOpen : Form → Bool
-isOpen Plain = false
-isOpen Wide = false
-isOpen Open = true
+abbrev pub is_open : Form → Bool
+is_open Plain = false
+is_open Wide = false
+is_open Open = true
 
 -- what the size field says of a box of n bytes: its size; "size field 1"; or "size 0 ..., meaning to the end of the file"
 abbrev pub field_of : Form → ℕ → ℕ
@@ -27,14 +27,14 @@ field_of Wide n = 1
 field_of Open n = 0
 
 -- "eight more header bytes", behind the code
-abbrev pub moreOf : Form → ℕ → List ℕ
-moreOf Plain n = []
-moreOf Wide n = bytes 8 n
-moreOf Open n = []
+abbrev pub more_of : Form → ℕ → List ℕ
+more_of Plain n = []
+more_of Wide n = bytes 8 n
+more_of Open n = []
 
 -- the header of a box of n bytes and a code
-abbrev pub headerBy : Form → (n code : ℕ) → List ℕ
-headerBy f n c = bytes 4 (field_of f n) ++ (bytes 4 c ++ moreOf f n)
+abbrev pub header_by : Form → (n code : ℕ) → List ℕ
+header_by f n c = bytes 4 (field_of f n) ++ (bytes 4 c ++ more_of f n)
 
 pub record Box : Type 0 where
   pub form : Form
@@ -42,8 +42,8 @@ pub record Box : Type 0 where
   pub body : List ℕ
 
 -- one with a plain header
-abbrev pub plainBox : ℕ → List ℕ → Box
-plainBox c b = record { form = Plain; code = c; body = b }
+abbrev pub plain_box : ℕ → List ℕ → Box
+plain_box c b = record { form = Plain; code = c; body = b }
 
 -- its header's length
 abbrev pub head : Box → ℕ
@@ -54,7 +54,7 @@ abbrev pub size : Box → ℕ
 size x = head x + length x.body
 
 unfoldable pub header : Box → List ℕ
-header x = headerBy x.form (size x) x.code
+header x = header_by x.form (size x) x.code
 
 -- boxes written one after the other
 unfoldable pub write : List Box → List ℕ

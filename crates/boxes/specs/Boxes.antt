@@ -1,6 +1,6 @@
 -- The boxes of a part. This is the one recursion over bytes: all else goes by clauses on the list of boxes.
 use Rattle.std.specs.Prelude.{ℕ, zero, suc, ◌+◌, ◌-◌, Bool, true, false, List, [], ◌∷◌, length, take, drop}
-use Rattle.wire.specs.Tests.{pick, ifEq, ifLe}
+use Rattle.wire.specs.Tests.{pick, if_eq, if_le}
 use Rattle.wire.specs.Numbers.{word}
 use Rattle.wire.specs.Clauses.{is_eq}
 use Rattle.boxes.specs.declared.walk.Form.{Form}
@@ -17,35 +17,35 @@ FRONT = 8
 
 -- the form of the box at the front, by its size field
 unfoldable pub form_of : List ℕ → Form
-form_of xs = ifEq (word 4 xs 0) 0 Open (ifEq (word 4 xs 0) 1 Wide Plain)
+form_of xs = if_eq (word 4 xs 0) 0 Open (if_eq (word 4 xs 0) 1 Wide Plain)
 
 -- its size, which each form says in its own way; an open box reaches to the end
-abbrev pub sizeBy : Form → List ℕ → ℕ
-sizeBy Plain xs = word 4 xs 0
-sizeBy Wide xs = word 8 xs 8
-sizeBy Open xs = length xs
+abbrev pub size_by : Form → List ℕ → ℕ
+size_by Plain xs = word 4 xs 0
+size_by Wide xs = word 8 xs 8
+size_by Open xs = length xs
 
-abbrev pub headFront : List ℕ → ℕ
-headFront xs = head_of (form_of xs)
+abbrev pub head_front : List ℕ → ℕ
+head_front xs = head_of (form_of xs)
 
 abbrev pub size_of : List ℕ → ℕ
-size_of xs = sizeBy (form_of xs) xs
+size_of xs = size_by (form_of xs) xs
 
 -- a whole box stands at the front: its size is at least its header's, and it ends inside
 unfoldable pub whole : List ℕ → Bool
-whole xs = ifLe (headFront xs) (size_of xs) (ifLe (size_of xs) (length xs) true false) false
+whole xs = if_le (head_front xs) (size_of xs) (if_le (size_of xs) (length xs) true false) false
 
 -- the box at the front, where it is whole
-abbrev pub frontBox : List ℕ → Box
-frontBox xs = record { form = form_of xs; code = word 4 xs 4; body = take (size_of xs - headFront xs) (drop (headFront xs) xs) }
+abbrev pub front_box : List ℕ → Box
+front_box xs = record { form = form_of xs; code = word 4 xs 4; body = take (size_of xs - head_front xs) (drop (head_front xs) xs) }
 
-abbrev pub boxesBy : ℕ → List ℕ → List Box
-boxesBy zero xs = []
-boxesBy (suc n) xs = pick (whole xs) (frontBox xs ∷ boxesBy n (drop (size_of xs) xs)) []
+abbrev pub boxes_by : ℕ → List ℕ → List Box
+boxes_by zero xs = []
+boxes_by (suc n) xs = pick (whole xs) (front_box xs ∷ boxes_by n (drop (size_of xs) xs)) []
 
 -- the whole boxes that stand one after the other from the front on
 unfoldable pub boxes : List ℕ → List Box
-boxes xs = boxesBy (length xs) xs
+boxes xs = boxes_by (length xs) xs
 
 unfoldable pub total : List Box → ℕ
 total [] = 0

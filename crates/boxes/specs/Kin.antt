@@ -5,7 +5,7 @@ use Rattle.boxes.specs.declared.walk.Form.{Form}
 use Rattle.boxes.specs.declared.walk.Form.TheVariants.{Plain, Open}
 use Rattle.boxes.specs.Box.{Box}
 use Rattle.boxes.specs.Boxes.{boxes, after}
-use Rattle.boxes.specs.Containers.{FILE, kindIn}
+use Rattle.boxes.specs.Containers.{FILE, kind_in}
 
 -- two lists, box by box
 pub data All2 (R : Box → Box → Type 0) : List Box → List Box → Type 0 where
@@ -24,8 +24,8 @@ Formed k c f g = (f ≡ g) ⊎ ((k ≡ FILE) × (c ≡ MOOV) × (f ≡ Open) × 
 pub record KinBox (G : Leaf) (go : ℕ → List ℕ → List ℕ → Type 0) (k : ℕ) (x y : Box) : Type 0 where
   pub form : Formed k x.code x.form y.form
   pub code : x.code ≡ y.code
-  pub leaf : kindIn k x.code ≡ 0 → G k x.code x.body y.body
-  pub node : (kindIn k x.code ≡ 0 → ⊥) → go (kindIn k x.code) x.body y.body
+  pub leaf : kind_in k x.code ≡ 0 → G k x.code x.body y.body
+  pub node : (kind_in k x.code ≡ 0 → ⊥) → go (kind_in k x.code) x.body y.body
 
 -- as deep as d containers
 abbrev pub Kin : Leaf → ℕ → ℕ → List ℕ → List ℕ → Type 0

@@ -1,6 +1,6 @@
 -- The walk over the boxes of a part, by places.
 use Rattle.std.specs.Prelude.{ℕ, ◌+◌, ◌-◌, ◌≤◌, ◌<◌, ◌≡◌, true, List, [], ◌∷◌, length, take, drop}
-use Rattle.wire.specs.Tests.{pick, ifLe}
+use Rattle.wire.specs.Tests.{pick, if_le}
 use Rattle.wire.specs.Numbers.{word}
 use Rattle.boxes.specs.declared.walk.Walk.{Walk}
 use Rattle.boxes.specs.declared.walk.Says.{Says}
@@ -8,20 +8,20 @@ use Rattle.boxes.specs.declared.walk.BoxAt.{BoxAt}
 use Rattle.boxes.specs.declared.walk.Step.{Step}
 use Rattle.boxes.specs.declared.walk.Step.TheVariants.{Found, End, Broken}
 use Rattle.boxes.specs.Box.{Box, head_of, is_plain}
-use Rattle.boxes.specs.Boxes.{form_of, headFront, size_of, whole, boxes, after}
+use Rattle.boxes.specs.Boxes.{form_of, head_front, size_of, whole, boxes, after}
 
 -- what the header at the front of ys says
-abbrev pub saidBy : List ℕ → Says
-saidBy ys = record { form = form_of ys; head = headFront ys; span = size_of ys }
+abbrev pub said_by : List ℕ → Says
+said_by ys = record { form = form_of ys; head = head_front ys; span = size_of ys }
 
 -- the box that ys, the bytes from a place on, start with
 abbrev pub found_at : List ℕ → ℕ → BoxAt
-found_at ys at = record { at = at; form = form_of ys; head = headFront ys; span = size_of ys; code = word 4 ys 4 }
+found_at ys at = record { at = at; form = form_of ys; head = head_front ys; span = size_of ys; code = word 4 ys 4 }
 
 -- rule 2 at one place: nothing left; a whole box; or no box, which breaks it there
-unfoldable pub stepAt : List ℕ → ℕ → Step
-stepAt xs at =
-    ifLe (length xs) at End
+unfoldable pub step_at : List ℕ → ℕ → Step
+step_at xs at =
+    if_le (length xs) at End
     (pick (whole (drop at xs)) (Found (found_at (drop at xs) at) (record { at = at + size_of (drop at xs) })) (Broken at))
 
 -- what is left of it for a walk over plain boxes alone
@@ -34,8 +34,8 @@ plainly at (Broken p) = Broken at
 abbrev pub payload : List ℕ → BoxAt → List ℕ
 payload xs b = take (b.at + b.span - (b.at + b.head)) (drop (b.at + b.head) xs)
 
-abbrev pub boxAt : List ℕ → BoxAt → Box
-boxAt xs b = record { form = b.form; code = b.code; body = payload xs b }
+abbrev pub box_at : List ℕ → BoxAt → Box
+box_at xs b = record { form = b.form; code = b.code; body = payload xs b }
 
 -- a box was found at place at: it lies inside, and it is the first of the boxes from there on
 pub record Ran (xs : List ℕ) (at : ℕ) (b : BoxAt) (w : Walk) : Type 0 where
@@ -45,7 +45,7 @@ pub record Ran (xs : List ℕ) (at : ℕ) (b : BoxAt) (w : Walk) : Type 0 where
   pub least : b.head ≤ b.span
   pub inside : at + b.span ≤ length xs
   pub next : w.at ≡ at + b.span
-  pub list : boxes (drop at xs) ≡ boxAt xs b ∷ boxes (drop w.at xs)
+  pub list : boxes (drop at xs) ≡ box_at xs b ∷ boxes (drop w.at xs)
   pub rest : after (drop at xs) ≡ after (drop w.at xs)
 
 -- no box was found there: all that is left stands past the last one

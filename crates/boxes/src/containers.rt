@@ -1,6 +1,6 @@
 // The containers, and only on the paths of the format.
 ghost use Rattle.std.specs.Prelude.{◌≡◌};
-ghost use Rattle.boxes.specs.Containers.{parent as parent_of, kindIn};
+ghost use Rattle.boxes.specs.Containers.{parent as parent_of, kind_in};
 
 // The file's kind; a container's is its code, and that of an opaque box 0.
 pub const FILE: usize = 1;
@@ -38,7 +38,7 @@ pub fn parent(c: usize) -> usize
 
 // The kind of a box of a code that stands in a container of kind k.
 pub fn kind_in(k: usize, c: usize) -> usize
-    ensures { result ≡ kindIn k c }
+    ensures { result ≡ kind_in k c }
 {
     if parent(c) == k {
         return c;

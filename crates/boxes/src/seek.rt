@@ -1,9 +1,9 @@
 // Counting and finding boxes by their code.
 ghost use Rattle.std.specs.Prelude.{◌≡◌, ◌+◌, ◌≤◌, ◌<◌, length};
 ghost use Rattle.wire.specs.Tests.{pick};
-ghost use Rattle.wire.specs.Clauses.{oneIf};
-ghost use Rattle.boxes.specs.Boxes.{boxes, total, tiles as tilesOf};
-ghost use Rattle.boxes.specs.Seek.{tilingOf, meant as meantBy, count as count_of, nth as nthIn, place_in, start_in, SeenAs, plainTiles};
+ghost use Rattle.wire.specs.Clauses.{one_if};
+ghost use Rattle.boxes.specs.Boxes.{boxes, total, tiles as tiles_of};
+ghost use Rattle.boxes.specs.Seek.{tiling_of, meant as meant_by, count as count_of, nth as nth_in, place_in, start_in, SeenAs, plain_tiles};
 
 use crate::walk;
 use crate::walk::{BoxAt, Step, Walk};
@@ -25,7 +25,7 @@ pub enum Seen {
 
 // How a part ends: with its last box, or with bytes that are no box.
 pub fn ends(part: &[u8]) -> Tiling
-    ensures { result ≡ tilingOf part.now }
+    ensures { result ≡ tiling_of part.now }
 {
     let mut w = Walk { at: 0 };
     loop {
@@ -45,7 +45,7 @@ pub fn ends(part: &[u8]) -> Tiling
 
 // Whether boxes tile a part: 1 or 0.
 pub fn tiles(part: &[u8]) -> usize
-    ensures { result ≡ oneIf (tilesOf part.now) }
+    ensures { result ≡ one_if (tiles_of part.now) }
 {
     match ends(part) {
         Tiling::Whole => 1,
@@ -54,7 +54,7 @@ pub fn tiles(part: &[u8]) -> usize
 }
 
 fn meant(c: usize, d: usize) -> usize
-    ensures { (result ≡ meantBy c d) × (result ≤ 1) }
+    ensures { (result ≡ meant_by c d) × (result ≤ 1) }
 {
     if c == ANY {
         return 1;
@@ -89,7 +89,7 @@ pub fn count(part: &[u8], c: usize) -> usize
 
 // How many boxes have a code in a part that plain boxes tile, and 0 where they don't tile it.
 pub fn tally(part: &[u8], c: usize) -> usize
-    ensures { result ≡ pick (plainTiles part.now) (count_of c (boxes part.now)) 0 }
+    ensures { result ≡ pick (plain_tiles part.now) (count_of c (boxes part.now)) 0 }
 {
     let mut w = Walk { at: 0 };
     let mut n = 0;
@@ -167,7 +167,7 @@ pub fn start(part: &[u8], c: usize, n: usize) -> usize
 
 // The payload of the n-th box that has a code, and nothing where there is none.
 pub fn payload(part: &[u8], c: usize, n: usize) -> &[u8]
-    ensures { result.now ≡ nthIn c n (boxes part.now) }
+    ensures { result.now ≡ nth_in c n (boxes part.now) }
 {
     match nth(part, c, n) {
         Seen::At(b) => walk::body(part, b),

@@ -1,8 +1,8 @@
 // The walk over the boxes of a part, by value.
 ghost use Rattle.std.specs.Prelude.{◌≡◌, ◌+◌, ◌≤◌, length, drop};
-ghost use Rattle.wire.specs.Clauses.{oneIf};
-ghost use Rattle.boxes.specs.Box.{is_plain, isOpen};
-ghost use Rattle.boxes.specs.Walk.{saidBy, stepAt, plainly, payload};
+ghost use Rattle.wire.specs.Clauses.{one_if};
+ghost use Rattle.boxes.specs.Box.{is_plain, is_open};
+ghost use Rattle.boxes.specs.Walk.{said_by, step_at, plainly, payload};
 
 use wire::number;
 
@@ -24,7 +24,7 @@ pub enum Form {
 
 // Whether a header is plain: 1 or 0.
 pub fn is_plain(form: Form) -> usize
-    ensures { result ≡ oneIf (is_plain form) }
+    ensures { result ≡ one_if (is_plain form) }
 {
     match form {
         Form::Plain => 1,
@@ -35,7 +35,7 @@ pub fn is_plain(form: Form) -> usize
 
 // Whether a box is open: 1 or 0.
 pub fn is_open(form: Form) -> usize
-    ensures { result ≡ oneIf (isOpen form) }
+    ensures { result ≡ one_if (is_open form) }
 {
     match form {
         Form::Plain => 0,
@@ -78,7 +78,7 @@ struct Says {
 // What the header at a place says, the form that most boxes have first.
 fn said(part: &[u8], at: usize) -> Says
     requires { at + 8 ≤ length part.now }
-    ensures { result ≡ saidBy (drop at part.now) }
+    ensures { result ≡ said_by (drop at part.now) }
 {
     let field = number::word32_in(part, at);
     if 1 < field {
@@ -114,7 +114,7 @@ fn said(part: &[u8], at: usize) -> Says
 impl Walk {
     // The box at the walk's place, with the walk past it.
     pub fn step(self, part: &[u8]) -> Step
-        ensures { result ≡ stepAt part.now self.at }
+        ensures { result ≡ step_at part.now self.at }
     {
         let at = self.at;
         let n = part.len();
@@ -147,7 +147,7 @@ impl Walk {
 
     // The same of plain boxes alone, in fewer steps: another box is none here.
     pub fn plain_step(self, part: &[u8]) -> Step
-        ensures { result ≡ plainly self.at (stepAt part.now self.at) }
+        ensures { result ≡ plainly self.at (step_at part.now self.at) }
     {
         let at = self.at;
         let n = part.len();

@@ -1,9 +1,9 @@
 // Writing a part with the body of one box rewritten, by the way to it: body first, then its header, so that sizes follow.
 ghost use Rattle.std.specs.Prelude.{◌≡◌, ◌∷◌, ◌+◌, ◌-◌, ◌^◌, ◌≤◌, ◌<◌, length, drop};
 ghost use Rattle.wire.specs.Writing.{put, Put};
-ghost use Rattle.boxes.specs.Box.{head_of, field_of, moreOf};
+ghost use Rattle.boxes.specs.Box.{head_of, field_of, more_of};
 ghost use Rattle.boxes.specs.Walk.{payload};
-ghost use Rattle.boxes.specs.Way.{Under, BoxInside, turns, boxBy, around, tailBy, overNth, editWay};
+ghost use Rattle.boxes.specs.Way.{Under, BoxInside, turns, box_by, around, tail_by, over_nth, edit_way};
 
 use crate::seek::Seen;
 use crate::walk::{BoxAt, Form};
@@ -44,7 +44,7 @@ fn field(form: Form, n: usize) -> usize
 // Puts the rest of a wide header: the size of a box of n bytes.
 fn put_wide(out: &mut [u8], at: usize, form: Form, n: usize)
     requires { at + head_of form ≤ length out.old }
-    ensures { out.new ≡ put out.old (at + 8) (moreOf form n) }
+    ensures { out.new ≡ put out.old (at + 8) (more_of form n) }
 {
     match form {
         Form::Plain => {}
@@ -70,7 +70,7 @@ pub fn put_header(out: &mut [u8], at: usize, r: usize, form: Form, code: usize)
 // The end of a way: the body's first `keep` bytes, and then `new`.
 fn put_tail(out: &mut [u8], at: usize, src: &[u8], keep: usize, new: &[u8]) -> usize
     requires { at + length src.now + length new.now < 2 ^ 62 }
-    ensures { Put (tailBy keep new.now src.now) out.old at result out.new }
+    ensures { Put (tail_by keep new.now src.now) out.old at result out.new }
 {
     let n = number::least(keep, src.len());
     let j = pen::put_part(out, at, &src[..n]);
@@ -90,7 +90,7 @@ fn put_box(
     new: &[u8],
 ) -> usize
     requires { (i ≤ length way.now) × (b.head ≡ head_of b.form) × (at + b.head + length body.now + length new.now < 2 ^ 62) }
-    ensures { Put (boxBy b.form b.code (editWay (turns (drop i way.now)) (tailBy keep new.now) body.now)) out.old at result out.new }
+    ensures { Put (box_by b.form b.code (edit_way (turns (drop i way.now)) (tail_by keep new.now) body.now)) out.old at result out.new }
 {
     let r = put_way(out, at + b.head, body, way, i, keep, new);
     let form = b.form;
@@ -111,7 +111,7 @@ fn put_around(
     new: &[u8],
 ) -> usize
     requires { (i ≤ length way.now) × (b.head ≡ head_of b.form) × (b.head ≤ b.span) × (b.at + b.span ≤ length src.now) × (at + length src.now + length new.now < 2 ^ 62) }
-    ensures { Put (around src.now b (editWay (turns (drop i way.now)) (tailBy keep new.now) (payload src.now b))) out.old at result out.new }
+    ensures { Put (around src.now b (edit_way (turns (drop i way.now)) (tail_by keep new.now) (payload src.now b))) out.old at result out.new }
 {
     let before = b.at;
     let past = b.at + b.span;
@@ -133,7 +133,7 @@ fn put_turn(
     new: &[u8],
 ) -> usize
     requires { (i ≤ length way.now) × (at + length src.now + length new.now < 2 ^ 62) }
-    ensures { Put (overNth t.code t.nth (editWay (turns (drop i way.now)) (tailBy keep new.now)) src.now) out.old at result out.new }
+    ensures { Put (over_nth t.code t.nth (edit_way (turns (drop i way.now)) (tail_by keep new.now)) src.now) out.old at result out.new }
 {
     match seek::nth(src, t.code, t.nth) {
         Seen::At(b) => put_around(out, at, src, b, way, i, keep, new),
@@ -153,7 +153,7 @@ pub fn put_way(
     new: &[u8],
 ) -> usize
     requires { (i ≤ length way.now) × (at + length src.now + length new.now < 2 ^ 62) }
-    ensures { Put (editWay (turns (drop i way.now)) (tailBy keep new.now) src.now) out.old at result out.new }
+    ensures { Put (edit_way (turns (drop i way.now)) (tail_by keep new.now) src.now) out.old at result out.new }
 {
     if way.len() - i < 3 {
         return put_tail(out, at, src, keep, new);
@@ -175,7 +175,7 @@ pub fn put_within(
     new: &[u8],
 ) -> usize
     requires { (BoxInside src.now b) × (BoxInside (payload src.now b) k) × (length src.now + length new.now < 2 ^ 61) }
-    ensures { Put (around src.now b (around (payload src.now b) k (editWay (turns way.now) (tailBy keep new.now) (payload (payload src.now b) k)))) out.old 0 result out.new }
+    ensures { Put (around src.now b (around (payload src.now b) k (edit_way (turns way.now) (tail_by keep new.now) (payload (payload src.now b) k)))) out.old 0 result out.new }
 {
     let before = b.at;
     let past = b.at + b.span;

@@ -2,8 +2,8 @@
 ghost use Rattle.std.specs.Prelude.{◌≡◌, ◌+◌, ◌-◌, ◌^◌, ◌≤◌, ◌<◌, length};
 ghost use Rattle.boxes.specs.Walk.{payload};
 ghost use Rattle.codes.specs.Codes.{MOOV};
-ghost use Rattle.boxes.specs.Rewrite.{editBox, editIn, in_body};
-ghost use Rattle.boxes.specs.Words.{eachWord, reword as rewordBy, rewordLeaf, targetIn, rewordEach, moved as movedBy, Small};
+ghost use Rattle.boxes.specs.Rewrite.{edit_box, edit_in, in_body};
+ghost use Rattle.boxes.specs.Words.{each_word, reword as reword_by, reword_leaf, target_in, reword_each, moved as moved_by, Small};
 
 use crate::containers;
 use crate::walk::{BoxAt, Step, Walk};
@@ -37,7 +37,7 @@ pub struct By {
 
 fn moved(by: By, o: usize) -> usize
     requires { (Small by) × (o < 2 ^ 32) }
-    ensures { result ≡ movedBy by o }
+    ensures { result ≡ moved_by by o }
 {
     if o < by.limit {
         return o + by.low;
@@ -52,7 +52,7 @@ fn moved(by: By, o: usize) -> usize
 // Every number of a table.
 fn reword_all(table: &mut [u8], by: By)
     requires { Small by }
-    ensures { table.new ≡ eachWord (movedBy by) table.old }
+    ensures { table.new ≡ each_word (moved_by by) table.old }
 {
     let mut at = 0;
     while 4 <= table.len() - at {
@@ -65,7 +65,7 @@ fn reword_all(table: &mut [u8], by: By)
 // The numbers of a stretch of a body.
 fn reword(body: &mut [u8], from: usize, span: usize, by: By)
     requires { Small by }
-    ensures { body.new ≡ rewordBy (movedBy by) from span body.old }
+    ensures { body.new ≡ reword_by (moved_by by) from span body.old }
 {
     if from < body.len() {
         let to = from + number::least(span, body.len() - from);
@@ -75,7 +75,7 @@ fn reword(body: &mut [u8], from: usize, span: usize, by: By)
 
 // Of three targets the one for a kind of container.
 fn target_in(ts: Targets, k: usize) -> Target
-    ensures { result ≡ targetIn ts k }
+    ensures { result ≡ target_in ts k }
 {
     if k == ts.one.kind {
         return ts.one;
@@ -89,7 +89,7 @@ fn target_in(ts: Targets, k: usize) -> Target
 // An opaque box of a container of kind k.
 fn reword_leaf(body: &mut [u8], k: usize, code: usize, t: Target, by: By)
     requires { Small by }
-    ensures { body.new ≡ rewordLeaf t (movedBy by) k code body.old }
+    ensures { body.new ≡ reword_leaf t (moved_by by) k code body.old }
 {
     if k == t.kind {
         if code == t.code {
@@ -101,8 +101,8 @@ fn reword_leaf(body: &mut [u8], k: usize, code: usize, t: Target, by: By)
 // A box of a container of kind k, whose target is t.
 #[cycle(reword_box_reword_in)]
 fn reword_box(part: &mut [u8], b: BoxAt, k: usize, depth: usize, t: Target, ts: Targets, by: By)
-    requires { (b.head ≤ b.span) × (b.at + b.span ≤ length part.old) × (0 < depth) × Small by × (t ≡ targetIn ts k) }
-    ensures { part.new ≡ in_body part.old b (editBox (rewordEach ts (movedBy by)) (editIn (rewordEach ts (movedBy by)) (depth - 1)) k b.code (payload part.old b)) }
+    requires { (b.head ≤ b.span) × (b.at + b.span ≤ length part.old) × (0 < depth) × Small by × (t ≡ target_in ts k) }
+    ensures { part.new ≡ in_body part.old b (edit_box (reword_each ts (moved_by by)) (edit_in (reword_each ts (moved_by by)) (depth - 1)) k b.code (payload part.old b)) }
 {
     let from = b.at + b.head;
     let to = b.at + b.span;
@@ -118,7 +118,7 @@ fn reword_box(part: &mut [u8], b: BoxAt, k: usize, depth: usize, t: Target, ts: 
 #[cycle(reword_box_reword_in)]
 fn reword_in(part: &mut [u8], k: usize, depth: usize, ts: Targets, by: By)
     requires { Small by }
-    ensures { part.new ≡ editIn (rewordEach ts (movedBy by)) depth k part.old }
+    ensures { part.new ≡ edit_in (reword_each ts (moved_by by)) depth k part.old }
 {
     if depth == 0 {
         return;
@@ -144,7 +144,7 @@ fn reword_in(part: &mut [u8], k: usize, depth: usize, ts: Targets, by: By)
 // All that the `moov` b of a part holds.
 pub fn reword_moov(part: &mut [u8], b: BoxAt, ts: Targets, by: By)
     requires { (b.head ≤ b.span) × (b.at + b.span ≤ length part.old) × Small by }
-    ensures { part.new ≡ in_body part.old b (editIn (rewordEach ts (movedBy by)) 5 MOOV (payload part.old b)) }
+    ensures { part.new ≡ in_body part.old b (edit_in (reword_each ts (moved_by by)) 5 MOOV (payload part.old b)) }
 {
     let from = b.at + b.head;
     let to = b.at + b.span;

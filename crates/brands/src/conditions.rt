@@ -1,13 +1,13 @@
 // The brands' own conditions, each 1 where it holds, else 0.
 ghost use Rattle.std.specs.Prelude.{◌≡◌, ◌≤◌, ◌<◌};
-ghost use Rattle.wire.specs.Clauses.{is_eq, oneIf};
+ghost use Rattle.wire.specs.Clauses.{is_eq, one_if};
 ghost use Rattle.boxes.specs.Boxes.{boxes};
-ghost use Rattle.movie.specs.Movie.{tracks, track, handler as handlerOf};
+ghost use Rattle.movie.specs.Movie.{tracks, track, handler as handler_of};
 ghost use Rattle.layout.specs.Every.{TracksAt};
 ghost use Rattle.layout.specs.Entries.{ListsAt};
-ghost use Rattle.brands.specs.Brands.{handled as handledOf, oneEntry, single as singleOf, singleTo, noAvc1, noAvc1To};
-ghost use Rattle.brands.specs.Brands.{isomOrAvc1};
-ghost use Rattle.brands.specs.Brands.{few as fewOf, early as earlyOf, second as second_of, ready as readyOf};
+ghost use Rattle.brands.specs.Brands.{handled as handled_of, one_entry, single as single_of, single_to, no_avc1, no_avc1_to};
+ghost use Rattle.brands.specs.Brands.{isom_or_avc1};
+ghost use Rattle.brands.specs.Brands.{few as few_of, early as early_of, second as second_of, ready as ready_of};
 ghost use Rattle.brands.specs.Own.{OwnAt};
 
 use boxes::seek;
@@ -29,7 +29,7 @@ pub struct Own {
 
 // Whether two numbers are the same.
 fn equal(m: usize, n: usize) -> usize
-    ensures { (result ≡ oneIf (is_eq m n)) × (result ≤ 1) }
+    ensures { (result ≡ one_if (is_eq m n)) × (result ≤ 1) }
 {
     if m == n {
         return 1;
@@ -39,7 +39,7 @@ fn equal(m: usize, n: usize) -> usize
 
 // Whether `isom` or `avc1` is listed.
 fn base(ftyp: &[u8]) -> usize
-    ensures { result ≡ oneIf (isomOrAvc1 ftyp.now) }
+    ensures { result ≡ one_if (isom_or_avc1 ftyp.now) }
 {
     if compatible::listed(ftyp, codes::ISOM) != 0 {
         return 1;
@@ -50,7 +50,7 @@ fn base(ftyp: &[u8]) -> usize
 // A track's handler.
 fn handler(file: &[u8], e: Tracks, t: usize) -> usize
     requires { TracksAt file.now e × (t < 4) }
-    ensures { result ≡ handlerOf (track file.now t) }
+    ensures { result ≡ handler_of (track file.now t) }
 {
     let k = every::track(e, t);
     k.handler
@@ -59,7 +59,7 @@ fn handler(file: &[u8], e: Tracks, t: usize) -> usize
 // How many tracks have handler h.
 fn handled(file: &[u8], e: Tracks, h: usize) -> usize
     requires { TracksAt file.now e × (tracks file.now ≤ 4) }
-    ensures { result ≡ handledOf h file.now }
+    ensures { result ≡ handled_of h file.now }
 {
     let n = e.count;
     let mut t = 0;
@@ -74,7 +74,7 @@ fn handled(file: &[u8], e: Tracks, h: usize) -> usize
 // Whether track t has one sample entry.
 fn one_entry(file: &[u8], l: Lists, t: usize) -> usize
     requires { ListsAt file.now l × (t < 4) }
-    ensures { result ≡ oneIf (oneEntry (track file.now t)) }
+    ensures { result ≡ one_if (one_entry (track file.now t)) }
 {
     let s = entries::list_slot(l, t);
     equal(s.n, 1)
@@ -83,7 +83,7 @@ fn one_entry(file: &[u8], l: Lists, t: usize) -> usize
 // Whether it has one if it is to have one.
 fn single(file: &[u8], e: Tracks, l: Lists, t: usize) -> usize
     requires { TracksAt file.now e × ListsAt file.now l × (t < 4) }
-    ensures { result ≡ oneIf (singleOf (track file.now t)) }
+    ensures { result ≡ one_if (single_of (track file.now t)) }
 {
     let h = handler(file, e, t);
     if h == codes::VIDE {
@@ -97,7 +97,7 @@ fn single(file: &[u8], e: Tracks, l: Lists, t: usize) -> usize
 
 fn all_single(file: &[u8], e: Tracks, l: Lists) -> usize
     requires { TracksAt file.now e × ListsAt file.now l × (tracks file.now ≤ 4) }
-    ensures { result ≡ oneIf (singleTo file.now (tracks file.now)) }
+    ensures { result ≡ one_if (single_to file.now (tracks file.now)) }
 {
     let n = e.count;
     let mut t = 0;
@@ -113,7 +113,7 @@ fn all_single(file: &[u8], e: Tracks, l: Lists) -> usize
 // Whether track t has no `avc1` entry.
 fn no_avc1(file: &[u8], l: Lists, t: usize) -> usize
     requires { ListsAt file.now l × (t < 4) }
-    ensures { result ≡ oneIf (noAvc1 (track file.now t)) }
+    ensures { result ≡ one_if (no_avc1 (track file.now t)) }
 {
     let s = entries::list_slot(l, t);
     equal(seek::count(gather::bytes(file, s), codes::AVC1), 0)
@@ -121,7 +121,7 @@ fn no_avc1(file: &[u8], l: Lists, t: usize) -> usize
 
 fn no_avc1_in(file: &[u8], l: Lists) -> usize
     requires { ListsAt file.now l × (tracks file.now ≤ 4) }
-    ensures { result ≡ oneIf (noAvc1To file.now (tracks file.now)) }
+    ensures { result ≡ one_if (no_avc1_to file.now (tracks file.now)) }
 {
     let n = l.tracks;
     let mut t = 0;
@@ -137,7 +137,7 @@ fn no_avc1_in(file: &[u8], l: Lists) -> usize
 // What `3gp4`, `3gp5` and `3gp6` ask of the tracks.
 fn few(file: &[u8], e: Tracks, l: Lists) -> usize
     requires { TracksAt file.now e × ListsAt file.now l × (tracks file.now ≤ 4) }
-    ensures { result ≡ oneIf (fewOf file.now) }
+    ensures { result ≡ one_if (few_of file.now) }
 {
     if 1 < handled(file, e, codes::VIDE) {
         return 0;
@@ -153,8 +153,8 @@ fn few(file: &[u8], e: Tracks, l: Lists) -> usize
 
 // What `3gp4` and `3gp5` ask besides.
 fn early(file: &[u8], l: Lists, few: usize) -> usize
-    requires { ListsAt file.now l × (tracks file.now ≤ 4) × (few ≡ oneIf (fewOf file.now)) }
-    ensures { result ≡ oneIf (earlyOf file.now) }
+    requires { ListsAt file.now l × (tracks file.now ≤ 4) × (few ≡ one_if (few_of file.now)) }
+    ensures { result ≡ one_if (early_of file.now) }
 {
     if few == 0 {
         return 0;
@@ -174,7 +174,7 @@ fn second(file: &[u8]) -> usize
 
 // Whether `moov` is right after `ftyp`.
 fn ready(file: &[u8]) -> usize
-    ensures { result ≡ oneIf (readyOf file.now) }
+    ensures { result ≡ one_if (ready_of file.now) }
 {
     equal(second(file), codes::MOOV)
 }

@@ -2,15 +2,15 @@
 pub mod conditions;
 
 ghost use Rattle.std.specs.Prelude.{◌≡◌};
-ghost use Rattle.wire.specs.Clauses.{oneIf};
+ghost use Rattle.wire.specs.Clauses.{one_if};
 ghost use Rattle.codes.specs.Codes.{FTYP};
 ghost use Rattle.boxes.specs.Boxes.{boxes};
 ghost use Rattle.boxes.specs.Seek.{find};
 ghost use Rattle.layout.specs.Every.{TracksAt};
 ghost use Rattle.judge.specs.Acceptance.{Meets};
-ghost use Rattle.brands.specs.Brands.{besideIt, ownConditions, brandHolds};
+ghost use Rattle.brands.specs.Brands.{beside_it, own_conditions, brand_holds};
 ghost use Rattle.brands.specs.Own.{OwnAt};
-ghost use Rattle.brands.specs.Calls.{brandAnswer};
+ghost use Rattle.brands.specs.Calls.{brand_answer};
 
 use conditions::Own;
 use judge::Judgement;
@@ -22,7 +22,7 @@ use rule::Answer;
 // Whether the list has what a brand asks for beside its own code: 1 or 0.
 fn beside(file: &[u8], o: Own, code: usize) -> usize
     requires { OwnAt file.now o }
-    ensures { result ≡ oneIf (besideIt code (find FTYP (boxes file.now))) }
+    ensures { result ≡ one_if (beside_it code (find FTYP (boxes file.now))) }
 {
     if code == codes::GP4 {
         return 1;
@@ -36,7 +36,7 @@ fn beside(file: &[u8], o: Own, code: usize) -> usize
 // Whether a brand's own conditions hold: 1 or 0, and 0 for any other code.
 fn own(file: &[u8], o: Own, code: usize) -> usize
     requires { OwnAt file.now o }
-    ensures { result ≡ oneIf (ownConditions code file.now) }
+    ensures { result ≡ one_if (own_conditions code file.now) }
 {
     if code == codes::GP4 {
         return o.early;
@@ -56,7 +56,7 @@ fn own(file: &[u8], o: Own, code: usize) -> usize
 // Whether a brand's answer is yes: 1 or 0.
 pub fn brand_holds(file: &[u8], o: Own, code: usize) -> usize
     requires { OwnAt file.now o }
-    ensures { result ≡ oneIf (brandHolds code file.now) }
+    ensures { result ≡ one_if (brand_holds code file.now) }
 {
     let ftyp = boxes::seek::payload(file, codes::FTYP, 0);
     if compatible::listed(ftyp, code) == 0 {
@@ -71,7 +71,7 @@ pub fn brand_holds(file: &[u8], o: Own, code: usize) -> usize
 // The same of an accepted file, looked at for this alone.
 fn brand_of(file: &[u8], e: Tracks, code: usize) -> usize
     requires { Meets file.now × TracksAt file.now e }
-    ensures { result ≡ oneIf (brandHolds code file.now) }
+    ensures { result ≡ one_if (brand_holds code file.now) }
 {
     let l = entries::lay(file, e);
     brand_holds(file, conditions::asked(file, e, l), code)
@@ -79,7 +79,7 @@ fn brand_of(file: &[u8], e: Tracks, code: usize) -> usize
 
 // The brand answer of a file: 1 for yes, 0 for no.
 pub fn brand(file: &[u8], code: usize) -> Answer
-    ensures { result ≡ brandAnswer file.now code }
+    ensures { result ≡ brand_answer file.now code }
 {
     let j = judge::judge_tracks(file);
     let answer = j.answer;

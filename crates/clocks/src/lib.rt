@@ -1,8 +1,8 @@
 // Clocks: times of 1904, and a zone's minutes, which may be negative.
 ghost use Rattle.std.specs.Prelude.{◌≡◌, ◌+◌, ◌^◌, ◌<◌};
-ghost use Rattle.wire.specs.Clauses.{oneIf};
-ghost use Rattle.clocks.specs.Clocks.{orderNumber, zonedOf};
-ghost use Rattle.clocks.specs.Zones.{Near, leaves as leavesOf, compared};
+ghost use Rattle.wire.specs.Clauses.{one_if};
+ghost use Rattle.clocks.specs.Clocks.{order_number, zoned_of};
+ghost use Rattle.clocks.specs.Zones.{Near, leaves as leaves_of, compared};
 
 // A zone in seconds, of which one number is 0.
 #[derive(Drop)]
@@ -27,7 +27,7 @@ pub enum Order {
 
 // An order as a number: 0 earlier, 1 same, 2 later.
 pub fn order_number(order: Order) -> usize
-    ensures { result ≡ orderNumber order }
+    ensures { result ≡ order_number order }
 {
     match order {
         Order::Earlier => 0,
@@ -38,7 +38,7 @@ pub fn order_number(order: Order) -> usize
 
 // The one function that looks at a sign.
 pub fn zone_of(z: i64) -> Zoned
-    ensures { result ≡ zonedOf z }
+    ensures { result ≡ zoned_of z }
 {
     if z < -840 {
         return Zoned::NoZone;
@@ -63,7 +63,7 @@ pub fn zone_of(z: i64) -> Zoned
 // Whether a time may be shifted: 1 or 0.
 pub fn leaves(t: usize, zone: Zone) -> usize
     requires { (Near zone) × (t < 2 ^ 32) }
-    ensures { result ≡ oneIf (leavesOf zone t) }
+    ensures { result ≡ one_if (leaves_of zone t) }
 {
     if t == 0 {
         return 1;

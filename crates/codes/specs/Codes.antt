@@ -1,12 +1,12 @@
 -- The four-byte codes of the format, as numbers.
 use Rattle.std.specs.Prelude.{ℕ}
 use Prim.Native.String.{String}
-use Rattle.wire.specs.Numbers.{numberOn}
+use Rattle.wire.specs.Numbers.{number_on}
 use Rattle.wire.specs.Text.{text}
 
 -- the number of a code
 abbrev pub coded : String → ℕ
-coded s = numberOn 0 (text s)
+coded s = number_on 0 (text s)
 
 -- ---- the boxes of rule 3, and `mdat`
 

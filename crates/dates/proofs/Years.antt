@@ -4,74 +4,74 @@ use native.Mathlib.Omega.{arith}
 use mathlib.Core.Path.{◌≡◌, refl}
 use mathlib.Core.List.{[], ◌∷◌}
 use lib.ListN.{get_or}
-use Rattle.wire.specs.Tests.{ifEq}
+use Rattle.wire.specs.Tests.{if_eq}
 use Rattle.wire.specs.Sums.{sum_to}
 use Rattle.wire.proofs.Sums.{sum_more}
 use Rattle.dates.specs.declared.calendar.Fall.{Fall}
-use Rattle.dates.specs.Calendar.{leapDays, yearDays, monthDays, yearSpan}
-use Rattle.dates.specs.Dates.{FallsIn, yearFall, monthFall}
-use Rattle.dates.proofs.Spans.{sum-within, over-falls, falls_below}
+use Rattle.dates.specs.Calendar.{leap_days, year_days, month_days, year_span}
+use Rattle.dates.specs.Dates.{FallsIn, year_fall, month_fall}
+use Rattle.dates.proofs.Spans.{sum_within, over_falls, falls_below}
 
-pub year-is : (i r : ℕ) → r ≡ leapDays (1904 + i) → 365 + r ≡ yearSpan i
-unfolding yearSpan yearDays
-year-is i r e = rw e
+pub year_is : (i r : ℕ) → r ≡ leap_days (1904 + i) → 365 + r ≡ year_span i
+unfolding year_span year_days
+year_is i r e = rw e
 
-pub year-first : 366 ≡ yearSpan 0
-unfolding yearSpan yearDays leapDays ifEq
-year-first = refl
+pub year_first : 366 ≡ year_span 0
+unfolding year_span year_days leap_days if_eq
+year_first = refl
 
 -- a year has at least 365 days
-years-least : (k : ℕ) → 365 * k ≤ sum_to yearSpan k
-unfolding sum_to yearSpan yearDays
-years-least zero = omega arith
-years-least (suc k) = omega (arith, years-least k)
+years_least : (k : ℕ) → 365 * k ≤ sum_to year_span k
+unfolding sum_to year_span year_days
+years_least zero = omega arith
+years_least (suc k) = omega (arith, years_least k)
 
-pub year-falls : (n : ℕ) → FallsIn yearSpan n (yearFall n)
-unfolding yearFall
-year-falls n = over-falls yearSpan (n / 365) n (omega (arith, years-least (suc (n / 365))))
+pub year_falls : (n : ℕ) → FallsIn year_span n (year_fall n)
+unfolding year_fall
+year_falls n = over_falls year_span (n / 365) n (omega (arith, years_least (suc (n / 365))))
 
-pub year-short : {n : ℕ} {w : Fall} → FallsIn yearSpan n w → w.since < yearDays (1904 + w.span)
-unfolding yearSpan
-year-short a = a.inside
+pub year_short : {n : ℕ} {w : Fall} → FallsIn year_span n w → w.since < year_days (1904 + w.span)
+unfolding year_span
+year_short a = a.inside
 
 -- the 137 years from 1904 to 2040 have more days than there are in 2 ^ 32 seconds
-years-2040 : sum_to yearSpan 137 ≡ 50040
-unfolding sum_to yearSpan yearDays leapDays ifEq
-years-2040 = refl
+years_2040 : sum_to year_span 137 ≡ 50040
+unfolding sum_to year_span year_days leap_days if_eq
+years_2040 = refl
 
-pub year-last : (n : ℕ) {w : Fall} → FallsIn yearSpan n w → n < 50040 → w.span < 137
-year-last n {w} a h = sum-within yearSpan w.span 137 n (omega arith) (rw years-2040 h)
+pub year_last : (n : ℕ) {w : Fall} → FallsIn year_span n w → n < 50040 → w.span < 137
+year_last n {w} a h = sum_within year_span w.span 137 n (omega arith) (rw years_2040 h)
 
 module _ (y : ℕ) where
-  pub month-is : (m : ℕ) {r : ℕ} → r ≡ leapDays y → get_or (0 ∷ 31 ∷ (28 + r) ∷ 31 ∷ 30 ∷ 31 ∷ 30 ∷ 31 ∷ 31 ∷ 30 ∷ 31 ∷ 30 ∷ 31 ∷ []) m 0
-      ≡ monthDays y m
-  unfolding monthDays
-  month-is m e = rw e
+  pub month_is : (m : ℕ) {r : ℕ} → r ≡ leap_days y → get_or (0 ∷ 31 ∷ (28 + r) ∷ 31 ∷ 30 ∷ 31 ∷ 30 ∷ 31 ∷ 31 ∷ 30 ∷ 31 ∷ 30 ∷ 31 ∷ []) m 0
+      ≡ month_days y m
+  unfolding month_days
+  month_is m e = rw e
 
-  pub january : 31 ≡ monthDays y 1
-  unfolding monthDays
+  pub january : 31 ≡ month_days y 1
+  unfolding month_days
   january = refl
 
   -- its twelve months are the year
-  pub months-all : sum_to (monthDays y) 13 ≡ yearDays y
-  unfolding sum_to monthDays yearDays
-  months-all = omega arith
+  pub months_all : sum_to (month_days y) 13 ≡ year_days y
+  unfolding sum_to month_days year_days
+  months_all = omega arith
 
   -- no day is before the first month
-  pub months-none : sum_to (monthDays y) 1 ≡ 0
-  unfolding sum_to monthDays
-  months-none = refl
+  pub months_none : sum_to (month_days y) 1 ≡ 0
+  unfolding sum_to month_days
+  months_none = refl
 
-  pub month-falls : (n : ℕ) → n < yearDays y → FallsIn (monthDays y) n (monthFall y n)
-  unfolding monthFall
-  month-falls n h = over-falls (monthDays y) 12 n (rw months-all h)
+  pub month_falls : (n : ℕ) → n < year_days y → FallsIn (month_days y) n (month_fall y n)
+  unfolding month_fall
+  month_falls n h = over_falls (month_days y) 12 n (rw months_all h)
 
-  pub month-last : (m n : ℕ) → n < yearDays y → sum_to (monthDays y) m ≤ n → m < 13
-  month-last m n h l = sum-within (monthDays y) m 13 n l (rw months-all h)
+  pub month_last : (m n : ℕ) → n < year_days y → sum_to (month_days y) m ≤ n → m < 13
+  month_last m n h l = sum_within (month_days y) m 13 n l (rw months_all h)
 
   -- a month that is over is not the last
-  pub month-next : (m n : ℕ) → n < yearDays y → sum_to (monthDays y) m + monthDays y m ≤ n → m + 1 < 13
-  month-next m n h l = month-last (m + 1) n h (rw (sum_more (monthDays y) m) l)
+  pub month_next : (m n : ℕ) → n < year_days y → sum_to (month_days y) m + month_days y m ≤ n → m + 1 < 13
+  month_next m n h l = month_last (m + 1) n h (rw (sum_more (month_days y) m) l)
 
-  pub month-first : {n : ℕ} {w : Fall} → FallsIn (monthDays y) n w → 1 ≤ w.span
-  month-first {n} {w} a = omega (arith, sum-within (monthDays y) 1 (w.span + 1) n (rw months-none (omega arith)) (falls_below (monthDays y) a))
+  pub month_first : {n : ℕ} {w : Fall} → FallsIn (month_days y) n w → 1 ≤ w.span
+  month_first {n} {w} a = omega (arith, sum_within (month_days y) 1 (w.span + 1) n (rw months_none (omega arith)) (falls_below (month_days y) a))

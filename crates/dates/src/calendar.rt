@@ -1,6 +1,6 @@
 // Days of years and of months, and the year and the month in which a day falls.
 ghost use Rattle.std.specs.Prelude.{◌≡◌, ◌^◌, ◌≤◌, ◌<◌};
-ghost use Rattle.dates.specs.Calendar.{leapDays, yearDays, monthDays, yearSpan};
+ghost use Rattle.dates.specs.Calendar.{leap_days, year_days, month_days, year_span};
 ghost use Rattle.dates.specs.Dates.{FallsIn};
 
 // Of years or months one after another the one in which a day falls, and the days since its start.
@@ -12,7 +12,7 @@ pub struct Fall {
 
 // The leap days of a year.
 fn leap_days(y: usize) -> usize
-    ensures { (result ≡ leapDays y) × (result ≤ 1) }
+    ensures { (result ≡ leap_days y) × (result ≤ 1) }
 {
     if y % 4 == 0 {
         if y % 100 == 0 {
@@ -29,7 +29,7 @@ fn leap_days(y: usize) -> usize
 // The days of a month, which is counted from 1.
 fn month_days(y: usize, m: usize) -> usize
     requires { m < 13 }
-    ensures { result ≡ monthDays y m }
+    ensures { result ≡ month_days y m }
 {
     let february = 28 + leap_days(y);
     let days = [0, 31, february, 31, 30, 31, 30, 31, 31, 30, 31, 30, 31];
@@ -39,7 +39,7 @@ fn month_days(y: usize, m: usize) -> usize
 // The year, from 1904 on, in which day n since the start of 1904 falls.
 pub fn fall_in_years(n: usize) -> Fall
     requires { n < 2 ^ 32 }
-    ensures { FallsIn yearSpan n result × (result.span ≤ n) }
+    ensures { FallsIn year_span n result × (result.span ≤ n) }
 {
     let mut i = 0;
     let mut since = n;
@@ -57,8 +57,8 @@ pub fn fall_in_years(n: usize) -> Fall
 
 // The month in which day n since the start of year y falls.
 pub fn fall_in_months(y: usize, n: usize) -> Fall
-    requires { n < yearDays y }
-    ensures { FallsIn (monthDays y) n result }
+    requires { n < year_days y }
+    ensures { FallsIn (month_days y) n result }
 {
     let mut m = 1;
     let mut since = n;

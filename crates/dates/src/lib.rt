@@ -3,8 +3,8 @@ mod calendar;
 
 ghost use Rattle.std.specs.Prelude.{◌≡◌, ◌∷◌, ◌+◌, ◌^◌, ◌≤◌, ◌<◌};
 ghost use Rattle.wire.specs.Writing.{Put};
-ghost use Rattle.dates.specs.Dates.{dateOf};
-ghost use Rattle.dates.specs.DateText.{twoDigits, dateText, timeText};
+ghost use Rattle.dates.specs.Dates.{date_of};
+ghost use Rattle.dates.specs.DateText.{two_digits, date_text, time_text};
 
 use wire::pen;
 
@@ -21,7 +21,7 @@ pub struct Date {
 
 // The date of a time.
 pub fn date_of(t: u32) -> Date
-    ensures { result ≡ dateOf t }
+    ensures { result ≡ date_of t }
 {
     let days = t as usize / 86400;
     let seconds = t as usize % 86400;
@@ -41,7 +41,7 @@ pub fn date_of(t: u32) -> Date
 // Two digits.
 fn put_two(out: &mut [u8], at: usize, n: usize) -> usize
     requires { at + 2 < 2 ^ 63 }
-    ensures { Put (twoDigits n) out.old at result out.new }
+    ensures { Put (two_digits n) out.old at result out.new }
 {
     let digits = [(48 + n / 10 % 10) as u8, (48 + n % 10) as u8];
     pen::put_part(out, at, &digits)
@@ -50,7 +50,7 @@ fn put_two(out: &mut [u8], at: usize, n: usize) -> usize
 // A mark, and then two digits.
 fn put_marked(out: &mut [u8], at: usize, mark: u8, n: usize) -> usize
     requires { at + 3 < 2 ^ 63 }
-    ensures { Put (mark ∷ twoDigits n) out.old at result out.new }
+    ensures { Put (mark ∷ two_digits n) out.old at result out.new }
 {
     let a = pen::put_byte(out, at, mark);
     put_two(out, a, n)
@@ -59,7 +59,7 @@ fn put_marked(out: &mut [u8], at: usize, mark: u8, n: usize) -> usize
 // A date's text.
 fn put_date(out: &mut [u8], at: usize, d: Date) -> usize
     requires { at < 2 ^ 62 }
-    ensures { Put (dateText d) out.old at result out.new × (result ≤ at + 19) }
+    ensures { Put (date_text d) out.old at result out.new × (result ≤ at + 19) }
 {
     let a = put_two(out, at, d.year / 100);
     let b = put_two(out, a, d.year % 100);
@@ -73,7 +73,7 @@ fn put_date(out: &mut [u8], at: usize, d: Date) -> usize
 // A time's text.
 pub fn put_time(out: &mut [u8], at: usize, t: u32) -> usize
     requires { at < 2 ^ 62 }
-    ensures { Put (timeText t) out.old at result out.new × (result ≤ at + 19) }
+    ensures { Put (time_text t) out.old at result out.new × (result ≤ at + 19) }
 {
     if t == 0 {
         return pen::put_part(out, at, b"no time");

@@ -7,107 +7,107 @@ use mathlib.Core.Path.{◌≡◌, refl, sym, ap, ◌∙◌}
 use mathlib.Core.List.{List, [], ◌∷◌, ◌++◌}
 use mathlib.Core.Logic.{⊎_elim}
 use lib.ListN.{length, take, get_or}
-use Rattle.wire.specs.Tests.{ifLt}
+use Rattle.wire.specs.Tests.{if_lt}
 use Rattle.wire.specs.Numbers.{Bytes}
 use Rattle.wire.specs.Writing.{Put}
-use Rattle.wire.proofs.Writing.{pen-none, pen-then, pen-is}
-use Rattle.wire.proofs.Tests.{lt-yea, lt-nay, lt-or, lt-ways}
+use Rattle.wire.proofs.Writing.{pen_none, pen_then, pen_is}
+use Rattle.wire.proofs.Tests.{lt_yea, lt_nay, lt_or, lt_ways}
 use Rattle.descriptors.specs.declared.length.Length.{Length}
 use Rattle.descriptors.specs.declared.length.Length.TheVariants.{Says, Broken}
-use Rattle.descriptors.specs.Lengths.{lengthFrom, length_at, moreOn, lengthBytes, leastMore, shortest, TOO_LONG}
-use Rattle.descriptors.proofs.Lengths.{more-fits, said}
+use Rattle.descriptors.specs.Lengths.{length_from, length_at, more_on, length_bytes, least_more, shortest, TOO_LONG}
+use Rattle.descriptors.proofs.Lengths.{more_fits, said}
 
 -- ---- bytes with the top bit set
 
-pub more-append : (w n : ℕ) (xs ys : List ℕ) → moreOn w n xs ++ ys ≡ moreOn w n (xs ++ ys)
-unfolding moreOn
-more-append zero n xs ys = refl
-more-append (suc w) n xs ys = more-append w (n / 128) ((128 + n % 128) ∷ xs) ys
+pub more_append : (w n : ℕ) (xs ys : List ℕ) → more_on w n xs ++ ys ≡ more_on w n (xs ++ ys)
+unfolding more_on
+more_append zero n xs ys = refl
+more_append (suc w) n xs ys = more_append w (n / 128) ((128 + n % 128) ∷ xs) ys
 
-pub length_more : (w n : ℕ) (xs : List ℕ) → length (moreOn w n xs) ≡ w + length xs
-unfolding moreOn
+pub length_more : (w n : ℕ) (xs : List ℕ) → length (more_on w n xs) ≡ w + length xs
+unfolding more_on
 length_more zero n xs = omega arith
 length_more (suc w) n xs = length_more w (n / 128) ((128 + n % 128) ∷ xs) ∙ omega (arith, add-one w, add-one (length xs))
 
 -- they are read as the number, and then what follows them
-more-read : (w v n k : ℕ) (xs : List ℕ) → n < 128 ^ w → lengthFrom (w + v) 0 k (moreOn w n xs) ≡ lengthFrom v n (k + w) xs
-unfolding moreOn lengthFrom
-more-read zero v n k xs h =
+more_read : (w v n k : ℕ) (xs : List ℕ) → n < 128 ^ w → length_from (w + v) 0 k (more_on w n xs) ≡ length_from v n (k + w) xs
+unfolding more_on length_from
+more_read zero v n k xs h =
     let z : n ≡ 0 = omega arith in
     let a : 0 + v ≡ v = omega arith in
     let b : k + 0 ≡ k = omega arith in
     rw (z, a, b)
-more-read (suc w) v n k xs h =
+more_read (suc w) v n k xs h =
     let a : suc w + v ≡ w + suc v = suc-add w v ∙ sym (add-suc w v) in
     let l : n / 128 < 128 ^ w = omega (arith, pow-suc 128 w) in
     let p : n ≡ n / 128 * 128 + (128 + n % 128) % 128 = omega arith in
     let q : k + suc w ≡ k + w + 1 = omega (arith, add-one w) in
     rw a
-    (more-read w (suc v) (n / 128) k ((128 + n % 128) ∷ xs) l
-    ∙ sym (lt-nay (128 + n % 128) 128 _ _ _ (omega arith) (ap (λ (m : ℕ). lengthFrom v m (k + suc w) xs) p ∙ rw q)))
+    (more_read w (suc v) (n / 128) k ((128 + n % 128) ∷ xs) l
+    ∙ sym (lt_nay (128 + n % 128) 128 _ _ _ (omega arith) (ap (λ (m : ℕ). length_from v m (k + suc w) xs) p ∙ rw q)))
 
 -- ---- a length of w bytes and one
 
 module _ (w n : ℕ) where
-  pub length-bytes : length (lengthBytes w n) ≡ w + 1
-  unfolding lengthBytes
-  length-bytes = length_more w (n / 128) (n % 128 ∷ [])
+  pub length_bytes_lem : length (length_bytes w n) ≡ w + 1
+  unfolding length_bytes
+  length_bytes_lem = length_more w (n / 128) (n % 128 ∷ [])
 
   -- there
-  pub bytes_read : w ≤ 3 → n < 128 ^ suc w → (xs : List ℕ) → length_at (lengthBytes w n ++ xs) ≡ Says n (w + 1)
-  unfolding length_at lengthBytes lengthFrom
+  pub bytes_read : w ≤ 3 → n < 128 ^ suc w → (xs : List ℕ) → length_at (length_bytes w n ++ xs) ≡ Says n (w + 1)
+  unfolding length_at length_bytes length_from
   bytes_read h l xs =
       let e : 4 ≡ w + suc (3 - w) = omega (arith, add-one (3 - w)) in
       let d : n / 128 < 128 ^ w = omega (arith, pow-suc 128 w) in
       let p : n ≡ n / 128 * 128 + n % 128 = omega arith in
       let z : 0 + w ≡ w = omega arith in
-      rw more-append
-      (ap (λ (v : ℕ). lengthFrom v 0 0 (moreOn w (n / 128) (n % 128 ∷ xs))) e
-      ∙ more-read w (suc (3 - w)) (n / 128) 0 (n % 128 ∷ xs) d
-      ∙ ap (λ (k : ℕ). lengthFrom (suc (3 - w)) (n / 128) k (n % 128 ∷ xs)) z
-      ∙ sym (lt-yea (n % 128) 128 _ _ _ (omega arith) (ap (λ (m : ℕ). Says m (w + 1)) p)))
+      rw more_append
+      (ap (λ (v : ℕ). length_from v 0 0 (more_on w (n / 128) (n % 128 ∷ xs))) e
+      ∙ more_read w (suc (3 - w)) (n / 128) 0 (n % 128 ∷ xs) d
+      ∙ ap (λ (k : ℕ). length_from (suc (3 - w)) (n / 128) k (n % 128 ∷ xs)) z
+      ∙ sym (lt_yea (n % 128) 128 _ _ _ (omega arith) (ap (λ (m : ℕ). Says m (w + 1)) p)))
 
 -- ---- the shortest
 
 -- by how many bytes it takes
-by-least : (P : ℕ → Type 0) (n : ℕ) → (n < 128 → P 0) → (128 ≤ n → n < 16384 → P 1) → (16384 ≤ n → n < 2097152 → P 2) → (2097152 ≤ n → P 3) → P (leastMore n)
-unfolding leastMore
-by-least P n a b c d =
-    lt-or n 128 (λ l. let e : leastMore n ≡ 0 = sym (lt-yea _ _ _ _ _ l refl) in rw e (a l))
-    (λ g. lt-or n 16384 (λ l. let e : leastMore n ≡ 1 = sym (lt-nay _ _ _ _ _ g (lt-yea _ _ _ _ _ l refl)) in rw e (b g l))
-    (λ g2. lt-or n 2097152 (λ l. let e : leastMore n ≡ 2 = sym (lt-nay _ _ _ _ _ g (lt-nay _ _ _ _ _ g2 (lt-yea _ _ _ _ _ l refl))) in rw e (c g2 l))
-    (λ g3. let e : leastMore n ≡ 3 = sym (lt-nay _ _ _ _ _ g (lt-nay _ _ _ _ _ g2 (lt-nay _ _ _ _ _ g3 refl))) in rw e (d g3))))
+by_least : (P : ℕ → Type 0) (n : ℕ) → (n < 128 → P 0) → (128 ≤ n → n < 16384 → P 1) → (16384 ≤ n → n < 2097152 → P 2) → (2097152 ≤ n → P 3) → P (least_more n)
+unfolding least_more
+by_least P n a b c d =
+    lt_or n 128 (λ l. let e : least_more n ≡ 0 = sym (lt_yea _ _ _ _ _ l refl) in rw e (a l))
+    (λ g. lt_or n 16384 (λ l. let e : least_more n ≡ 1 = sym (lt_nay _ _ _ _ _ g (lt_yea _ _ _ _ _ l refl)) in rw e (b g l))
+    (λ g2. lt_or n 2097152 (λ l. let e : least_more n ≡ 2 = sym (lt_nay _ _ _ _ _ g (lt_nay _ _ _ _ _ g2 (lt_yea _ _ _ _ _ l refl))) in rw e (c g2 l))
+    (λ g3. let e : least_more n ≡ 3 = sym (lt_nay _ _ _ _ _ g (lt_nay _ _ _ _ _ g2 (lt_nay _ _ _ _ _ g3 refl))) in rw e (d g3))))
 
-pub least-few : (n : ℕ) → leastMore n ≤ 3
-least-few n = by-least (λ v. v ≤ 3) n (λ a. omega arith) (λ a b. omega arith) (λ a b. omega arith) (λ a. omega arith)
+pub least_few : (n : ℕ) → least_more n ≤ 3
+least_few n = by_least (λ v. v ≤ 3) n (λ a. omega arith) (λ a b. omega arith) (λ a b. omega arith) (λ a. omega arith)
 
-least_fits : (n : ℕ) → n < TOO_LONG → n < 128 ^ suc (leastMore n)
-least_fits n h = by-least (λ v. n < 128 ^ suc v) n (λ a. omega arith) (λ a b. omega arith) (λ a b. omega arith) (λ a. omega arith)
+least_fits : (n : ℕ) → n < TOO_LONG → n < 128 ^ suc (least_more n)
+least_fits n h = by_least (λ v. n < 128 ^ suc v) n (λ a. omega arith) (λ a b. omega arith) (λ a b. omega arith) (λ a. omega arith)
 
 -- no fewer bytes say it
-pub least : (n w : ℕ) → n < 128 ^ suc w → leastMore n ≤ w
+pub least : (n w : ℕ) → n < 128 ^ suc w → least_more n ≤ w
 least n w h =
-    by-least (λ v. v ≤ w) n (λ a. omega arith) (λ a b. at 1 (omega arith)) (λ a b. at 2 (omega arith)) (λ a. at 3 (omega arith))
+    by_least (λ v. v ≤ w) n (λ a. omega arith) (λ a b. at 1 (omega arith)) (λ a b. at 2 (omega arith)) (λ a. at 3 (omega arith))
   where
     at : (v : ℕ) → 128 ^ v ≤ n → v ≤ w
     at v g =
-        lt-or w v
+        lt_or w v
         (λ l. absurd (let m : 128 ^ suc w ≤ 128 ^ v = pow-le-pow_right {n = 128} (omega arith) {i = suc w} {j = v} l in omega arith))
         (λ l. l)
 
 module _ (n : ℕ) where
-  pub length-shortest : length (shortest n) ≡ leastMore n + 1
+  pub length_shortest : length (shortest n) ≡ least_more n + 1
   unfolding shortest
-  length-shortest = length-bytes (leastMore n) n
+  length_shortest = length_bytes_lem (least_more n) n
 
-  pub shortest-read : n < TOO_LONG → (xs : List ℕ) → length_at (shortest n ++ xs) ≡ Says n (leastMore n + 1)
+  pub shortest_read : n < TOO_LONG → (xs : List ℕ) → length_at (shortest n ++ xs) ≡ Says n (least_more n + 1)
   unfolding shortest
-  shortest-read h xs = bytes_read (leastMore n) n (least-few n) (least_fits n h) xs
+  shortest_read h xs = bytes_read (least_more n) n (least_few n) (least_fits n h) xs
 
 -- ---- and back: a length that is read is that of its number in as many bytes
 
-again : (w n k : ℕ) (xs : List ℕ) (m j : ℕ) → Bytes xs → n < 128 ^ k → lengthFrom w n k xs ≡ Says m j → moreOn k n (take (j - k) xs) ≡ lengthBytes (j - 1) m
-unfolding lengthFrom lengthBytes moreOn
+again : (w n k : ℕ) (xs : List ℕ) (m j : ℕ) → Bytes xs → n < 128 ^ k → length_from w n k xs ≡ Says m j → more_on k n (take (j - k) xs) ≡ length_bytes (j - 1) m
+unfolding length_from length_bytes more_on
 again zero n k xs m j b h e = absurd (let z : ◌≡◌ {A = ℕ} 0 1 = cc in omega arith)
 again (suc w) n k [] m j b h e = absurd (let z : ◌≡◌ {A = ℕ} 0 1 = cc in omega arith)
 again (suc w) n k (x ∷ xs) m j b h e =
@@ -122,36 +122,36 @@ again (suc w) n k (x ∷ xs) m j b h e =
     rw (a, c, d, f))
     (λ t.
     let u = n * 128 + x % 128 in
-    let g : u < 128 ^ (k + 1) = more-fits n k (x % 128) h (omega arith) in
+    let g : u < 128 ^ (k + 1) = more_fits n k (x % 128) h (omega arith) in
     let s = said w u (k + 1) xs m j g t.1 in
-    let i : moreOn (suc k) u (take (j - (k + 1)) xs) ≡ lengthBytes (j - 1) m =
-    ap (λ (v : ℕ). moreOn v u (take (j - (k + 1)) xs)) (sym (add-one k)) ∙ again w u (k + 1) xs m j (λ i. b (suc i)) g t.1 in
+    let i : more_on (suc k) u (take (j - (k + 1)) xs) ≡ length_bytes (j - 1) m =
+    ap (λ (v : ℕ). more_on v u (take (j - (k + 1)) xs)) (sym (add-one k)) ∙ again w u (k + 1) xs m j (λ i. b (suc i)) g t.1 in
     let a : j - k ≡ suc (j - (k + 1)) = omega (arith, s.past, add-one (j - (k + 1))) in
     let c : n ≡ u / 128 = omega arith in
     let d : x ≡ 128 + u % 128 = omega (arith, b 0) in
-    rw a (ap (λ (v : ℕ). moreOn k v (x ∷ take (j - (k + 1)) xs)) c ∙ ap (λ (y : ℕ). moreOn k (u / 128) (y ∷ take (j - (k + 1)) xs)) d ∙ i))
-    (lt-ways x 128 _ _ _ e)
+    rw a (ap (λ (v : ℕ). more_on k v (x ∷ take (j - (k + 1)) xs)) c ∙ ap (λ (y : ℕ). more_on k (u / 128) (y ∷ take (j - (k + 1)) xs)) d ∙ i))
+    (lt_ways x 128 _ _ _ e)
 
-pub read_again : (xs : List ℕ) (n k : ℕ) → Bytes xs → length_at xs ≡ Says n k → take k xs ≡ lengthBytes (k - 1) n
-unfolding length_at moreOn
+pub read_again : (xs : List ℕ) (n k : ℕ) → Bytes xs → length_at xs ≡ Says n k → take k xs ≡ length_bytes (k - 1) n
+unfolding length_at more_on
 read_again xs n k b e = let z : k - 0 ≡ k = omega arith in rw z at (again 4 0 0 xs n k b (omega arith) e)
 
 -- ---- how it is written
 
-pub put-none : (w n : ℕ) (out : List ℕ) {at : ℕ} → w ≡ 0 → Put (moreOn w n []) out at at out
-unfolding moreOn
-put-none w n out {at} z = rw z (pen-none out at)
+pub put_none : (w n : ℕ) (out : List ℕ) {at : ℕ} → w ≡ 0 → Put (more_on w n []) out at at out
+unfolding more_on
+put_none w n out {at} z = rw z (pen_none out at)
 
 -- the bytes before, and one more
-pub put-one-more : (w n : ℕ) {out mid after : List ℕ} {at m r : ℕ} → (w ≡ 0 → ⊥) → Put (moreOn (w - 1) (n / 128) []) out at m mid
-    → Put ((128 + n % 128) ∷ []) mid m r after → Put (moreOn w n []) out at r after
-unfolding moreOn
-put-one-more zero n z p q = absurd (z refl)
-put-one-more (suc w) n z p q =
+pub put_one_more : (w n : ℕ) {out mid after : List ℕ} {at m r : ℕ} → (w ≡ 0 → ⊥) → Put (more_on (w - 1) (n / 128) []) out at m mid
+    → Put ((128 + n % 128) ∷ []) mid m r after → Put (more_on w n []) out at r after
+unfolding more_on
+put_one_more zero n z p q = absurd (z refl)
+put_one_more (suc w) n z p q =
     let s : suc w - 1 ≡ w = omega arith in
-    pen-is (more-append w (n / 128) [] ((128 + n % 128) ∷ [])) (pen-then (rw s at p) q)
+    pen_is (more_append w (n / 128) [] ((128 + n % 128) ∷ [])) (pen_then (rw s at p) q)
 
-pub put_last : (n : ℕ) {out mid after : List ℕ} {at m r w : ℕ} → w ≡ leastMore n → Put (moreOn w (n / 128) []) out at m mid → Put (n % 128 ∷ []) mid m r after
+pub put_last : (n : ℕ) {out mid after : List ℕ} {at m r w : ℕ} → w ≡ least_more n → Put (more_on w (n / 128) []) out at m mid → Put (n % 128 ∷ []) mid m r after
     → Put (shortest n) out at r after
-unfolding shortest lengthBytes
-put_last n e p q = pen-is (more-append (leastMore n) (n / 128) [] (n % 128 ∷ [])) (pen-then (rw e at p) q)
+unfolding shortest length_bytes
+put_last n e p q = pen_is (more_append (least_more n) (n / 128) [] (n % 128 ∷ [])) (pen_then (rw e at p) q)

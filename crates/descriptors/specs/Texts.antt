@@ -4,8 +4,8 @@ use Rattle.wire.specs.Numbers.{bytes}
 use Rattle.descriptors.specs.Lengths.{shortest}
 
 -- its tag and the length of its contents, "with shortest lengths"
-unfoldable pub headText : (tag n : ℕ) → List ℕ
-headText tag n = bytes 1 tag ++ shortest n
+unfoldable pub head_text : (tag n : ℕ) → List ℕ
+head_text tag n = bytes 1 tag ++ shortest n
 
-unfoldable pub descriptorText : ℕ → List ℕ → List ℕ
-descriptorText tag xs = headText tag (length xs) ++ xs
+unfoldable pub descriptor_text : ℕ → List ℕ → List ℕ
+descriptor_text tag xs = head_text tag (length xs) ++ xs

@@ -1,8 +1,8 @@
 // The descriptor at the front of a part.
 ghost use Rattle.std.specs.Prelude.{◌≡◌, ◌+◌, ◌^◌, ◌≤◌, ◌<◌};
 ghost use Rattle.wire.specs.Writing.{Put};
-ghost use Rattle.descriptors.specs.Trees.{frontOf};
-ghost use Rattle.descriptors.specs.Texts.{headText};
+ghost use Rattle.descriptors.specs.Trees.{front_of};
+ghost use Rattle.descriptors.specs.Texts.{head_text};
 
 use crate::length;
 use crate::length::Length;
@@ -23,7 +23,7 @@ pub enum Front {
 }
 
 pub fn read(part: &[u8]) -> Front
-    ensures { result ≡ frontOf part.now }
+    ensures { result ≡ front_of part.now }
 {
     match length::read(lend::rest(part, 1)) {
         Length::Says(n, k) => {
@@ -44,7 +44,7 @@ pub fn read(part: &[u8]) -> Front
 // Writes the header of one with n bytes of contents.
 pub fn put_head(out: &mut [u8], at: usize, tag: usize, n: usize) -> usize
     requires { at < 2 ^ 60 }
-    ensures { Put (headText tag n) out.old at result out.new × (result ≤ at + 5) }
+    ensures { Put (head_text tag n) out.old at result out.new × (result ≤ at + 5) }
 {
     let m = pen::put_number(out, at, 1, tag);
     length::put(out, m, n)

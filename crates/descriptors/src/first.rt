@@ -1,7 +1,7 @@
 // The first of the descriptors that stand in a part, where there is one.
 ghost use Rattle.std.specs.Prelude.{◌≡◌, ℕ, ◌≤◌};
 ghost use Rattle.descriptors.specs.Parts.{holding};
-ghost use Rattle.descriptors.specs.Trees.{firstHead, firstOwn, firstHeld, afterFirst, tree};
+ghost use Rattle.descriptors.specs.Trees.{first_head, first_own, first_held, after_first, tree};
 
 use crate::descriptor::Front;
 use crate::{descriptor, part};
@@ -9,7 +9,7 @@ use wire::lend;
 
 // The length of its header.
 pub fn head(bytes: &[u8]) -> usize
-    ensures { ((k : ℕ) → result ≡ firstHead (tree k bytes.now)) × (result ≤ 5) }
+    ensures { ((k : ℕ) → result ≡ first_head (tree k bytes.now)) × (result ≤ 5) }
 {
     match descriptor::read(bytes) {
         Front::Found(d) => d.head,
@@ -19,7 +19,7 @@ pub fn head(bytes: &[u8]) -> usize
 
 // The bytes of its own.
 pub fn own(bytes: &[u8], k: usize) -> &[u8]
-    ensures { result.now ≡ firstOwn (tree k bytes.now) }
+    ensures { result.now ≡ first_own (tree k bytes.now) }
 {
     match descriptor::read(bytes) {
         Front::Found(d) => {
@@ -33,7 +33,7 @@ pub fn own(bytes: &[u8], k: usize) -> &[u8]
 
 // Those of the descriptors that it holds.
 pub fn held(bytes: &[u8], k: usize) -> &[u8]
-    ensures { tree (holding k) result.now ≡ firstHeld (tree k bytes.now) }
+    ensures { tree (holding k) result.now ≡ first_held (tree k bytes.now) }
 {
     match descriptor::read(bytes) {
         Front::Found(d) => {
@@ -47,7 +47,7 @@ pub fn held(bytes: &[u8], k: usize) -> &[u8]
 
 // Those after it.
 pub fn after(bytes: &[u8]) -> &[u8]
-    ensures { (k : ℕ) → tree k result.now ≡ afterFirst (tree k bytes.now) }
+    ensures { (k : ℕ) → tree k result.now ≡ after_first (tree k bytes.now) }
 {
     match descriptor::read(bytes) {
         Front::Found(d) => lend::rest(bytes, d.span),

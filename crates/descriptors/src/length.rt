@@ -1,7 +1,7 @@
 // The length of a descriptor's contents: one to four bytes of 7 bits each.
 ghost use Rattle.std.specs.Prelude.{◌≡◌, ◌+◌, ◌^◌, ◌≤◌, ◌<◌, [], length};
 ghost use Rattle.wire.specs.Writing.{Put};
-ghost use Rattle.descriptors.specs.Lengths.{length_at, leastMore, moreOn, shortest};
+ghost use Rattle.descriptors.specs.Lengths.{length_at, least_more, more_on, shortest};
 
 use wire::{number, pen};
 
@@ -35,7 +35,7 @@ pub fn read(part: &[u8]) -> Length
 
 // How many bytes stand before the last of the shortest.
 fn least_more(n: usize) -> usize
-    ensures { (result ≡ leastMore n) × (result ≤ 3) }
+    ensures { (result ≡ least_more n) × (result ≤ 3) }
 {
     if n < 128 {
         return 0;
@@ -52,7 +52,7 @@ fn least_more(n: usize) -> usize
 // Writes w bytes of a number with the top bit set.
 fn put_more(out: &mut [u8], at: usize, w: usize, n: usize) -> usize
     requires { (at < 2 ^ 61) × (w ≤ 3) }
-    ensures { Put (moreOn w n []) out.old at result out.new × (result ≡ at + w) }
+    ensures { Put (more_on w n []) out.old at result out.new × (result ≡ at + w) }
 {
     if w == 0 {
         return at;

@@ -1,7 +1,7 @@
 // The descriptors of a part, read recursively: each holds fewer bytes than what it stands in.
 ghost use Rattle.std.specs.Prelude.{◌≡◌};
 ghost use Rattle.descriptors.specs.Trees.{tree};
-ghost use Rattle.descriptors.specs.Reading.{partAfter, met as metOf, read_on};
+ghost use Rattle.descriptors.specs.Reading.{part_after, met as met_of, read_on};
 
 use crate::descriptor::Front;
 use crate::{descriptor, part};
@@ -15,7 +15,7 @@ pub struct Reading {
 
 // The part j where it may come right after the part `last`, else OTHER.
 fn follow(last: usize, j: usize) -> usize
-    ensures { result ≡ partAfter last j }
+    ensures { result ≡ part_after last j }
 {
     if last == part::TOP {
         if j == part::ES {
@@ -49,7 +49,7 @@ fn follow(last: usize, j: usize) -> usize
 
 // One descriptor more.
 fn met(r: Reading, j: usize, own: &[u8]) -> Reading
-    ensures { result ≡ metOf r j own.now }
+    ensures { result ≡ met_of r j own.now }
 {
     let last = follow(r.last, j);
     if part::own_fits(j, own) == 0 {

@@ -1,7 +1,7 @@
 // The parts of an `esds`, by their tags, and what each of them has.
 ghost use Rattle.std.specs.Prelude.{◌≡◌, ◌≤◌, length};
-ghost use Rattle.wire.specs.Clauses.{oneIf};
-ghost use Rattle.descriptors.specs.Parts.{holder as holderOf, partIn, fixed_of, own_of, held_of, ownFits};
+ghost use Rattle.wire.specs.Clauses.{one_if};
+ghost use Rattle.descriptors.specs.Parts.{holder as holder_of, part_in, fixed_of, own_of, held_of, own_fits};
 
 use wire::lend;
 
@@ -20,7 +20,7 @@ pub const OTHER: usize = 0;
 
 // The part that a tag belongs into.
 fn holder(tag: usize) -> usize
-    ensures { result ≡ holderOf tag }
+    ensures { result ≡ holder_of tag }
 {
     if tag == ES {
         return TOP;
@@ -39,7 +39,7 @@ fn holder(tag: usize) -> usize
 
 // The part that a tag is in the part k.
 pub fn part_in(k: usize, tag: usize) -> usize
-    ensures { result ≡ partIn k tag }
+    ensures { result ≡ part_in k tag }
 {
     if holder(tag) == k {
         return tag;
@@ -84,7 +84,7 @@ pub fn held(j: usize, contents: &[u8]) -> &[u8]
 
 // Whether its own bytes fit: 1 or 0.
 pub fn own_fits(j: usize, own: &[u8]) -> usize
-    ensures { result ≡ oneIf (ownFits j own.now) }
+    ensures { result ≡ one_if (own_fits j own.now) }
 {
     if j == SL {
         if own.len() != 1 {

@@ -10,18 +10,18 @@ use Rattle.boxes.specs.declared.walk.BoxAt.{BoxAt}
 use Rattle.boxes.specs.Box.{Box, size, write}
 use Rattle.boxes.specs.Boxes.{boxes, total, after}
 use Rattle.boxes.specs.Seek.{count}
-use Rattle.boxes.specs.Walk.{boxAt}
-use Rattle.boxes.proofs.Reading.{lengths, write-append, write-boxes}
-use Rattle.boxes.proofs.Placing.{length-write}
-use Rattle.boxes.proofs.Numbered.{count-append}
+use Rattle.boxes.specs.Walk.{box_at}
+use Rattle.boxes.proofs.Reading.{lengths, write_append, write_boxes}
+use Rattle.boxes.proofs.Placing.{length_write}
+use Rattle.boxes.proofs.Numbered.{count_append}
 use Rattle.judge.specs.Acceptance.{Meets}
-use Rattle.edit_offsets.specs.Close.{shutBox, closed, closedAt}
-use Rattle.edit_offsets.proofs.ClosedFile.{length-closed, boxes-closed, after-closed}
-use Rattle.edit_offsets.proofs.ClosingHere.{shut_one, closed-here}
-use Rattle.edit_offsets.proofs.Accepted.{file-tiled}
-use Rattle.edit_move.specs.Moving.{moovSecond}
-use Rattle.edit_move.specs.Arrange.{arranged, moovAt}
-use Rattle.edit_move.proofs.Order.{second-length, second_is}
+use Rattle.edit_offsets.specs.Close.{shut_box, closed, closed_at}
+use Rattle.edit_offsets.proofs.ClosedFile.{length_closed, boxes_closed, after_closed}
+use Rattle.edit_offsets.proofs.ClosingHere.{shut_one, closed_here}
+use Rattle.edit_offsets.proofs.Accepted.{file_tiled}
+use Rattle.edit_move.specs.Moving.{moov_second}
+use Rattle.edit_move.specs.Arrange.{arranged, moov_at}
+use Rattle.edit_move.proofs.Order.{second_length, second_is}
 use Rattle.edit_move.proofs.Pieces.{pieces_are}
 use Rattle.edit_move.proofs.Parted.{Parted}
 
@@ -31,50 +31,50 @@ module _ (xs : List ℕ) (v : Bytes xs) (m : Meets xs) {b : BoxAt} (p : Parted x
   -- one box takes its size
   takes : (x : Box) → length (write (x ∷ [])) ≡ size x
   unfolding total
-  takes x = length-write (x ∷ []) ∙ omega arith
+  takes x = length_write (x ∷ []) ∙ omega arith
 
-  file-is : xs ≡ write (p.ftyp ∷ []) ++ (write p.mid ++ (write (boxAt xs b ∷ []) ++ write p.end))
-  file-is =
-      sym (write-boxes xs v) ∙ rw (file-tiled xs m, append-nil, p.list)
-      (write-append (p.ftyp ∷ []) (p.mid ++ boxAt xs b ∷ p.end) ∙ rw (write-append p.mid (boxAt xs b ∷ p.end)) (ap (λ (l : List ℕ). write (p.ftyp ∷ []) ++ (write p.mid ++ l)) (write-append (boxAt xs b ∷ []) p.end)))
+  file_is : xs ≡ write (p.ftyp ∷ []) ++ (write p.mid ++ (write (box_at xs b ∷ []) ++ write p.end))
+  file_is =
+      sym (write_boxes xs v) ∙ rw (file_tiled xs m, append-nil, p.list)
+      (write_append (p.ftyp ∷ []) (p.mid ++ box_at xs b ∷ p.end) ∙ rw (write_append p.mid (box_at xs b ∷ p.end)) (ap (λ (l : List ℕ). write (p.ftyp ∷ []) ++ (write p.mid ++ l)) (write_append (box_at xs b ∷ []) p.end)))
 
-  order_is : write (p.ftyp ∷ (boxAt xs b ∷ (p.mid ++ p.end))) ≡ write (p.ftyp ∷ []) ++ (write (boxAt xs b ∷ []) ++ (write p.mid ++ write p.end))
+  order_is : write (p.ftyp ∷ (box_at xs b ∷ (p.mid ++ p.end))) ≡ write (p.ftyp ∷ []) ++ (write (box_at xs b ∷ []) ++ (write p.mid ++ write p.end))
   order_is =
-      write-append (p.ftyp ∷ []) (boxAt xs b ∷ (p.mid ++ p.end)) ∙ ap (λ (l : List ℕ). write (p.ftyp ∷ []) ++ l) (write-append (boxAt xs b ∷ []) (p.mid ++ p.end))
-      ∙ ap (λ (l : List ℕ). write (p.ftyp ∷ []) ++ (write (boxAt xs b ∷ []) ++ l)) (write-append p.mid p.end)
+      write_append (p.ftyp ∷ []) (box_at xs b ∷ (p.mid ++ p.end)) ∙ ap (λ (l : List ℕ). write (p.ftyp ∷ []) ++ l) (write_append (box_at xs b ∷ []) (p.mid ++ p.end))
+      ∙ ap (λ (l : List ℕ). write (p.ftyp ∷ []) ++ (write (box_at xs b ∷ []) ++ l)) (write_append p.mid p.end)
 
-  arranged_is : arranged (size p.ftyp) b xs ≡ write (p.ftyp ∷ (boxAt xs b ∷ (p.mid ++ p.end)))
+  arranged_is : arranged (size p.ftyp) b xs ≡ write (p.ftyp ∷ (box_at xs b ∷ (p.mid ++ p.end)))
   arranged_is =
-      ap (arranged (size p.ftyp) b) file-is
-      ∙ pieces_are (write (p.ftyp ∷ [])) (write p.mid) (write (boxAt xs b ∷ [])) (write p.end) (size p.ftyp) b
-      (takes p.ftyp) (p.at ∙ ap (λ (n : ℕ). size p.ftyp + n) (sym (length-write p.mid))) (p.span ∙ sym (takes (boxAt xs b)))
+      ap (arranged (size p.ftyp) b) file_is
+      ∙ pieces_are (write (p.ftyp ∷ [])) (write p.mid) (write (box_at xs b ∷ [])) (write p.end) (size p.ftyp) b
+      (takes p.ftyp) (p.at ∙ ap (λ (n : ℕ). size p.ftyp + n) (sym (length_write p.mid))) (p.span ∙ sym (takes (box_at xs b)))
       ∙ sym order_is
 
   -- ---- `moov` closed where it then stands
 
-  pub others-none : (count MOOV (p.ftyp ∷ []) ≡ 0) × (count MOOV (p.mid ++ p.end) ≡ 0)
+  pub others_none : (count MOOV (p.ftyp ∷ []) ≡ 0) × (count MOOV (p.mid ++ p.end) ≡ 0)
   unfolding count
-  others-none = (omega (arith, p.before), omega (arith, p.before, p.behind, count-append MOOV p.mid p.end))
+  others_none = (omega (arith, p.before), omega (arith, p.before, p.behind, count_append MOOV p.mid p.end))
 
-  pub shut-is : boxes (closed xs) ≡ map shutBox (boxes xs)
-  shut-is = boxes-closed xs v (omega (arith, m.most))
+  pub shut_is : boxes (closed xs) ≡ map shut_box (boxes xs)
+  shut_is = boxes_closed xs v (omega (arith, m.most))
 
-  pub second-shut : moovSecond (boxes (closed xs)) ≡ p.ftyp ∷ (shutBox (boxAt xs b) ∷ (p.mid ++ p.end))
+  pub second_shut : moov_second (boxes (closed xs)) ≡ p.ftyp ∷ (shut_box (box_at xs b) ∷ (p.mid ++ p.end))
   unfolding count
-  second-shut =
-      ap moovSecond (shut-is ∙ ap (map shutBox) p.list ∙ shut_one (p.ftyp ∷ p.mid) (boxAt xs b) p.end p.before p.behind)
-      ∙ second_is (shutBox (boxAt xs b)) p.end p.moov p.behind p.ftyp p.mid (omega (arith, p.before))
+  second_shut =
+      ap moov_second (shut_is ∙ ap (map shut_box) p.list ∙ shut_one (p.ftyp ∷ p.mid) (box_at xs b) p.end p.before p.behind)
+      ∙ second_is (shut_box (box_at xs b)) p.end p.moov p.behind p.ftyp p.mid (omega (arith, p.before))
 
-  pub closed_is : (rest : List ℕ) → closedAt (moovAt (size p.ftyp) b) (arranged (size p.ftyp) b xs ++ rest) ≡ write (moovSecond (boxes (closed xs))) ++ rest
+  pub closed_is : (rest : List ℕ) → closed_at (moov_at (size p.ftyp) b) (arranged (size p.ftyp) b xs ++ rest) ≡ write (moov_second (boxes (closed xs))) ++ rest
   unfolding total
   closed_is rest =
       let q : List Box = p.mid ++ p.end in
-      ap (λ (ys : List ℕ). closedAt (moovAt (size p.ftyp) b) (ys ++ rest)) arranged_is
-      ∙ closed-here (p.ftyp ∷ []) (boxAt xs b) q rest (moovAt (size p.ftyp) b) p.moov others-none.0 others-none.1 (omega arith) refl p.span
-      ∙ ap (λ (l : List Box). write l ++ rest) (shut_one (p.ftyp ∷ []) (boxAt xs b) q others-none.0 others-none.1 ∙ sym second-shut)
+      ap (λ (ys : List ℕ). closed_at (moov_at (size p.ftyp) b) (ys ++ rest)) arranged_is
+      ∙ closed_here (p.ftyp ∷ []) (box_at xs b) q rest (moov_at (size p.ftyp) b) p.moov others_none.0 others_none.1 (omega arith) refl p.span
+      ∙ ap (λ (l : List Box). write l ++ rest) (shut_one (p.ftyp ∷ []) (box_at xs b) q others_none.0 others_none.1 ∙ sym second_shut)
 
-  pub second-long : length (write (moovSecond (boxes (closed xs)))) ≡ length xs
-  second-long = omega (arith, second-length (boxes (closed xs)), lengths (closed xs), length-closed xs, ap length nothing-after)
+  pub second_long : length (write (moov_second (boxes (closed xs)))) ≡ length xs
+  second_long = omega (arith, second_length (boxes (closed xs)), lengths (closed xs), length_closed xs, ap length nothing_after)
     where
-      nothing-after : after (closed xs) ≡ []
-      nothing-after = after-closed xs v (omega (arith, m.most)) ∙ file-tiled xs m
+      nothing_after : after (closed xs) ≡ []
+      nothing_after = after_closed xs v (omega (arith, m.most)) ∙ file_tiled xs m

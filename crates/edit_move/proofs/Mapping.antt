@@ -6,20 +6,20 @@ use Rattle.codes.specs.Codes.{MOOV}
 use Rattle.wire.proofs.Tests.{through}
 use Rattle.boxes.specs.Box.{Box}
 use Rattle.boxes.specs.Rewrite.{Bodies, over}
-use Rattle.edit_move.specs.Moving.{just, others, moovSecond}
+use Rattle.edit_move.specs.Moving.{just, others, moov_second}
 
-just-maps : (c : ℕ) (f : Bodies) (l : List Box) → just c (map (over f) l) ≡ map (over f) (just c l)
+just_maps : (c : ℕ) (f : Bodies) (l : List Box) → just c (map (over f) l) ≡ map (over f) (just c l)
 unfolding just
-just-maps c f [] = refl
-just-maps c f (x ∷ l) = rw (just-maps c f l) (sym (through (map (over f)) x.code c (x ∷ just c l) (just c l)))
+just_maps c f [] = refl
+just_maps c f (x ∷ l) = rw (just_maps c f l) (sym (through (map (over f)) x.code c (x ∷ just c l) (just c l)))
 
-others-maps : (c : ℕ) (f : Bodies) (l : List Box) → others c (map (over f) l) ≡ map (over f) (others c l)
+others_maps : (c : ℕ) (f : Bodies) (l : List Box) → others c (map (over f) l) ≡ map (over f) (others c l)
 unfolding others
-others-maps c f [] = refl
-others-maps c f (x ∷ l) = rw (others-maps c f l) (sym (through (map (over f)) x.code c (others c l) (x ∷ others c l)))
+others_maps c f [] = refl
+others_maps c f (x ∷ l) = rw (others_maps c f l) (sym (through (map (over f)) x.code c (others c l) (x ∷ others c l)))
 
 -- `moov` second, and bodies by f, in either order
-pub second-maps : (f : Bodies) (l : List Box) → moovSecond (map (over f) l) ≡ map (over f) (moovSecond l)
-unfolding moovSecond
-second-maps f [] = refl
-second-maps f (x ∷ l) = rw (just-maps MOOV f l, others-maps MOOV f l, map-append (over f) (just MOOV l) (others MOOV l))
+pub second_maps : (f : Bodies) (l : List Box) → moov_second (map (over f) l) ≡ map (over f) (moov_second l)
+unfolding moov_second
+second_maps f [] = refl
+second_maps f (x ∷ l) = rw (just_maps MOOV f l, others_maps MOOV f l, map-append (over f) (just MOOV l) (others MOOV l))

@@ -7,8 +7,8 @@ use lib.ListN.{length, take, drop, length-append, length-take, length-drop}
 use lib.Seq.{take_at, drop_at, length-take-le}
 use borrow.Rule.Slice.PartMut.{mid_of}
 use Rattle.wire.specs.Writing.{Put}
-use Rattle.wire.proofs.Lists.{tail-is}
-use Rattle.wire.proofs.Writing.{pen-then, pen-is}
+use Rattle.wire.proofs.Lists.{tail_is}
+use Rattle.wire.proofs.Writing.{pen_then, pen_is}
 use Rattle.boxes.specs.declared.walk.BoxAt.{BoxAt}
 use Rattle.boxes.specs.Containers.{LONGEST}
 use Rattle.edit_move.specs.Arrange.{arranged}
@@ -23,29 +23,29 @@ room a n xs i h k = omega (arith, length-take n (drop a xs), length-drop a xs)
 module _ (f : ℕ) (b : BoxAt) (xs : List ℕ) where
   -- the four, one behind the other
   module _ {out o₁ : List ℕ} {i : ℕ} (p : Put (take f xs) out 0 i o₁) where
-    pub second-room : length xs ≤ LONGEST → i + length (mid_of b.at (b.at + b.span - b.at) xs) < 2 ^ 63
-    second-room h = room b.at (b.at + b.span - b.at) xs i (omega (arith, past 0 f xs p)) h
+    pub second_room : length xs ≤ LONGEST → i + length (mid_of b.at (b.at + b.span - b.at) xs) < 2 ^ 63
+    second_room h = room b.at (b.at + b.span - b.at) xs i (omega (arith, past 0 f xs p)) h
 
     module _ {o₂ : List ℕ} {j : ℕ} (q : Put (mid_of b.at (b.at + b.span - b.at) xs) o₁ i j o₂) where
-      pub third-room : length xs ≤ LONGEST → j + length (mid_of f (b.at - f) xs) < 2 ^ 63
-      third-room h = room f (b.at - f) xs j (omega (arith, past 0 f xs p, past b.at (b.at + b.span - b.at) xs q)) h
+      pub third_room : length xs ≤ LONGEST → j + length (mid_of f (b.at - f) xs) < 2 ^ 63
+      third_room h = room f (b.at - f) xs j (omega (arith, past 0 f xs p, past b.at (b.at + b.span - b.at) xs q)) h
 
       module _ {o₃ : List ℕ} {k : ℕ} (s : Put (mid_of f (b.at - f) xs) o₂ j k o₃) where
-        pub fourth-room : length xs ≤ LONGEST → k + length (mid_of (b.at + b.span) (length xs - (b.at + b.span)) xs) < 2 ^ 63
-        fourth-room h = room (b.at + b.span) (length xs - (b.at + b.span)) xs k (omega (arith, past 0 f xs p, past b.at (b.at + b.span - b.at) xs q, past f (b.at - f) xs s)) h
+        pub fourth_room : length xs ≤ LONGEST → k + length (mid_of (b.at + b.span) (length xs - (b.at + b.span)) xs) < 2 ^ 63
+        fourth_room h = room (b.at + b.span) (length xs - (b.at + b.span)) xs k (omega (arith, past 0 f xs p, past b.at (b.at + b.span - b.at) xs q, past f (b.at - f) xs s)) h
 
-        pub pieces-put : {o₄ : List ℕ} {r : ℕ} → b.at + b.span ≤ length xs → Put (mid_of (b.at + b.span) (length xs - (b.at + b.span)) xs) o₃ k r o₄ → Put (arranged f b xs) out 0 r o₄
+        pub pieces_put : {o₄ : List ℕ} {r : ℕ} → b.at + b.span ≤ length xs → Put (mid_of (b.at + b.span) (length xs - (b.at + b.span)) xs) o₃ k r o₄ → Put (arranged f b xs) out 0 r o₄
         unfolding arranged
-        pieces-put h t =
+        pieces_put h t =
             let e : b.at + b.span - b.at ≡ b.span = omega arith in
-            pen-then p (pen-then (rw e at q) (pen-then s (pen-is (tail-is xs (b.at + b.span) h) t)))
+            pen_then p (pen_then (rw e at q) (pen_then s (pen_is (tail_is xs (b.at + b.span) h) t)))
 
   -- ---- their length
 
   module _ (k : f ≤ b.at) (h : b.at + b.span ≤ length xs) where
-    pub pieces-length : length (arranged f b xs) ≡ length xs
+    pub pieces_length : length (arranged f b xs) ≡ length xs
     unfolding arranged
-    pieces-length =
+    pieces_length =
         let p : length (take f xs) ≡ f = length-take-le f xs (omega arith) in
         let q : length (take b.span (drop b.at xs)) ≡ b.span = length-take-le b.span (drop b.at xs) (rw length-drop (omega arith)) in
         let s : length (take (b.at - f) (drop f xs)) ≡ b.at - f = length-take-le (b.at - f) (drop f xs) (rw length-drop (omega arith)) in

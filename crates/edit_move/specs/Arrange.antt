@@ -12,5 +12,5 @@ abbrev pub up : BoxAt → By
 up b = record { limit = b.at + b.span; low = b.span; high = 0; less = 0 }
 
 -- where it then stands
-abbrev pub moovAt : ℕ → BoxAt → BoxAt
-moovAt f b = record { at = f; form = b.form; head = b.head; span = b.span; code = b.code }
+abbrev pub moov_at : ℕ → BoxAt → BoxAt
+moov_at f b = record { at = f; form = b.form; head = b.head; span = b.span; code = b.code }

@@ -8,7 +8,7 @@ ghost use Rattle.boxes.specs.Containers.{LONGEST};
 ghost use Rattle.rule.specs.Results.{asked, Exact};
 ghost use Rattle.rule.specs.Results.Result.{gives};
 ghost use Rattle.judge.specs.Acceptance.{Meets, editable};
-ghost use Rattle.edit_move.specs.Moving.{move_of, moveResult};
+ghost use Rattle.edit_move.specs.Moving.{move_of, move_result};
 ghost use Rattle.edit_move.specs.Arrange.{arranged};
 
 use boxes::seek;
@@ -88,7 +88,7 @@ fn move_accepted(file: &[u8], out: &mut [u8]) -> Answer
 
 // Writes the file with `moov` right after `ftyp`, other top-level boxes in their order, and answers its length.
 pub fn move_moov(file: &[u8], out: &mut [u8]) -> Answer
-    ensures { Exact (moveResult file.now) out.old result out.new }
+    ensures { Exact (move_result file.now) out.old result out.new }
 {
     match judge::judge(file) {
         Judgement::Accepted => move_accepted(file, out),

@@ -7,23 +7,23 @@ use lib.ListN.{length}
 use Rattle.wire.specs.Writing.{Wrote}
 use Rattle.boxes.specs.Containers.{LONGEST}
 use Rattle.rule.specs.declared.Answer.TheVariants.{Done, Refused}
-use Rattle.rule.specs.Results.{asked, inLimit, Exact}
+use Rattle.rule.specs.Results.{asked, in_limit, Exact}
 use Rattle.rule.specs.Results.Result.{gives}
-use Rattle.rule.proofs.Results.{exact-short, exact-wrote, over-limit, in-limit}
+use Rattle.rule.proofs.Results.{exact_short, exact_wrote, over_limit, in_limit_lem}
 use Rattle.edit_offsets.specs.Settle.{settled}
-use Rattle.edit_offsets.proofs.Settled.{settled-length}
+use Rattle.edit_offsets.proofs.Settled.{settled_length}
 
 -- settling changes no length
 module _ (xs zs out : List ℕ) {span : ℕ} (e : span ≡ length zs) where
-  pub settled-over : LONGEST < span → Exact (asked ((24, inLimit (settled xs zs)) ∷ []) (gives (settled xs zs))) out (Refused 24 0) out
-  settled-over h = over-limit (settled xs zs) out (rw (settled-length xs zs) (omega arith))
+  pub settled_over : LONGEST < span → Exact (asked ((24, in_limit (settled xs zs)) ∷ []) (gives (settled xs zs))) out (Refused 24 0) out
+  settled_over h = over_limit (settled xs zs) out (rw (settled_length xs zs) (omega arith))
 
   module _ (h : span ≤ LONGEST) where
     limit : length (settled xs zs) ≤ LONGEST
-    limit = rw (settled-length xs zs) (omega arith)
+    limit = rw (settled_length xs zs) (omega arith)
 
-    pub settled-short : length out < span → Exact (asked ((24, inLimit (settled xs zs)) ∷ []) (gives (settled xs zs))) out (Refused 25 0) out
-    settled-short k = in-limit (settled xs zs) out limit (exact-short (settled xs zs) out (rw (settled-length xs zs) (omega arith)))
+    pub settled_short : length out < span → Exact (asked ((24, in_limit (settled xs zs)) ∷ []) (gives (settled xs zs))) out (Refused 25 0) out
+    settled_short k = in_limit_lem (settled xs zs) out limit (exact_short (settled xs zs) out (rw (settled_length xs zs) (omega arith)))
 
-    pub settled-wrote : span ≤ length out → {r : ℕ} {left : List ℕ} → Wrote (settled xs zs) out r left → Exact (asked ((24, inLimit (settled xs zs)) ∷ []) (gives (settled xs zs))) out (Done r) left
-    settled-wrote k w = in-limit (settled xs zs) out limit (exact-wrote (settled xs zs) out (rw (settled-length xs zs) (omega arith)) w)
+    pub settled_wrote : span ≤ length out → {r : ℕ} {left : List ℕ} → Wrote (settled xs zs) out r left → Exact (asked ((24, in_limit (settled xs zs)) ∷ []) (gives (settled xs zs))) out (Done r) left
+    settled_wrote k w = in_limit_lem (settled xs zs) out limit (exact_wrote (settled xs zs) out (rw (settled_length xs zs) (omega arith)) w)

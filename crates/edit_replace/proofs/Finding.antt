@@ -9,29 +9,29 @@ use Rattle.boxes.specs.Walk.{payload}
 use Rattle.boxes.specs.Seek.{ANY, Cut}
 use Rattle.movie.specs.declared.entry.Spot.{Spot}
 use Rattle.movie.specs.declared.entry.Spot.TheVariants.{In, Past}
-use Rattle.movie.specs.Stsds.{stsdsFrom}
-use Rattle.movie.specs.Named.{listIn, InTrack, SpotAs, spotIn}
+use Rattle.movie.specs.Stsds.{stsds_from}
+use Rattle.movie.specs.Named.{list_in, InTrack, SpotAs, spot_in}
 use Rattle.edit_replace.specs.declared.place.Place.{Place}
 use Rattle.edit_replace.specs.declared.place.Placing.{Placing}
 use Rattle.edit_replace.specs.declared.place.Placing.TheVariants.{At, Nowhere}
 use Rattle.edit_replace.specs.Places.{InTrackAs, PlaceOf, InMoovAs, Found, FoundAs}
 
 module _ (ys : List ℕ) where
-  pub track-at : (k : BoxAt) (n : ℕ) (e : BoxAt) → Cut (listIn (payload ys k)) ANY n e → InTrackAs ys k n (At (record { trak = k; entry = e; nth = n }))
+  pub track_at : (k : BoxAt) (n : ℕ) (e : BoxAt) → Cut (list_in (payload ys k)) ANY n e → InTrackAs ys k n (At (record { trak = k; entry = e; nth = n }))
   unfolding InTrackAs
-  track-at k n e c = record { trak = refl; nth = refl; entry = c }
+  track_at k n e c = record { trak = refl; nth = refl; entry = c }
 
-  pub moov-as : (k : BoxAt) (t n : ℕ) → Cut ys TRAK t k → (r : Placing) → InTrackAs ys k n r → InMoovAs ys t n r
+  pub moov_as : (k : BoxAt) (t n : ℕ) → Cut ys TRAK t k → (r : Placing) → InTrackAs ys k n r → InMoovAs ys t n r
   unfolding InTrackAs InMoovAs
-  moov-as k t n c (At p) i =
+  moov_as k t n c (At p) i =
       record {
         nth = i.nth;
         trak = subst (λ (j : BoxAt). Cut ys TRAK t j) (sym i.trak) c;
-        entry = subst (λ (j : BoxAt). Cut (listIn (payload ys j)) ANY n p.entry) (sym i.trak) i.entry;
+        entry = subst (λ (j : BoxAt). Cut (list_in (payload ys j)) ANY n p.entry) (sym i.trak) i.entry;
       }
-  moov-as k t n c Nowhere i = i
+  moov_as k t n c Nowhere i = i
 
-  pub found_as : (i t n : ℕ) → InTrack ys i t n → ((q : ℕ) → In t n ≡ spotIn (stsdsFrom 0 (boxes ys) q) i)
+  pub found_as : (i t n : ℕ) → InTrack ys i t n → ((q : ℕ) → In t n ≡ spot_in (stsds_from 0 (boxes ys) q) i)
       → (r : Placing) → InMoovAs ys t n r → FoundAs ys i r
   unfolding InMoovAs FoundAs
   found_as i t n s f (At p) m =
@@ -47,9 +47,9 @@ module _ (ys : List ℕ) where
   unfolding FoundAs
   found_at i r s p e = subst (FoundAs ys i) e s
 
-  pub spot-within : (i : ℕ) (r : Spot) (t n : ℕ) → SpotAs ys i r → r ≡ In t n → InTrack ys i t n
-  spot-within i r t n s e = subst (SpotAs ys i) e s
+  pub spot_within : (i : ℕ) (r : Spot) (t n : ℕ) → SpotAs ys i r → r ≡ In t n → InTrack ys i t n
+  spot_within i r t n s e = subst (SpotAs ys i) e s
 
-  pub found-past : (i : ℕ) (r : Spot) → SpotAs ys i r → r ≡ Past → FoundAs ys i Nowhere
+  pub found_past : (i : ℕ) (r : Spot) → SpotAs ys i r → r ≡ Past → FoundAs ys i Nowhere
   unfolding FoundAs
-  found-past i r s e = subst (SpotAs ys i) e s
+  found_past i r s e = subst (SpotAs ys i) e s

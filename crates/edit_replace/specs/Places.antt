@@ -6,19 +6,19 @@ use Rattle.boxes.specs.declared.way.Turn.{Turn}
 use Rattle.boxes.specs.Boxes.{HEAD, FRONT, boxes}
 use Rattle.boxes.specs.Walk.{payload}
 use Rattle.boxes.specs.Seek.{ANY, Cut}
-use Rattle.boxes.specs.Way.{around, editWay, tailBy}
+use Rattle.boxes.specs.Way.{around, edit_way, tail_by}
 use Rattle.movie.specs.declared.entry.Spot.TheVariants.{In}
-use Rattle.movie.specs.Ways.{toStsd}
-use Rattle.movie.specs.Stsds.{stsdsFrom}
-use Rattle.movie.specs.Entries.{entriesIn}
-use Rattle.movie.specs.Named.{listIn, InTrack, spotIn}
-use Rattle.entry_heads.specs.Heads.{headSize}
-use Rattle.release.specs.Releases.{releaseOf}
-use Rattle.entry_rules.specs.Decoders.{recordRule}
-use Rattle.rule.specs.Results.{Result, asked, inLimit}
+use Rattle.movie.specs.Ways.{to_stsd}
+use Rattle.movie.specs.Stsds.{stsds_from}
+use Rattle.movie.specs.Entries.{entries_in}
+use Rattle.movie.specs.Named.{list_in, InTrack, spot_in}
+use Rattle.entry_heads.specs.Heads.{head_size}
+use Rattle.release.specs.Releases.{release_of}
+use Rattle.entry_rules.specs.Decoders.{record_rule}
+use Rattle.rule.specs.Results.{Result, asked, in_limit}
 use Rattle.rule.specs.Results.Result.{gives}
 use Rattle.judge.specs.Acceptance.{editable}
-use Rattle.edit_offsets.specs.Close.{shutAt}
+use Rattle.edit_offsets.specs.Close.{shut_at}
 use Rattle.edit_offsets.specs.Settle.{settled}
 use Rattle.edit_replace.specs.declared.place.Place.{Place}
 use Rattle.edit_replace.specs.declared.place.Placing.{Placing}
@@ -31,7 +31,7 @@ use Rattle.edit_replace.specs.Replace.{turn, takes}
 pub record PlaceIn (ys : List ℕ) (k : BoxAt) (n : ℕ) (p : Place) : Type 0 where
   pub trak : p.trak ≡ k
   pub nth : p.nth ≡ n
-  pub entry : Cut (listIn (payload ys k)) ANY n p.entry
+  pub entry : Cut (list_in (payload ys k)) ANY n p.entry
 
 unfoldable pub InTrackAs : List ℕ → BoxAt → ℕ → Placing → Type 0
 InTrackAs ys k n (At p) = PlaceIn ys k n p
@@ -41,7 +41,7 @@ InTrackAs ys k n Nowhere = ⊥
 pub record PlaceOf (ys : List ℕ) (t n : ℕ) (p : Place) : Type 0 where
   pub nth : p.nth ≡ n
   pub trak : Cut ys TRAK t p.trak
-  pub entry : Cut (listIn (payload ys p.trak)) ANY n p.entry
+  pub entry : Cut (list_in (payload ys p.trak)) ANY n p.entry
 
 unfoldable pub InMoovAs : List ℕ → ℕ → ℕ → Placing → Type 0
 InMoovAs ys t n (At p) = PlaceOf ys t n p
@@ -52,11 +52,11 @@ pub record Found (ys : List ℕ) (i : ℕ) (p : Place) : Type 0 where
   pub t : ℕ
   pub place : PlaceOf ys t p.nth p
   pub within : InTrack ys i t p.nth
-  pub spot : (q : ℕ) → In t p.nth ≡ spotIn (stsdsFrom 0 (boxes ys) q) i
+  pub spot : (q : ℕ) → In t p.nth ≡ spot_in (stsds_from 0 (boxes ys) q) i
 
 unfoldable pub FoundAs : List ℕ → ℕ → Placing → Type 0
 FoundAs ys i (At p) = Found ys i p
-FoundAs ys i Nowhere = (q : ℕ) → length (entriesIn (stsdsFrom 0 (boxes ys) q)) ≤ i
+FoundAs ys i Nowhere = (q : ℕ) → length (entries_in (stsds_from 0 (boxes ys) q)) ≤ i
 
 -- in the `moov` b of the file xs
 pub record Within (xs : List ℕ) (b : BoxAt) (p : Place) : Type 0 where
@@ -67,27 +67,27 @@ pub record Within (xs : List ℕ) (b : BoxAt) (p : Place) : Type 0 where
 -- ---- what is written there
 
 -- the way from a track to its entry n
-abbrev pub wayIn : ℕ → List Turn
-wayIn n = map (λ c. turn c 0) toStsd ++ (record { skip = FRONT; code = ANY; nth = n } ∷ [])
+abbrev pub way_in : ℕ → List Turn
+way_in n = map (λ c. turn c 0) to_stsd ++ (record { skip = FRONT; code = ANY; nth = n } ∷ [])
 
 -- the file with another record, its `moov` written by the form of b
-unfoldable pub recordThere : List ℕ → BoxAt → Place → ℕ → List ℕ → List ℕ
-recordThere xs b p keep new = around xs b (around (payload xs b) p.trak (editWay (wayIn p.nth) (tailBy keep new) (payload (payload xs b) p.trak)))
+unfoldable pub record_there : List ℕ → BoxAt → Place → ℕ → List ℕ → List ℕ
+record_there xs b p keep new = around xs b (around (payload xs b) p.trak (edit_way (way_in p.nth) (tail_by keep new) (payload (payload xs b) p.trak)))
 
 -- its length, by that of the file and of the entry
-abbrev pub lengthIn : ℕ → BoxAt → ℕ → ℕ → ℕ
-lengthIn m e keep n = m - (e.span - e.head) + (min keep (e.span - e.head) + n)
+abbrev pub length_in : ℕ → BoxAt → ℕ → ℕ → ℕ
+length_in m e keep n = m - (e.span - e.head) + (min keep (e.span - e.head) + n)
 
 -- ---- the answer, by the kind of the entry there
 
-unfoldable pub placeText : List ℕ → BoxAt → Place → ℕ → List ℕ → List ℕ
-placeText xs b p kind new = settled xs (recordThere xs (shutAt b) p (headSize kind - HEAD) new)
+unfoldable pub place_text : List ℕ → BoxAt → Place → ℕ → List ℕ → List ℕ
+place_text xs b p kind new = settled xs (record_there xs (shut_at b) p (head_size kind - HEAD) new)
 
-unfoldable pub placeResult : List ℕ → BoxAt → Place → ℕ → List ℕ → Result
-placeResult xs b p kind new =
+unfoldable pub place_result : List ℕ → BoxAt → Place → ℕ → List ℕ → Result
+place_result xs b p kind new =
     asked
     ((20, takes kind new)
-    ∷ (21, recordRule kind (releaseOf (boxes xs)) new)
+    ∷ (21, record_rule kind (release_of (boxes xs)) new)
     ∷ (23, editable xs)
-    ∷ (24, inLimit (placeText xs b p kind new))
-    ∷ []) (gives (placeText xs b p kind new))
+    ∷ (24, in_limit (place_text xs b p kind new))
+    ∷ []) (gives (place_text xs b p kind new))

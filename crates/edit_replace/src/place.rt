@@ -3,8 +3,8 @@ ghost use Rattle.std.specs.Prelude.{◌≡◌, ◌+◌, ◌≤◌, ◌<◌, leng
 ghost use Rattle.codes.specs.Codes.{TRAK};
 ghost use Rattle.boxes.specs.Boxes.{boxes};
 ghost use Rattle.boxes.specs.Walk.{payload};
-ghost use Rattle.boxes.specs.Seek.{ANY, count, nth as nthIn};
-ghost use Rattle.movie.specs.Named.{listIn};
+ghost use Rattle.boxes.specs.Seek.{ANY, count, nth as nth_in};
+ghost use Rattle.movie.specs.Named.{list_in};
 ghost use Rattle.edit_replace.specs.Places.{InTrackAs, InMoovAs, FoundAs};
 
 use boxes::seek::Seen;
@@ -29,7 +29,7 @@ pub enum Placing {
 
 // Entry n of the track k of a `moov`, which has it.
 fn in_track(moov: &[u8], k: BoxAt, n: usize) -> Placing
-    requires { (k.head ≤ k.span) × (k.at + k.span ≤ length moov.now) × (n < count ANY (boxes (listIn (payload moov.now k)))) }
+    requires { (k.head ≤ k.span) × (k.at + k.span ≤ length moov.now) × (n < count ANY (boxes (list_in (payload moov.now k)))) }
     ensures { InTrackAs moov.now k n result }
 {
     match seek::nth(entry::list(walk::body(moov, k)), seek::ANY, n) {
@@ -44,7 +44,7 @@ fn in_track(moov: &[u8], k: BoxAt, n: usize) -> Placing
 
 // Entry n of track t of a `moov`, which has them.
 fn in_moov(moov: &[u8], t: usize, n: usize) -> Placing
-    requires { (t < count TRAK (boxes moov.now)) × (n < count ANY (boxes (listIn (nthIn TRAK t (boxes moov.now))))) }
+    requires { (t < count TRAK (boxes moov.now)) × (n < count ANY (boxes (list_in (nth_in TRAK t (boxes moov.now))))) }
     ensures { InMoovAs moov.now t n result }
 {
     match seek::nth(moov, codes::TRAK, t) {

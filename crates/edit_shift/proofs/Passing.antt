@@ -10,49 +10,49 @@ use Rattle.wire.specs.Numbers.{Bytes}
 use Rattle.boxes.specs.Boxes.{boxes}
 use Rattle.boxes.specs.Containers.{FILE, DEPTH}
 use Rattle.boxes.specs.Kin.{All2}
-use Rattle.boxes.specs.Rewrite.{Bodies, overBoxes, editBox, editIn}
+use Rattle.boxes.specs.Rewrite.{Bodies, over_boxes, edit_box, edit_in}
 use Rattle.boxes.specs.Words.{reword}
-use Rattle.boxes.proofs.Editing.{edit-length, edit-bytes, edit-deep, box-length}
-use Rattle.boxes.proofs.Rewriting.{boxes-over, length_over}
-use Rattle.boxes.proofs.Wording.{reword-length, reword-bytes}
+use Rattle.boxes.proofs.Editing.{edit_length, edit_bytes, edit_deep, box_length}
+use Rattle.boxes.proofs.Rewriting.{boxes_over, length_over}
+use Rattle.boxes.proofs.Wording.{reword_length, reword_bytes}
 use Rattle.mdat.specs.Relocate.{Alike}
-use Rattle.mdat.proofs.Staying.{alike-over}
-use Rattle.edit_shift.specs.Shift.{hasTimes, timesLeaf, allTimesBy}
+use Rattle.mdat.proofs.Staying.{alike_over}
+use Rattle.edit_shift.specs.Shift.{has_times, times_leaf, all_times_by}
 
 -- ---- one opaque box
 
 module _ (f : ℕ → ℕ) (k c : ℕ) (b : List ℕ) where
   -- what holds of its body, and with the times rewritten, holds
-  leaf-by : (P : List ℕ → Type 0) → P b → P (reword f 4 8 b) → P (timesLeaf f k c b)
-  unfolding timesLeaf
-  leaf-by P p q = by (hasTimes k c)
+  leaf_by : (P : List ℕ → Type 0) → P b → P (reword f 4 8 b) → P (times_leaf f k c b)
+  unfolding times_leaf
+  leaf_by P p q = by (has_times k c)
     where
       by : (t : Bool) → P (pick t (reword f 4 8 b) b)
       by true = q
       by false = p
 
-  times_long : length (timesLeaf f k c b) ≡ length b
-  times_long = leaf-by (λ ys. length ys ≡ length b) refl (reword-length f 4 8 b)
+  times_long : length (times_leaf f k c b) ≡ length b
+  times_long = leaf_by (λ ys. length ys ≡ length b) refl (reword_length f 4 8 b)
 
-  times-filled : Bytes b → Bytes (timesLeaf f k c b)
-  times-filled w = leaf-by Bytes w (reword-bytes f 4 8 b w)
+  times_filled : Bytes b → Bytes (times_leaf f k c b)
+  times_filled w = leaf_by Bytes w (reword_bytes f 4 8 b w)
 
 -- ---- a file
 
 module _ (f : ℕ → ℕ) (xs : List ℕ) where
-  pub all-length : length (allTimesBy f xs) ≡ length xs
-  unfolding allTimesBy
-  all-length = edit-length (timesLeaf f) (times_long f) DEPTH FILE xs
+  pub all_length : length (all_times_by f xs) ≡ length xs
+  unfolding all_times_by
+  all_length = edit_length (times_leaf f) (times_long f) DEPTH FILE xs
 
-  pub all-bytes : Bytes xs → Bytes (allTimesBy f xs)
-  unfolding allTimesBy
-  all-bytes v = edit-bytes (timesLeaf f) (times-filled f) DEPTH FILE xs v
+  pub all_bytes : Bytes xs → Bytes (all_times_by f xs)
+  unfolding all_times_by
+  all_bytes v = edit_bytes (times_leaf f) (times_filled f) DEPTH FILE xs v
 
   -- the layout stays
-  pub all_alike : Bytes xs → length xs < 4294967296 → All2 Alike (boxes xs) (boxes (allTimesBy f xs))
-  unfolding allTimesBy
+  pub all_alike : Bytes xs → length xs < 4294967296 → All2 Alike (boxes xs) (boxes (all_times_by f xs))
+  unfolding all_times_by
   all_alike v h =
-      let g : Bodies = editBox (timesLeaf f) (editIn (timesLeaf f) 5) FILE in
-      let k : (c : ℕ) (b : List ℕ) → length (g c b) ≡ length b = box-length (timesLeaf f) (times_long f) 5 FILE in
-      let e : overBoxes g xs ≡ editIn (timesLeaf f) DEPTH FILE xs = edit-deep (timesLeaf f) DEPTH FILE xs (λ z. omega arith) in
-      rw (← e, boxes-over g xs v (omega (arith, length_over g k xs))) (alike-over g k (boxes xs))
+      let g : Bodies = edit_box (times_leaf f) (edit_in (times_leaf f) 5) FILE in
+      let k : (c : ℕ) (b : List ℕ) → length (g c b) ≡ length b = box_length (times_leaf f) (times_long f) 5 FILE in
+      let e : over_boxes g xs ≡ edit_in (times_leaf f) DEPTH FILE xs = edit_deep (times_leaf f) DEPTH FILE xs (λ z. omega arith) in
+      rw (← e, boxes_over g xs v (omega (arith, length_over g k xs))) (alike_over g k (boxes xs))

@@ -1,8 +1,8 @@
 -- What code asks and writes, by a zone in seconds.
 use Rattle.std.specs.Prelude.{ℕ, Bool, true, List, [], ◌∷◌}
-use Rattle.wire.specs.Tests.{ifEq}
+use Rattle.wire.specs.Tests.{if_eq}
 use Rattle.wire.specs.Clauses.{every}
-use Rattle.wire.specs.Sums.{allTo}
+use Rattle.wire.specs.Sums.{all_to}
 use Rattle.codes.specs.Codes.{MOOV, MVHD, TRAK, TKHD, MDIA, MDHD}
 use Rattle.boxes.specs.declared.words.By.{By}
 use Rattle.boxes.specs.declared.words.Target.{Target}
@@ -16,32 +16,32 @@ use Rattle.rule.specs.Results.{Result, asked}
 use Rattle.rule.specs.Results.Result.{gives}
 use Rattle.judge.specs.Acceptance.{editable}
 use Rattle.edit_offsets.specs.Close.{closed}
-use Rattle.edit_shift.specs.Shift.{CREATION, both, trackTimes, allTimes, allTimesBy}
+use Rattle.edit_shift.specs.Shift.{CREATION, both, track_times, all_times, all_times_by}
 
 -- p of the times of a box of `moov`, of all its tracks, and of all that it holds
-unfoldable pub boxTimes : (ℕ → Bool) → ℕ → List ℕ → Bool
-boxTimes p c b = ifEq c TRAK (trackTimes p b) true
+unfoldable pub box_times : (ℕ → Bool) → ℕ → List ℕ → Bool
+box_times p c b = if_eq c TRAK (track_times p b) true
 
-unfoldable pub tracksTimes : (ℕ → Bool) → List ℕ → Bool
-tracksTimes p ys = allTo (λ t. trackTimes p (nth TRAK t (boxes ys))) (count TRAK (boxes ys))
+unfoldable pub tracks_times : (ℕ → Bool) → List ℕ → Bool
+tracks_times p ys = all_to (λ t. track_times p (nth TRAK t (boxes ys))) (count TRAK (boxes ys))
 
-unfoldable pub moovTimes : (ℕ → Bool) → List ℕ → Bool
-moovTimes p ys = every (both p (find MVHD (boxes ys)) ∷ tracksTimes p ys ∷ [])
+unfoldable pub moov_times : (ℕ → Bool) → List ℕ → Bool
+moov_times p ys = every (both p (find MVHD (boxes ys)) ∷ tracks_times p ys ∷ [])
 
 -- the times of the boxes of one code in one kind of container, and of the three kinds
-abbrev pub timesOf : ℕ → ℕ → Target
-timesOf kind code = record { kind = kind; code = code; from = CREATION; span = 8 }
+abbrev pub times_of : ℕ → ℕ → Target
+times_of kind code = record { kind = kind; code = code; from = CREATION; span = 8 }
 
-abbrev pub headersOf : Targets
-headersOf = record { one = timesOf MOOV MVHD; two = timesOf TRAK TKHD; three = timesOf MDIA MDHD }
+abbrev pub headers_of : Targets
+headers_of = record { one = times_of MOOV MVHD; two = times_of TRAK TKHD; three = times_of MDIA MDHD }
 
 -- a time of 0 is below the limit, and stays
-abbrev pub byZone : Zone → By
-byZone z = record { limit = 1; low = 0; high = z.behind; less = z.ahead }
+abbrev pub by_zone : Zone → By
+by_zone z = record { limit = 1; low = 0; high = z.behind; less = z.ahead }
 
-unfoldable pub zoneText : Zone → List ℕ → List ℕ
-zoneText z xs = allTimesBy (moved (byZone z)) (closed xs)
+unfoldable pub zone_text : Zone → List ℕ → List ℕ
+zone_text z xs = all_times_by (moved (by_zone z)) (closed xs)
 
 -- of an accepted file
-unfoldable pub zoneResult : Zone → List ℕ → Result
-zoneResult z xs = asked ((22, allTimes (leaves z) xs) ∷ (23, editable xs) ∷ []) (gives (zoneText z xs))
+unfoldable pub zone_result : Zone → List ℕ → Result
+zone_result z xs = asked ((22, all_times (leaves z) xs) ∷ (23, editable xs) ∷ []) (gives (zone_text z xs))

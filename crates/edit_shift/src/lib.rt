@@ -1,6 +1,6 @@
 // The shift of times.
 ghost use Rattle.std.specs.Prelude.{◌≡◌, ◌++◌, ◌≤◌, length, drop};
-ghost use Rattle.wire.specs.Clauses.{oneIf};
+ghost use Rattle.wire.specs.Clauses.{one_if};
 ghost use Rattle.codes.specs.Codes.{MOOV};
 ghost use Rattle.boxes.specs.Seek.{Cut};
 ghost use Rattle.boxes.specs.Words.{moved, Small};
@@ -8,8 +8,8 @@ ghost use Rattle.clocks.specs.Zones.{Near, leaves};
 ghost use Rattle.rule.specs.Results.{Exact};
 ghost use Rattle.judge.specs.Acceptance.{Meets};
 ghost use Rattle.edit_offsets.specs.Close.{closed};
-ghost use Rattle.edit_shift.specs.Shift.{both as bothOf, trackTimes, allTimesBy, shiftResult};
-ghost use Rattle.edit_shift.specs.Amount.{boxTimes, tracksTimes, moovTimes, timesOf, headersOf, zoneResult};
+ghost use Rattle.edit_shift.specs.Shift.{both as both_of, track_times, all_times_by, shift_result};
+ghost use Rattle.edit_shift.specs.Amount.{box_times, tracks_times, moov_times, times_of, headers_of, zone_result};
 
 use boxes::seek::Seen;
 use boxes::walk::{BoxAt, Step, Walk};
@@ -23,7 +23,7 @@ use wire::{number, pen};
 // Whether both times of a header may be shifted: 1 or 0.
 fn both(head: &[u8], zone: Zone) -> usize
     requires { Near zone }
-    ensures { result ≡ oneIf (bothOf (leaves zone) head.now) }
+    ensures { result ≡ one_if (both_of (leaves zone) head.now) }
 {
     if clocks::leaves(number::word32(head, 4), zone) == 0 {
         return 0;
@@ -37,7 +37,7 @@ fn both(head: &[u8], zone: Zone) -> usize
 // Those of a track.
 fn track_times(track: &[u8], zone: Zone) -> usize
     requires { Near zone }
-    ensures { result ≡ oneIf (trackTimes (leaves zone) track.now) }
+    ensures { result ≡ one_if (track_times (leaves zone) track.now) }
 {
     if both(seek::payload(track, codes::TKHD, 0), zone) == 0 {
         return 0;
@@ -52,7 +52,7 @@ fn track_times(track: &[u8], zone: Zone) -> usize
 // Those of a box of `moov`: only a track has any.
 fn box_times(code: usize, body: &[u8], zone: Zone) -> usize
     requires { Near zone }
-    ensures { result ≡ oneIf (boxTimes (leaves zone) code body.now) }
+    ensures { result ≡ one_if (box_times (leaves zone) code body.now) }
 {
     if code != codes::TRAK {
         return 1;
@@ -63,7 +63,7 @@ fn box_times(code: usize, body: &[u8], zone: Zone) -> usize
 // Those of all tracks of a `moov`.
 fn tracks_times(moov: &[u8], zone: Zone) -> usize
     requires { Near zone }
-    ensures { result ≡ oneIf (tracksTimes (leaves zone) moov.now) }
+    ensures { result ≡ one_if (tracks_times (leaves zone) moov.now) }
 {
     let mut w = Walk { at: 0 };
     loop {
@@ -87,7 +87,7 @@ fn tracks_times(moov: &[u8], zone: Zone) -> usize
 // Those of a file, by its `moov`.
 fn all_times(moov: &[u8], zone: Zone) -> usize
     requires { Near zone }
-    ensures { result ≡ oneIf (moovTimes (leaves zone) moov.now) }
+    ensures { result ≡ one_if (moov_times (leaves zone) moov.now) }
 {
     if both(seek::payload(moov, codes::MVHD, 0), zone) == 0 {
         return 0;
@@ -97,7 +97,7 @@ fn all_times(moov: &[u8], zone: Zone) -> usize
 
 // The two times of a kind of header.
 fn times(kind: usize, code: usize) -> Target
-    ensures { result ≡ timesOf kind code }
+    ensures { result ≡ times_of kind code }
 {
     Target {
         kind,
@@ -109,7 +109,7 @@ fn times(kind: usize, code: usize) -> Target
 
 // Those of all three kinds.
 fn headers() -> Targets
-    ensures { result ≡ headersOf }
+    ensures { result ≡ headers_of }
 {
     Targets {
         one: times(codes::MOOV, codes::MVHD),
@@ -121,7 +121,7 @@ fn headers() -> Targets
 // Writes the file with its times shifted, its `moov` being b.
 fn put_shifted(out: &mut [u8], file: &[u8], b: BoxAt, by: By)
     requires { (Small by) × (length file.now ≤ length out.old) × (Meets file.now) × (Cut file.now MOOV 0 b) }
-    ensures { out.new ≡ allTimesBy (moved by) (closed file.now) ++ drop (length file.now) out.old }
+    ensures { out.new ≡ all_times_by (moved by) (closed file.now) ++ drop (length file.now) out.old }
 {
     pen::copy(out, file);
     edit_offsets::close(out, b);
@@ -131,7 +131,7 @@ fn put_shifted(out: &mut [u8], file: &[u8], b: BoxAt, by: By)
 // The shift of an accepted file whose `moov` is b.
 fn shift_by(file: &[u8], b: BoxAt, zone: Zone, out: &mut [u8]) -> Answer
     requires { (Near zone) × (Meets file.now) × (Cut file.now MOOV 0 b) }
-    ensures { Exact (zoneResult zone file.now) out.old result out.new }
+    ensures { Exact (zone_result zone file.now) out.old result out.new }
 {
     if all_times(walk::body(file, b), zone) == 0 {
         return Answer::Refused(22, 0);
@@ -159,7 +159,7 @@ fn shift_by(file: &[u8], b: BoxAt, zone: Zone, out: &mut [u8]) -> Answer
 // The shift of an accepted file, which has a `moov`.
 fn shift_accepted(file: &[u8], zone: Zone, out: &mut [u8]) -> Answer
     requires { (Near zone) × (Meets file.now) }
-    ensures { Exact (zoneResult zone file.now) out.old result out.new }
+    ensures { Exact (zone_result zone file.now) out.old result out.new }
 {
     match seek::nth(file, codes::MOOV, 0) {
         Seen::At(b) => shift_by(file, b, zone, out),
@@ -169,7 +169,7 @@ fn shift_accepted(file: &[u8], zone: Zone, out: &mut [u8]) -> Answer
 
 // The shift of a file by minutes.
 pub fn shift(file: &[u8], minutes: i64, out: &mut [u8]) -> Answer
-    ensures { Exact (shiftResult minutes file.now) out.old result out.new }
+    ensures { Exact (shift_result minutes file.now) out.old result out.new }
 {
     match judge::judge(file) {
         Judgement::Accepted => match clocks::zone_of(minutes) {

@@ -5,55 +5,55 @@ use mathlib.Core.Bool.{Bool, true, false}
 use mathlib.Core.List.{List, [], ◌∷◌, ◌++◌}
 use lib.Dec.{ltb}
 use lib.ListN.{length, drop}
-use Rattle.wire.specs.Tests.{pick, ifLt}
+use Rattle.wire.specs.Tests.{pick, if_lt}
 use Rattle.release.specs.declared.Release.{Release}
 use Rattle.entry_records.specs.declared.field.Record.{Record}
 use Rattle.entry_records.specs.declared.field.Record.TheVariants.{Speech, Picture, Broken}
 use Rattle.entry_records.specs.declared.record.Written.{Written}
 use Rattle.entry_records.specs.declared.record.Written.TheVariants as written
-use Rattle.entry_records.specs.Fields.{fieldsRule}
+use Rattle.entry_records.specs.Fields.{fields_rule}
 use Rattle.entry_records.specs.Texts.{text_of}
-use Rattle.entry_records.specs.Records.{fields_of, writtenNumber, writtenValue, read_of, written_of, out_of}
+use Rattle.entry_records.specs.Records.{fields_of, written_number, written_value, read_of, written_of, out_of}
 use Rattle.rule.specs.declared.Answer.{Answer}
 use Rattle.rule.specs.declared.Answer.TheVariants.{Done, Refused}
-use Rattle.rule.specs.Results.{asked, answer_in, leftIn, Exact}
+use Rattle.rule.specs.Results.{asked, answer_in, left_in, Exact}
 use Rattle.rule.specs.Results.Result.{gives}
-use Rattle.rule.proofs.Results.{exact-refuses}
-use Rattle.entry_fields.specs.Numbers.{recordOf, isRecord, readResult, writeResult}
+use Rattle.rule.proofs.Results.{exact_refuses}
+use Rattle.entry_fields.specs.Numbers.{record_of, is_record, read_result, write_result}
 
 -- ---- the reader
 
 module _ (release : Release) (xs out : List ℕ) {r : Record} (e : r ≡ read_of release xs) where
-  pub read_some : (s : Record) → r ≡ s → isRecord s ≡ true → {a : Answer} {left : List ℕ} → Exact (gives (fields_of s)) out a left → Exact (readResult release xs) out a left
-  unfolding readResult asked
+  pub read_some : (s : Record) → r ≡ s → is_record s ≡ true → {a : Answer} {left : List ℕ} → Exact (gives (fields_of s)) out a left → Exact (read_result release xs) out a left
+  unfolding read_result asked
   read_some s g h x = let f : read_of release xs ≡ s = sym e ∙ g in rw (f, h) x
 
-  pub read-broken : r ≡ Broken → Exact (readResult release xs) out (Refused 21 0) out
-  unfolding readResult asked
-  read-broken g = let f : read_of release xs ≡ Broken = sym e ∙ g in rw f (exact-refuses 21 0 out)
+  pub read_broken : r ≡ Broken → Exact (read_result release xs) out (Refused 21 0) out
+  unfolding read_result asked
+  read_broken g = let f : read_of release xs ≡ Broken = sym e ∙ g in rw f (exact_refuses 21 0 out)
 
 -- ---- the writer
 
 -- an answer of it in the paper's numbers
-abbrev pub writtenAnswer : Written → Answer
-writtenAnswer (written.Done n) = Done n
-writtenAnswer written.BadFields = Refused (writtenNumber written.BadFields) (writtenValue written.BadFields)
-writtenAnswer written.TooShort = Refused (writtenNumber written.TooShort) (writtenValue written.TooShort)
+abbrev pub written_answer : Written → Answer
+written_answer (written.Done n) = Done n
+written_answer written.BadFields = Refused (written_number written.BadFields) (written_value written.BadFields)
+written_answer written.TooShort = Refused (written_number written.TooShort) (written_value written.TooShort)
 
 writes : (t : Bool) (r : Record) (out : List ℕ)
     → Exact (asked ((21, t) ∷ []) (gives (text_of r))) out
-    (writtenAnswer (pick t (ifLt (length out) (length (text_of r)) written.TooShort (written.Done (length (text_of r)))) written.BadFields))
-    (pick t (ifLt (length out) (length (text_of r)) out (text_of r ++ drop (length (text_of r)) out)) out)
-unfolding asked answer_in leftIn ifLt
+    (written_answer (pick t (if_lt (length out) (length (text_of r)) written.TooShort (written.Done (length (text_of r)))) written.BadFields))
+    (pick t (if_lt (length out) (length (text_of r)) out (text_of r ++ drop (length (text_of r)) out)) out)
+unfolding asked answer_in left_in if_lt
 writes false r out = record { answers = refl; leaves = refl }
 writes true r out = record { answers = go (ltb (length out) (length (text_of r))); leaves = refl }
   where
-    go : (t : Bool) → writtenAnswer (pick t written.TooShort (written.Done (length (text_of r)))) ≡ pick t (Refused 25 0) (Done (length (text_of r)))
+    go : (t : Bool) → written_answer (pick t written.TooShort (written.Done (length (text_of r)))) ≡ pick t (Refused 25 0) (Done (length (text_of r)))
     go true = refl
     go false = refl
 
-pub write_as : (release : Release) (ns out : List ℕ) {r : Record} {w v : Written} {left : List ℕ} → r ≡ recordOf ns → (w ≡ written_of release r out) × (left ≡ out_of release r out) → w ≡ v → Exact (writeResult release ns) out (writtenAnswer v) left
-unfolding writeResult written_of out_of
+pub write_as : (release : Release) (ns out : List ℕ) {r : Record} {w v : Written} {left : List ℕ} → r ≡ record_of ns → (w ≡ written_of release r out) × (left ≡ out_of release r out) → w ≡ v → Exact (write_result release ns) out (written_answer v) left
+unfolding write_result written_of out_of
 write_as release ns out e (p, q) g =
-    let x = writes (fieldsRule release (recordOf ns)) (recordOf ns) out in
-    record { answers = ap writtenAnswer (sym g ∙ p) ∙ rw e x.answers; leaves = q ∙ rw e x.leaves }
+    let x = writes (fields_rule release (record_of ns)) (record_of ns) out in
+    record { answers = ap written_answer (sym g ∙ p) ∙ rw e x.answers; leaves = q ∙ rw e x.leaves }

@@ -1,6 +1,6 @@
 // The record reader and writer over lists of numbers: the fields of a record in order, kind first.
 ghost use Rattle.rule.specs.Results.{Exact};
-ghost use Rattle.entry_fields.specs.Numbers.{readResult, writeResult};
+ghost use Rattle.entry_fields.specs.Numbers.{read_result, write_result};
 
 use entry_records::field::Record;
 use entry_records::record;
@@ -12,7 +12,7 @@ mod numbers;
 
 // The fields of an entry of a release: 8 of a `samr` or `sawb`, 11 of an `s263`.
 pub fn read(entry: &[u8], release: Release, out: &mut [u64]) -> Answer
-    ensures { Exact (readResult release entry.now) out.old result out.new }
+    ensures { Exact (read_result release entry.now) out.old result out.new }
 {
     match record::read(entry, release) {
         Record::Speech(f) => numbers::put_amr(f, out),
@@ -23,7 +23,7 @@ pub fn read(entry: &[u8], release: Release, out: &mut [u64]) -> Answer
 
 // The entry of fields, of a release.
 pub fn write(fields: &[u64], release: Release, out: &mut [u8]) -> Answer
-    ensures { Exact (writeResult release fields.now) out.old result out.new }
+    ensures { Exact (write_result release fields.now) out.old result out.new }
 {
     match record::write(numbers::record_of(fields), release, out) {
         Written::Done(n) => Answer::Done(n),

@@ -4,7 +4,7 @@ ghost use Rattle.entry_records.specs.declared.field.Record.TheVariants.{Speech, 
 ghost use Rattle.entry_records.specs.Records.{fields_of};
 ghost use Rattle.rule.specs.Results.{Exact};
 ghost use Rattle.rule.specs.Results.Result.{gives};
-ghost use Rattle.entry_fields.specs.Numbers.{amrOf, ratesOf, h263Of, recordOf};
+ghost use Rattle.entry_fields.specs.Numbers.{amr_of, rates_of, h263_of, record_of};
 
 use entry_heads::kind;
 use entry_records::field::{Amr, H263, Rates, Record};
@@ -52,7 +52,7 @@ pub fn put_h263(f: H263, out: &mut [u64]) -> Answer
 // The fields of a `samr` or `sawb` in eight numbers.
 fn amr_of(fields: &[u64]) -> Amr
     requires { 8 ≤ length fields.now }
-    ensures { result ≡ amrOf fields.now }
+    ensures { result ≡ amr_of fields.now }
 {
     Amr {
         kind: fields[0] as usize,
@@ -69,7 +69,7 @@ fn amr_of(fields: &[u64]) -> Amr
 // The rates in the last three of eleven numbers.
 fn rates_of(fields: &[u64]) -> Rates
     requires { 11 ≤ length fields.now }
-    ensures { result ≡ ratesOf fields.now }
+    ensures { result ≡ rates_of fields.now }
 {
     Rates {
         given: fields[8] as usize,
@@ -81,7 +81,7 @@ fn rates_of(fields: &[u64]) -> Rates
 // The fields of an `s263` in eleven numbers.
 fn h263_of(fields: &[u64]) -> H263
     requires { 11 ≤ length fields.now }
-    ensures { result ≡ h263Of fields.now }
+    ensures { result ≡ h263_of fields.now }
 {
     H263 {
         reference: fields[1] as usize,
@@ -97,7 +97,7 @@ fn h263_of(fields: &[u64]) -> H263
 
 // The record of numbers.
 pub fn record_of(fields: &[u64]) -> Record
-    ensures { result ≡ recordOf fields.now }
+    ensures { result ≡ record_of fields.now }
 {
     if fields.len() == 8 {
         return Record::Speech(amr_of(fields));

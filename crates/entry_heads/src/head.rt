@@ -1,8 +1,8 @@
 // The heads of sample entries: written, and told from other bytes.
 ghost use Rattle.std.specs.Prelude.{◌≡◌, ◌<◌, length};
-ghost use Rattle.wire.specs.Clauses.{oneIf};
+ghost use Rattle.wire.specs.Clauses.{one_if};
 ghost use Rattle.wire.specs.Writing.{Put};
-ghost use Rattle.entry_heads.specs.Heads.{commonHead, audioHead, visualStart, visualHead, headSize, commonRule, audioRule, nameRule, visualRule, headRule};
+ghost use Rattle.entry_heads.specs.Heads.{common_head, audio_head, visual_start, visual_head, head_size, common_rule, audio_rule, name_rule, visual_rule, head_rule};
 
 use crate::{kind, put};
 use wire::{number, pen, test};
@@ -16,7 +16,7 @@ const VISUAL: usize = 86;
 
 // Writes the beginning of all entries.
 fn put_common(out: &mut [u8], span: usize, code: usize, reference: usize) -> usize
-    ensures { Put (commonHead span code reference) out.old 0 result out.new × (result ≡ 16) }
+    ensures { Put (common_head span code reference) out.old 0 result out.new × (result ≡ 16) }
 {
     let a = put::header(out, 0, span, code);
     let b = pen::put_number(out, a, 6, 0);
@@ -25,7 +25,7 @@ fn put_common(out: &mut [u8], span: usize, code: usize, reference: usize) -> usi
 
 // Writes the head of an audio entry.
 pub fn put_audio(out: &mut [u8], span: usize, code: usize, reference: usize, scale: usize) -> usize
-    ensures { Put (audioHead span code reference scale) out.old 0 result out.new × (result ≡ 36) }
+    ensures { Put (audio_head span code reference scale) out.old 0 result out.new × (result ≡ 36) }
 {
     let a = put_common(out, span, code, reference);
     let b = pen::put_number(out, a, 8, 0);
@@ -45,7 +45,7 @@ fn put_visual_start(
     width: usize,
     height: usize,
 ) -> usize
-    ensures { Put (visualStart span code reference width height) out.old 0 result out.new × (result ≡ 44) }
+    ensures { Put (visual_start span code reference width height) out.old 0 result out.new × (result ≡ 44) }
 {
     let a = put_common(out, span, code, reference);
     let b = pen::put_number(out, a, 16, 0);
@@ -66,7 +66,7 @@ pub fn put_visual(
     name: &[u8],
 ) -> usize
     requires { length name.now ≡ 32 }
-    ensures { Put (visualHead span code reference width height name.now) out.old 0 result out.new × (result ≡ 86) }
+    ensures { Put (visual_head span code reference width height name.now) out.old 0 result out.new × (result ≡ 86) }
 {
     let a = put_visual_start(out, span, code, reference, width, height);
     let b = pen::put_number(out, a, 4, 0);
@@ -78,7 +78,7 @@ pub fn put_visual(
 
 // 1 where an entry has the beginning of all entries, else 0.
 fn common(entry: &[u8]) -> usize
-    ensures { result ≡ oneIf (commonRule entry.now) }
+    ensures { result ≡ one_if (common_rule entry.now) }
 {
     if entry.len() < COMMON {
         return 0;
@@ -91,7 +91,7 @@ fn common(entry: &[u8]) -> usize
 
 // 1 where an entry has an audio head, else 0.
 fn audio(entry: &[u8]) -> usize
-    ensures { result ≡ oneIf (audioRule entry.now) }
+    ensures { result ≡ one_if (audio_rule entry.now) }
 {
     if entry.len() < AUDIO {
         return 0;
@@ -119,7 +119,7 @@ fn audio(entry: &[u8]) -> usize
 
 // 1 where the name of a visual entry is free or zero bytes, else 0.
 fn name(kind: usize, entry: &[u8]) -> usize
-    ensures { result ≡ oneIf (nameRule kind entry.now) }
+    ensures { result ≡ one_if (name_rule kind entry.now) }
 {
     if kind == kind::AVC1 {
         return 1;
@@ -129,7 +129,7 @@ fn name(kind: usize, entry: &[u8]) -> usize
 
 // 1 where an entry has the visual head of its kind, else 0.
 fn visual(kind: usize, entry: &[u8]) -> usize
-    ensures { result ≡ oneIf (visualRule kind entry.now) }
+    ensures { result ≡ one_if (visual_rule kind entry.now) }
 {
     if entry.len() < VISUAL {
         return 0;
@@ -166,7 +166,7 @@ fn visual(kind: usize, entry: &[u8]) -> usize
 
 // 1 where an entry has the head of its kind, else 0.
 pub fn rule(kind: usize, entry: &[u8]) -> usize
-    ensures { result ≡ oneIf (headRule kind entry.now) }
+    ensures { result ≡ one_if (head_rule kind entry.now) }
 {
     let handler = kind::handler(kind);
     if handler == codes::SOUN {
@@ -180,7 +180,7 @@ pub fn rule(kind: usize, entry: &[u8]) -> usize
 
 // The length of the head of a kind.
 pub fn size(kind: usize) -> usize
-    ensures { result ≡ headSize kind }
+    ensures { result ≡ head_size kind }
 {
     let handler = kind::handler(kind);
     let other = test::choose(handler, codes::VIDE, VISUAL, COMMON);

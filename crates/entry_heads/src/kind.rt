@@ -1,6 +1,6 @@
 // The kinds of sample entry.
 ghost use Rattle.std.specs.Prelude.{◌≡◌};
-ghost use Rattle.entry_heads.specs.Kinds.{kind_of, code_of, handlerOf};
+ghost use Rattle.entry_heads.specs.Kinds.{kind_of, code_of, handler_of};
 
 use wire::test;
 
@@ -44,7 +44,7 @@ pub fn code(kind: usize) -> usize
 
 // The handler that a kind goes with, 0 where it goes with any.
 pub fn handler(kind: usize) -> usize
-    ensures { result ≡ handlerOf kind }
+    ensures { result ≡ handler_of kind }
 {
     let r = test::choose(kind, AVC1, codes::VIDE, 0);
     let r = test::choose(kind, S263, codes::VIDE, r);

@@ -3,9 +3,9 @@ use Prim.Native.Nat.{◌<◌}
 use mathlib.Core.Path.{◌≡◌, sym}
 use mathlib.Core.Bool.{true}
 use mathlib.Core.Logic.{◌⊎◌, inl, inr}
-use Rattle.wire.proofs.Clauses.{is-eq, eq_is, is-lt, lt-is, holds, done, clause, one, of_two}
+use Rattle.wire.proofs.Clauses.{is_eq_lem, eq_is, is_lt_lem, lt_is, holds, done, clause, one, of_two}
 use Rattle.entry_records.specs.declared.field.Rates.{Rates}
-use Rattle.entry_records.specs.Fields.{ratesRule}
+use Rattle.entry_records.specs.Fields.{rates_rule}
 
 pub record Rated (r : Rates) : Type 0 where
   pub flag : r.given ≡ 1
@@ -18,16 +18,16 @@ pub record Plain (r : Rates) : Type 0 where
   pub maximum : r.maximum ≡ 0
 
 module _ (r : Rates) where
-  pub rates-met : ratesRule r ≡ true → Rated r ⊎ Plain r
-  unfolding ratesRule
-  rates-met e =
-      of_two _ _ e (λ w. inl (record { flag = eq_is _ _ (clause 0 _ w); average = lt-is _ _ (clause 1 _ w); maximum = lt-is _ _ (clause 2 _ w) }))
+  pub rates_met : rates_rule r ≡ true → Rated r ⊎ Plain r
+  unfolding rates_rule
+  rates_met e =
+      of_two _ _ e (λ w. inl (record { flag = eq_is _ _ (clause 0 _ w); average = lt_is _ _ (clause 1 _ w); maximum = lt_is _ _ (clause 2 _ w) }))
       (λ w. inr (record { flag = eq_is _ _ (clause 0 _ w); average = eq_is _ _ (clause 1 _ w); maximum = eq_is _ _ (clause 2 _ w) }))
 
-  pub rated-rule : Rated r → ratesRule r ≡ true
-  unfolding ratesRule
-  rated-rule h = sym (one 0 _ (sym (holds _ _ (is-eq _ _ h.flag) (holds _ _ (is-lt _ _ h.average) (holds _ _ (is-lt _ _ h.maximum) done)))))
+  pub rated_rule : Rated r → rates_rule r ≡ true
+  unfolding rates_rule
+  rated_rule h = sym (one 0 _ (sym (holds _ _ (is_eq_lem _ _ h.flag) (holds _ _ (is_lt_lem _ _ h.average) (holds _ _ (is_lt_lem _ _ h.maximum) done)))))
 
-  pub plain-rule : Plain r → ratesRule r ≡ true
-  unfolding ratesRule
-  plain-rule h = sym (one 1 _ (sym (holds _ _ (is-eq _ _ h.flag) (holds _ _ (is-eq _ _ h.average) (holds _ _ (is-eq _ _ h.maximum) done)))))
+  pub plain_rule : Plain r → rates_rule r ≡ true
+  unfolding rates_rule
+  plain_rule h = sym (one 1 _ (sym (holds _ _ (is_eq_lem _ _ h.flag) (holds _ _ (is_eq_lem _ _ h.average) (holds _ _ (is_eq_lem _ _ h.maximum) done)))))

@@ -2,26 +2,26 @@
 use Prim.Native.Nat.{ℕ}
 use mathlib.Core.Path.{◌≡◌, refl, sym, ◌∙◌}
 use lib.ListN.{length}
-use Rattle.wire.specs.Tests.{ifEq}
-use Rattle.wire.specs.Numbers.{bytesOn, bytes}
+use Rattle.wire.specs.Tests.{if_eq}
+use Rattle.wire.specs.Numbers.{bytes_on, bytes}
 use Rattle.wire.proofs.Tests.{through}
-use Rattle.entry_heads.specs.Heads.{boxHeader, commonHead, audioHead, visualStart, visualHead}
+use Rattle.entry_heads.specs.Heads.{box_header, common_head, audio_head, visual_start, visual_head}
 use Rattle.entry_records.specs.declared.field.Amr.{Amr}
 use Rattle.entry_records.specs.declared.field.H263.{H263}
-use Rattle.entry_records.specs.Texts.{amrText, plainText, ratedText, h263Text}
+use Rattle.entry_records.specs.Texts.{amr_text, plain_text, rated_text, h263_text}
 
-pub amr-length : (f : Amr) → length (amrText f) ≡ 53
-unfolding amrText audioHead commonHead boxHeader bytes bytesOn
-amr-length f = refl
+pub amr_length : (f : Amr) → length (amr_text f) ≡ 53
+unfolding amr_text audio_head common_head box_header bytes bytes_on
+amr_length f = refl
 
-pub plain-length : (span inner : ℕ) (f : H263) → length (plainText span inner f) ≡ 101
-unfolding plainText visualHead visualStart commonHead boxHeader bytes bytesOn
-plain-length span inner f = refl
+pub plain_length : (span inner : ℕ) (f : H263) → length (plain_text span inner f) ≡ 101
+unfolding plain_text visual_head visual_start common_head box_header bytes bytes_on
+plain_length span inner f = refl
 
-pub rated-length : (f : H263) → length (ratedText f) ≡ 117
-unfolding ratedText plainText visualHead visualStart commonHead boxHeader bytes bytesOn
-rated-length f = refl
+pub rated_length : (f : H263) → length (rated_text f) ≡ 117
+unfolding rated_text plain_text visual_head visual_start common_head box_header bytes bytes_on
+rated_length f = refl
 
-pub h263-length : (f : H263) → ifEq f.rates.given 1 117 101 ≡ length (h263Text f)
-unfolding h263Text
-h263-length f = sym (through length f.rates.given 1 (ratedText f) (plainText 101 15 f) ∙ rw (rated-length f, plain-length 101 15 f))
+pub h263_length : (f : H263) → if_eq f.rates.given 1 117 101 ≡ length (h263_text f)
+unfolding h263_text
+h263_length f = sym (through length f.rates.given 1 (rated_text f) (plain_text 101 15 f) ∙ rw (rated_length f, plain_length 101 15 f))

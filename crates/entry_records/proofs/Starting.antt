@@ -6,19 +6,19 @@ use mathlib.Core.Bool.{true}
 use mathlib.Core.List.{List, []}
 use lib.ListN.{length, take}
 use lib.Seq.{take-take}
-use Rattle.wire.specs.Tests.{ifLe}
-use Rattle.wire.specs.Numbers.{bytesOn, bytes, word}
+use Rattle.wire.specs.Tests.{if_le}
+use Rattle.wire.specs.Numbers.{bytes_on, bytes, word}
 use Rattle.codes.specs.Codes.{S263, D263}
-use Rattle.wire.proofs.Clauses.{lt-is, clause}
-use Rattle.wire.proofs.Numbers.{word_bytes, word-front}
+use Rattle.wire.proofs.Clauses.{lt_is, clause}
+use Rattle.wire.proofs.Numbers.{word_bytes, word_front}
 use Rattle.entry_heads.specs.Kinds.{S263Kind}
-use Rattle.entry_heads.specs.Heads.{boxHeader, commonHead, visualStart, visualHead}
-use Rattle.entry_heads.proofs.Heading.{visual-made}
+use Rattle.entry_heads.specs.Heads.{box_header, common_head, visual_start, visual_head}
+use Rattle.entry_heads.proofs.Heading.{visual_made}
 use Rattle.entry_rules.proofs.Picture.{PictureAt}
 use Rattle.entry_records.specs.declared.field.H263.{H263}
-use Rattle.entry_records.specs.Texts.{plainText}
-use Rattle.entry_records.specs.Fields.{ratesIn, h263In, h263Rule}
-use Rattle.entry_records.proofs.Lengths.{plain-length}
+use Rattle.entry_records.specs.Texts.{plain_text}
+use Rattle.entry_records.specs.Fields.{rates_in, h263_in, h263_rule}
+use Rattle.entry_records.proofs.Lengths.{plain_length}
 
 -- what stands where up to the profile
 pub record PictureWords (n : ℕ) (f : H263) (xs : List ℕ) : Type 0 where
@@ -34,47 +34,47 @@ pub record PictureWords (n : ℕ) (f : H263) (xs : List ℕ) : Type 0 where
   pub level : word 1 xs 99 ≡ f.level
   pub profile : word 1 xs 100 ≡ f.profile
 
-module _ (f : H263) (a : h263Rule f ≡ true) where
-  plain-front : (n : ℕ) → take 86 (plainText (86 + n) n f) ≡ visualHead (86 + n) S263 f.reference f.width f.height (bytes 32 0)
-  unfolding plainText visualHead visualStart commonHead boxHeader bytes bytesOn
-  plain-front n = refl
+module _ (f : H263) (a : h263_rule f ≡ true) where
+  plain_front : (n : ℕ) → take 86 (plain_text (86 + n) n f) ≡ visual_head (86 + n) S263 f.reference f.width f.height (bytes 32 0)
+  unfolding plain_text visual_head visual_start common_head box_header bytes bytes_on
+  plain_front n = refl
 
   -- a text that begins so
-  module _ (n : ℕ) (h : n < 100) (xs : List ℕ) (t : take 101 xs ≡ plainText (86 + n) n f) (l : length xs ≡ 86 + n) (m : 15 ≤ n) where
-    up : (w at : ℕ) → at + w ≤ 101 → word w xs at ≡ word w (plainText (86 + n) n f) at
-    up = word-front 101 xs (plainText (86 + n) n f) t (plain-length (86 + n) n f)
+  module _ (n : ℕ) (h : n < 100) (xs : List ℕ) (t : take 101 xs ≡ plain_text (86 + n) n f) (l : length xs ≡ 86 + n) (m : 15 ≤ n) where
+    up : (w at : ℕ) → at + w ≤ 101 → word w xs at ≡ word w (plain_text (86 + n) n f) at
+    up = word_front 101 xs (plain_text (86 + n) n f) t (plain_length (86 + n) n f)
 
-    pub picture-words : PictureWords n f xs
-    unfolding h263Rule plainText visualHead visualStart commonHead boxHeader bytes bytesOn word ifLe
-    picture-words =
+    pub picture_words : PictureWords n f xs
+    unfolding h263_rule plain_text visual_head visual_start common_head box_header bytes bytes_on word if_le
+    picture_words =
         record {
           span = up 4 0 (omega arith) ∙ word_bytes 4 (86 + n) [] (omega arith);
           code = up 4 4 (omega arith);
-          reference = up 2 14 (omega arith) ∙ word_bytes 2 f.reference [] (lt-is _ _ (clause 0 _ a));
-          width = up 2 32 (omega arith) ∙ word_bytes 2 f.width [] (lt-is _ _ (clause 1 _ a));
-          height = up 2 34 (omega arith) ∙ word_bytes 2 f.height [] (lt-is _ _ (clause 2 _ a));
+          reference = up 2 14 (omega arith) ∙ word_bytes 2 f.reference [] (lt_is _ _ (clause 0 _ a));
+          width = up 2 32 (omega arith) ∙ word_bytes 2 f.width [] (lt_is _ _ (clause 1 _ a));
+          height = up 2 34 (omega arith) ∙ word_bytes 2 f.height [] (lt_is _ _ (clause 2 _ a));
           inner = up 4 86 (omega arith) ∙ word_bytes 4 n [] (omega arith);
           d263 = up 4 90 (omega arith);
-          vendor = up 4 94 (omega arith) ∙ word_bytes 4 f.vendor [] (lt-is _ _ (clause 3 _ a));
-          version = up 1 98 (omega arith) ∙ word_bytes 1 f.version [] (lt-is _ _ (clause 4 _ a));
-          level = up 1 99 (omega arith) ∙ word_bytes 1 f.level [] (lt-is _ _ (clause 5 _ a));
-          profile = up 1 100 (omega arith) ∙ word_bytes 1 f.profile [] (lt-is _ _ (clause 6 _ a));
+          vendor = up 4 94 (omega arith) ∙ word_bytes 4 f.vendor [] (lt_is _ _ (clause 3 _ a));
+          version = up 1 98 (omega arith) ∙ word_bytes 1 f.version [] (lt_is _ _ (clause 4 _ a));
+          level = up 1 99 (omega arith) ∙ word_bytes 1 f.level [] (lt_is _ _ (clause 5 _ a));
+          profile = up 1 100 (omega arith) ∙ word_bytes 1 f.profile [] (lt_is _ _ (clause 6 _ a));
         }
 
-    front : take 86 xs ≡ visualHead (86 + n) S263 f.reference f.width f.height (bytes 32 0)
-    front = sym (take-take 86 101 xs (omega arith)) ∙ ap (take 86) t ∙ plain-front n
+    front : take 86 xs ≡ visual_head (86 + n) S263 f.reference f.width f.height (bytes 32 0)
+    front = sym (take-take 86 101 xs (omega arith)) ∙ ap (take 86) t ∙ plain_front n
 
-    pub picture-at : PictureAt n xs
-    picture-at =
-        let w = picture-words in
+    pub picture_at : PictureAt n xs
+    picture_at =
+        let w = picture_words in
         record {
           long = l;
           span = w.span;
-          head = visual-made xs (86 + n) S263 f.reference S263Kind 0 (λ e. refl) f.width f.height front;
+          head = visual_made xs (86 + n) S263 f.reference S263Kind 0 (λ e. refl) f.width f.height front;
           inner = w.inner;
           code = w.d263;
         }
 
     -- its fields, where its rates are those of the record
-    pub picture-back : ratesIn xs ≡ f.rates → h263In xs ≡ f
-    picture-back r = let w = picture-words in rw (w.reference, w.width, w.height, w.vendor, w.version, w.level, w.profile, r)
+    pub picture_back : rates_in xs ≡ f.rates → h263_in xs ≡ f
+    picture_back r = let w = picture_words in rw (w.reference, w.width, w.height, w.vendor, w.version, w.level, w.profile, r)

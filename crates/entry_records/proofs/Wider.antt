@@ -7,21 +7,21 @@ use Rattle.wire.specs.Tests.{pick}
 use Rattle.wire.specs.Numbers.{word}
 use Rattle.release.specs.declared.Release.{Release}
 use Rattle.release.specs.declared.Release.TheVariants.{Release4}
-use Rattle.release.proofs.Releases.{most-wider}
+use Rattle.release.proofs.Releases.{most_wider}
 use Rattle.entry_heads.specs.Kinds.{kind_of}
 use Rattle.entry_rules.specs.declared.entry.Around.TheVariants.{Alone}
-use Rattle.entry_rules.specs.Entries.{entryRule}
-use Rattle.entry_rules.proofs.Widening.{entry-wider}
+use Rattle.entry_rules.specs.Entries.{entry_rule}
+use Rattle.entry_rules.proofs.Widening.{entry_wider}
 use Rattle.entry_records.specs.declared.field.Record.{Record}
 use Rattle.entry_records.specs.declared.field.Record.TheVariants.{Broken}
-use Rattle.entry_records.specs.Fields.{recordIn}
+use Rattle.entry_records.specs.Fields.{record_in}
 use Rattle.entry_records.specs.Records.{read_of}
 
-pub read-wider : (release : Release) (xs : List ℕ) (r : Record) → read_of release xs ≡ r → (r ≡ Broken → ⊥) → read_of Release4 xs ≡ r
+pub read_wider : (release : Release) (xs : List ℕ) (r : Record) → read_of release xs ≡ r → (r ≡ Broken → ⊥) → read_of Release4 xs ≡ r
 unfolding read_of
-read-wider release xs r e n = go (entryRule Alone release xs) refl e
+read_wider release xs r e n = go (entry_rule Alone release xs) refl e
   where
-    go : (t : Bool) → entryRule Alone release xs ≡ t → pick t (recordIn (kind_of (word 4 xs 4)) xs) Broken ≡ r
-        → pick (entryRule Alone Release4 xs) (recordIn (kind_of (word 4 xs 4)) xs) Broken ≡ r
-    go true h f = rw (entry-wider release Release4 (most-wider release) Alone xs h) f
+    go : (t : Bool) → entry_rule Alone release xs ≡ t → pick t (record_in (kind_of (word 4 xs 4)) xs) Broken ≡ r
+        → pick (entry_rule Alone Release4 xs) (record_in (kind_of (word 4 xs 4)) xs) Broken ≡ r
+    go true h f = rw (entry_wider release Release4 (most_wider release) Alone xs h) f
     go false h f = absurd (n (sym f))

@@ -1,11 +1,11 @@
 -- The fields of a record, read from where they stand in an entry, and the rule that they meet.
 use Rattle.std.specs.Prelude.{ℕ, Bool, false, List, [], ◌∷◌, length}
-use Rattle.wire.specs.Tests.{ifEq}
+use Rattle.wire.specs.Tests.{if_eq}
 use Rattle.wire.specs.Clauses.{is_eq, is_lt, every, either}
 use Rattle.wire.specs.Numbers.{word}
 use Rattle.release.specs.declared.Release.{Release}
 use Rattle.entry_heads.specs.Kinds.{SamrKind, SawbKind, S263Kind}
-use Rattle.entry_rules.specs.Decoders.{framesRule}
+use Rattle.entry_rules.specs.Decoders.{frames_rule}
 use Rattle.entry_records.specs.declared.field.Amr.{Amr}
 use Rattle.entry_records.specs.declared.field.Rates.{Rates}
 use Rattle.entry_records.specs.declared.field.H263.{H263}
@@ -14,8 +14,8 @@ use Rattle.entry_records.specs.declared.field.Record.TheVariants.{Speech, Pictur
 
 -- ---- where they stand
 
-abbrev pub amrIn : ℕ → List ℕ → Amr
-amrIn kind xs =
+abbrev pub amr_in : ℕ → List ℕ → Amr
+amr_in kind xs =
     record {
       kind = kind;
       reference = word 2 xs 14;
@@ -28,11 +28,11 @@ amrIn kind xs =
     }
 
 -- given is 1 where a `bitr` follows; where none does, both rates are 0
-abbrev pub ratesIn : List ℕ → Rates
-ratesIn xs = record { given = ifEq (length xs) 117 1 0; average = word 4 xs 109; maximum = word 4 xs 113 }
+abbrev pub rates_in : List ℕ → Rates
+rates_in xs = record { given = if_eq (length xs) 117 1 0; average = word 4 xs 109; maximum = word 4 xs 113 }
 
-abbrev pub h263In : List ℕ → H263
-h263In xs =
+abbrev pub h263_in : List ℕ → H263
+h263_in xs =
     record {
       reference = word 2 xs 14;
       width = word 2 xs 32;
@@ -41,20 +41,20 @@ h263In xs =
       version = word 1 xs 98;
       level = word 1 xs 99;
       profile = word 1 xs 100;
-      rates = ratesIn xs;
+      rates = rates_in xs;
     }
 
 -- the record of an entry of a kind: the other kinds have none
-unfoldable pub recordIn : ℕ → List ℕ → Record
-recordIn kind xs =
-    ifEq kind SamrKind (Speech (amrIn kind xs))
-    (ifEq kind SawbKind (Speech (amrIn kind xs)) (ifEq kind S263Kind (Picture (h263In xs)) Broken))
+unfoldable pub record_in : ℕ → List ℕ → Record
+record_in kind xs =
+    if_eq kind SamrKind (Speech (amr_in kind xs))
+    (if_eq kind SawbKind (Speech (amr_in kind xs)) (if_eq kind S263Kind (Picture (h263_in xs)) Broken))
 
 -- ---- their rule: every number fits its place, and the decoder record's own rule holds
 
 -- a `samr` or a `sawb`
-unfoldable pub amrRule : Release → Amr → Bool
-amrRule release f =
+unfoldable pub amr_rule : Release → Amr → Bool
+amr_rule release f =
     every
     (either (is_eq f.kind SamrKind ∷ is_eq f.kind SawbKind ∷ [])
     ∷ is_lt f.reference 65536
@@ -64,20 +64,20 @@ amrRule release f =
     ∷ is_lt f.modes 65536
     ∷ is_lt f.period 256
     ∷ is_lt f.frames 256
-    ∷ framesRule f.kind release f.modes f.period f.frames
+    ∷ frames_rule f.kind release f.modes f.period f.frames
     ∷ [])
 
 -- the rates of a `bitr` fit their places; without one they are 0
-unfoldable pub ratesRule : Rates → Bool
-ratesRule r =
+unfoldable pub rates_rule : Rates → Bool
+rates_rule r =
     either
     (every (is_eq r.given 1 ∷ is_lt r.average 4294967296 ∷ is_lt r.maximum 4294967296 ∷ [])
     ∷ every (is_eq r.given 0 ∷ is_eq r.average 0 ∷ is_eq r.maximum 0 ∷ [])
     ∷ [])
 
 -- an `s263`
-unfoldable pub h263Rule : H263 → Bool
-h263Rule f =
+unfoldable pub h263_rule : H263 → Bool
+h263_rule f =
     every
     (is_lt f.reference 65536
     ∷ is_lt f.width 65536
@@ -86,10 +86,10 @@ h263Rule f =
     ∷ is_lt f.version 256
     ∷ is_lt f.level 256
     ∷ is_lt f.profile 256
-    ∷ ratesRule f.rates
+    ∷ rates_rule f.rates
     ∷ [])
 
-abbrev pub fieldsRule : Release → Record → Bool
-fieldsRule release (Speech f) = amrRule release f
-fieldsRule release (Picture f) = h263Rule f
-fieldsRule release Broken = false
+abbrev pub fields_rule : Release → Record → Bool
+fields_rule release (Speech f) = amr_rule release f
+fields_rule release (Picture f) = h263_rule f
+fields_rule release Broken = false

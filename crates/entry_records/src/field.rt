@@ -1,8 +1,8 @@
 // The fields of a record, and their rule.
 ghost use Rattle.std.specs.Prelude.{◌≡◌, [], ◌∷◌};
-ghost use Rattle.wire.specs.Clauses.{is_eq, either, oneIf};
+ghost use Rattle.wire.specs.Clauses.{is_eq, either, one_if};
 ghost use Rattle.entry_heads.specs.Kinds.{SamrKind, SawbKind};
-ghost use Rattle.entry_records.specs.Fields.{amrIn, ratesIn, h263In, recordIn, amrRule, ratesRule, h263Rule, fieldsRule};
+ghost use Rattle.entry_records.specs.Fields.{amr_in, rates_in, h263_in, record_in, amr_rule, rates_rule, h263_rule, fields_rule};
 
 use entry_heads::kind;
 use entry_rules::decoder;
@@ -53,7 +53,7 @@ pub enum Record {
 
 // The fields of a `samr` or `sawb` entry.
 fn read_amr(kind: usize, entry: &[u8]) -> Amr
-    ensures { result ≡ amrIn kind entry.now }
+    ensures { result ≡ amr_in kind entry.now }
 {
     Amr {
         kind,
@@ -69,7 +69,7 @@ fn read_amr(kind: usize, entry: &[u8]) -> Amr
 
 // The rates in an `s263` entry.
 fn read_rates(entry: &[u8]) -> Rates
-    ensures { result ≡ ratesIn entry.now }
+    ensures { result ≡ rates_in entry.now }
 {
     Rates {
         given: test::choose(entry.len(), 117, 1, 0),
@@ -80,7 +80,7 @@ fn read_rates(entry: &[u8]) -> Rates
 
 // The fields of an `s263` entry.
 fn read_h263(entry: &[u8]) -> H263
-    ensures { result ≡ h263In entry.now }
+    ensures { result ≡ h263_in entry.now }
 {
     H263 {
         reference: number::word16(entry, 14),
@@ -96,7 +96,7 @@ fn read_h263(entry: &[u8]) -> H263
 
 // The record that stands in an entry of a kind.
 pub fn inside(kind: usize, entry: &[u8]) -> Record
-    ensures { result ≡ recordIn kind entry.now }
+    ensures { result ≡ record_in kind entry.now }
 {
     if kind == kind::SAMR {
         return Record::Speech(read_amr(kind, entry));
@@ -112,7 +112,7 @@ pub fn inside(kind: usize, entry: &[u8]) -> Record
 
 // Whether a kind is `samr` or `sawb`: 1 or 0.
 fn spoken(kind: usize) -> usize
-    ensures { result ≡ oneIf (either (is_eq kind SamrKind ∷ is_eq kind SawbKind ∷ [])) }
+    ensures { result ≡ one_if (either (is_eq kind SamrKind ∷ is_eq kind SawbKind ∷ [])) }
 {
     if kind == kind::SAMR {
         return 1;
@@ -125,7 +125,7 @@ fn spoken(kind: usize) -> usize
 
 // Whether each field of a `samr` or `sawb` fits its place and the modes, period and frames meet their rule: 1 or 0.
 fn amr_rule(release: Release, f: Amr) -> usize
-    ensures { result ≡ oneIf (amrRule release f) }
+    ensures { result ≡ one_if (amr_rule release f) }
 {
     if spoken(f.kind) == 0 {
         return 0;
@@ -156,7 +156,7 @@ fn amr_rule(release: Release, f: Amr) -> usize
 
 // Whether rates fit their places, or are 0 where no `bitr` follows: 1 or 0.
 fn rates_rule(rates: Rates) -> usize
-    ensures { result ≡ oneIf (ratesRule rates) }
+    ensures { result ≡ one_if (rates_rule rates) }
 {
     if rates.given == 1 {
         if rates.average >= 4294967296 {
@@ -181,7 +181,7 @@ fn rates_rule(rates: Rates) -> usize
 
 // Whether each field of an `s263` fits its place: 1 or 0.
 fn h263_rule(f: H263) -> usize
-    ensures { result ≡ oneIf (h263Rule f) }
+    ensures { result ≡ one_if (h263_rule f) }
 {
     if f.reference >= 65536 {
         return 0;
@@ -209,7 +209,7 @@ fn h263_rule(f: H263) -> usize
 
 // Whether fields meet the rule: 1 or 0.
 pub fn rule(release: Release, fields: Record) -> usize
-    ensures { result ≡ oneIf (fieldsRule release fields) }
+    ensures { result ≡ one_if (fields_rule release fields) }
 {
     match fields {
         Record::Speech(f) => amr_rule(release, f),

@@ -1,7 +1,7 @@
 // The bytes that fields make.
 ghost use Rattle.std.specs.Prelude.{◌≡◌, length};
 ghost use Rattle.wire.specs.Writing.{Put};
-ghost use Rattle.entry_records.specs.Texts.{amrText, plainText, ratedText, h263Text, text_of};
+ghost use Rattle.entry_records.specs.Texts.{amr_text, plain_text, rated_text, h263_text, text_of};
 
 use crate::field::{Amr, H263, Record};
 use entry_heads::{head, kind, put};
@@ -9,7 +9,7 @@ use wire::{pen, test};
 
 // Writes a `samr` or `sawb` entry.
 pub fn put_amr(out: &mut [u8], f: Amr) -> usize
-    ensures { Put (amrText f) out.old 0 result out.new }
+    ensures { Put (amr_text f) out.old 0 result out.new }
 {
     let a = head::put_audio(out, 53, kind::code(f.kind), f.reference, f.scale);
     let b = put::header(out, a, 17, codes::DAMR);
@@ -22,7 +22,7 @@ pub fn put_amr(out: &mut [u8], f: Amr) -> usize
 
 // Writes an `s263` entry up to its profile; the two sizes are those of the entry and of its `d263`.
 fn put_plain(out: &mut [u8], span: usize, inner: usize, f: H263) -> usize
-    ensures { Put (plainText span inner f) out.old 0 result out.new × (result ≡ 101) }
+    ensures { Put (plain_text span inner f) out.old 0 result out.new × (result ≡ 101) }
 {
     let a = head::put_visual(
         out,
@@ -42,7 +42,7 @@ fn put_plain(out: &mut [u8], span: usize, inner: usize, f: H263) -> usize
 
 // Writes an `s263` entry with a `bitr`.
 fn put_rated(out: &mut [u8], f: H263) -> usize
-    ensures { Put (ratedText f) out.old 0 result out.new }
+    ensures { Put (rated_text f) out.old 0 result out.new }
 {
     let a = put_plain(out, 117, 31, f);
     let b = put::header(out, a, 16, codes::BITR);
@@ -52,7 +52,7 @@ fn put_rated(out: &mut [u8], f: H263) -> usize
 
 // Writes an `s263` entry.
 fn put_h263(out: &mut [u8], f: H263) -> usize
-    ensures { Put (h263Text f) out.old 0 result out.new }
+    ensures { Put (h263_text f) out.old 0 result out.new }
 {
     if f.rates.given == 1 {
         return put_rated(out, f);
@@ -73,7 +73,7 @@ pub fn put_record(out: &mut [u8], fields: Record) -> usize
 
 // The length of an `s263` entry.
 fn h263_length(f: H263) -> usize
-    ensures { result ≡ length (h263Text f) }
+    ensures { result ≡ length (h263_text f) }
 {
     test::choose(f.rates.given, 1, 117, 101)
 }

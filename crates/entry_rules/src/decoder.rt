@@ -1,7 +1,7 @@
 // Decoder records: the `damr` and `d263` boxes of an entry. Each answer is 1 or 0.
 ghost use Rattle.std.specs.Prelude.{◌≡◌, ◌<◌};
-ghost use Rattle.wire.specs.Clauses.{oneIf};
-ghost use Rattle.entry_rules.specs.Decoders.{boxRule, modesRule, periodRule, framesRule, damrRule, ratedRule, d263Rule, recordRule};
+ghost use Rattle.wire.specs.Clauses.{one_if};
+ghost use Rattle.entry_rules.specs.Decoders.{box_rule, modes_rule, period_rule, frames_rule, damr_rule, rated_rule, d263_rule, record_rule};
 
 use entry_heads::kind;
 use release::Release;
@@ -9,7 +9,7 @@ use wire::{lend, number, test};
 
 // Whether a part is one whole box of a code.
 pub fn box_rule(code: usize, part: &[u8]) -> usize
-    ensures { result ≡ oneIf (boxRule code part.now) }
+    ensures { result ≡ one_if (box_rule code part.now) }
 {
     if number::word32(part, 0) != part.len() {
         return 0;
@@ -22,7 +22,7 @@ pub fn box_rule(code: usize, part: &[u8]) -> usize
 
 // Whether a codec has the modes: bits 9 to 14 are no modes of `samr`, 10 to 14 none of `sawb`.
 fn modes_rule(kind: usize, modes: usize) -> usize
-    ensures { result ≡ oneIf (modesRule kind modes) }
+    ensures { result ≡ one_if (modes_rule kind modes) }
 {
     let stray = test::choose(kind, kind::SAMR, modes / 512 % 64, modes / 1024 % 32);
     if stray != 0 {
@@ -34,7 +34,7 @@ fn modes_rule(kind: usize, modes: usize) -> usize
 // Whether a period fits the frames.
 fn period_rule(period: usize, frames: usize) -> usize
     requires { 0 < frames }
-    ensures { result ≡ oneIf (periodRule period frames) }
+    ensures { result ≡ one_if (period_rule period frames) }
 {
     if period == 0 {
         return 1;
@@ -56,7 +56,7 @@ pub fn frames_rule(
     period: usize,
     frames: usize,
 ) -> usize
-    ensures { result ≡ oneIf (framesRule kind release modes period frames) }
+    ensures { result ≡ one_if (frames_rule kind release modes period frames) }
 {
     if modes_rule(kind, modes) == 0 {
         return 0;
@@ -72,7 +72,7 @@ pub fn frames_rule(
 
 // Whether a part is the `damr` of a kind.
 fn damr_rule(kind: usize, release: Release, part: &[u8]) -> usize
-    ensures { result ≡ oneIf (damrRule kind release part.now) }
+    ensures { result ≡ one_if (damr_rule kind release part.now) }
 {
     if box_rule(codes::DAMR, part) == 0 {
         return 0;
@@ -91,7 +91,7 @@ fn damr_rule(kind: usize, release: Release, part: &[u8]) -> usize
 
 // Whether a `d263` ends with its profile or with one `bitr`.
 fn rated_rule(part: &[u8]) -> usize
-    ensures { result ≡ oneIf (ratedRule part.now) }
+    ensures { result ≡ one_if (rated_rule part.now) }
 {
     if part.len() == 15 {
         return 1;
@@ -107,7 +107,7 @@ fn rated_rule(part: &[u8]) -> usize
 
 // Whether a part is a `d263`.
 fn d263_rule(part: &[u8]) -> usize
-    ensures { result ≡ oneIf (d263Rule part.now) }
+    ensures { result ≡ one_if (d263_rule part.now) }
 {
     if box_rule(codes::D263, part) == 0 {
         return 0;
@@ -117,7 +117,7 @@ fn d263_rule(part: &[u8]) -> usize
 
 // Whether a part is the decoder record of an entry of a kind.
 pub fn record_rule(kind: usize, release: Release, part: &[u8]) -> usize
-    ensures { result ≡ oneIf (recordRule kind release part.now) }
+    ensures { result ≡ one_if (record_rule kind release part.now) }
 {
     if kind == kind::SAMR {
         return damr_rule(kind, release, part);

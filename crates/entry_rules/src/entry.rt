@@ -1,7 +1,7 @@
 // Rule 10: a sample entry. Each answer is 1 or 0.
 ghost use Rattle.std.specs.Prelude.{◌≡◌};
-ghost use Rattle.wire.specs.Clauses.{oneIf};
-ghost use Rattle.entry_rules.specs.Entries.{handlerRule, scaleRule, trackRule, aroundRule, esdsRule, avcRule, insideRule, ruleAs, entryRule};
+ghost use Rattle.wire.specs.Clauses.{one_if};
+ghost use Rattle.entry_rules.specs.Entries.{handler_rule, scale_rule, track_rule, around_rule, esds_rule, avc_rule, inside_rule, rule_as, entry_rule};
 
 use crate::decoder;
 use boxes::seek;
@@ -22,7 +22,7 @@ pub enum Around {
 
 // Whether the handler of a track is that of a kind.
 fn handler_rule(kind: usize, handler: usize) -> usize
-    ensures { result ≡ oneIf (handlerRule kind handler) }
+    ensures { result ≡ one_if (handler_rule kind handler) }
 {
     let own = kind::handler(kind);
     if own == 0 {
@@ -36,7 +36,7 @@ fn handler_rule(kind: usize, handler: usize) -> usize
 
 // Whether an audio entry has the time scale of its track.
 fn scale_rule(kind: usize, scale: usize, entry: &[u8]) -> usize
-    ensures { result ≡ oneIf (scaleRule kind scale entry.now) }
+    ensures { result ≡ one_if (scale_rule kind scale entry.now) }
 {
     if kind::handler(kind) != codes::SOUN {
         return 1;
@@ -49,7 +49,7 @@ fn scale_rule(kind: usize, scale: usize, entry: &[u8]) -> usize
 
 // Whether an entry fits its track.
 fn track_rule(scale: usize, handler: usize, references: usize, kind: usize, entry: &[u8]) -> usize
-    ensures { result ≡ oneIf (trackRule scale handler references kind entry.now) }
+    ensures { result ≡ one_if (track_rule scale handler references kind entry.now) }
 {
     let reference = number::word16(entry, 14);
     if reference == 0 {
@@ -66,7 +66,7 @@ fn track_rule(scale: usize, handler: usize, references: usize, kind: usize, entr
 
 // Whether an entry fits what stands around it.
 fn around_rule(around: Around, kind: usize, entry: &[u8]) -> usize
-    ensures { result ≡ oneIf (aroundRule around kind entry.now) }
+    ensures { result ≡ one_if (around_rule around kind entry.now) }
 {
     match around {
         Around::Track {
@@ -80,7 +80,7 @@ fn around_rule(around: Around, kind: usize, entry: &[u8]) -> usize
 
 // Whether a part is one `esds`.
 fn esds_rule(part: &[u8]) -> usize
-    ensures { result ≡ oneIf (esdsRule part.now) }
+    ensures { result ≡ one_if (esds_rule part.now) }
 {
     if decoder::box_rule(codes::ESDS, part) == 0 {
         return 0;
@@ -96,7 +96,7 @@ fn esds_rule(part: &[u8]) -> usize
 
 // Whether plain boxes tile a part and one is `avcC`.
 fn avc_rule(part: &[u8]) -> usize
-    ensures { result ≡ oneIf (avcRule part.now) }
+    ensures { result ≡ one_if (avc_rule part.now) }
 {
     if seek::tally(part, codes::AVCC) != 1 {
         return 0;
@@ -106,7 +106,7 @@ fn avc_rule(part: &[u8]) -> usize
 
 // Whether a part follows the head of a kind rightly.
 fn inside_rule(kind: usize, release: Release, part: &[u8]) -> usize
-    ensures { result ≡ oneIf (insideRule kind release part.now) }
+    ensures { result ≡ one_if (inside_rule kind release part.now) }
 {
     if kind == kind::OTHER {
         return 1;
@@ -125,7 +125,7 @@ fn inside_rule(kind: usize, release: Release, part: &[u8]) -> usize
 
 // Whether an entry meets the rule of a kind.
 fn rule_as(kind: usize, around: Around, release: Release, entry: &[u8]) -> usize
-    ensures { result ≡ oneIf (ruleAs kind around release entry.now) }
+    ensures { result ≡ one_if (rule_as kind around release entry.now) }
 {
     if number::word32(entry, 0) != entry.len() {
         return 0;
@@ -141,7 +141,7 @@ fn rule_as(kind: usize, around: Around, release: Release, entry: &[u8]) -> usize
 
 // Whether an entry meets rule 10 of a release.
 pub fn entry_rule(entry: &[u8], around: Around, release: Release) -> usize
-    ensures { result ≡ oneIf (entryRule around release entry.now) }
+    ensures { result ≡ one_if (entry_rule around release entry.now) }
 {
     rule_as(
         kind::of_code(number::word32(entry, 4)),

@@ -4,105 +4,105 @@ use native.Mathlib.Omega.{arith}
 use mathlib.Core.Path.{◌≡◌, refl, sym, ◌∙◌}
 use mathlib.Core.List.{List, [], ◌∷◌}
 use lib.ListN.{length, length-append}
-use Rattle.wire.specs.Tests.{ifLt}
-use Rattle.wire.specs.Clauses.{oneIf}
+use Rattle.wire.specs.Tests.{if_lt}
+use Rattle.wire.specs.Clauses.{one_if}
 use Rattle.wire.specs.Numbers.{bytes}
 use Rattle.wire.specs.Writing.{Put}
-use Rattle.wire.proofs.Numbers.{length-bytes}
-use Rattle.wire.proofs.Tests.{eq-yea, eq-nay}
-use Rattle.wire.proofs.Clauses.{lt-is, is-eq, not-eq, fails, holds, done, clause, was-yea, was-nay}
-use Rattle.wire.proofs.Writing.{pen-then}
-use Rattle.entry_heads.specs.Heads.{boxHeader}
-use Rattle.descriptors.specs.Lengths.{shortest, leastMore, TOO_LONG}
+use Rattle.wire.proofs.Numbers.{length_bytes_lem}
+use Rattle.wire.proofs.Tests.{eq_yea, eq_nay}
+use Rattle.wire.proofs.Clauses.{lt_is, is_eq_lem, not_eq, fails, holds, done, clause, was_yea, was_nay}
+use Rattle.wire.proofs.Writing.{pen_then}
+use Rattle.entry_heads.specs.Heads.{box_header}
+use Rattle.descriptors.specs.Lengths.{shortest, least_more, TOO_LONG}
 use Rattle.descriptors.specs.Parts.{ES, CONFIGURATION, SPECIFIC, SL}
-use Rattle.descriptors.specs.Texts.{headText, descriptorText}
-use Rattle.descriptors.proofs.Written.{length-text}
+use Rattle.descriptors.specs.Texts.{head_text, descriptor_text}
+use Rattle.descriptors.proofs.Written.{length_text}
 use Rattle.rule.specs.declared.Answer.{Answer}
 use Rattle.rule.specs.declared.Answer.TheVariants.{Refused}
 use Rattle.rule.specs.Results.{Exact, asked}
 use Rattle.rule.specs.Results.Result.{gives}
-use Rattle.rule.proofs.Results.{test-not, test-so}
+use Rattle.rule.proofs.Results.{test_not, test_so}
 use Rattle.esds.specs.declared.value.Values.{Values}
-use Rattle.esds.specs.Values.{hasEsds, kindRule}
-use Rattle.esds.specs.Texts.{specificText, configurationText, configurationBody, esBody, esText, esdsText, valuesRule, SizesOf}
-use Rattle.esds.specs.Calls.{values_of, esdsWrite}
+use Rattle.esds.specs.Values.{has_esds, kind_rule}
+use Rattle.esds.specs.Texts.{specific_text, configuration_text, configuration_body, es_body, es_text, esds_text, values_rule, SizesOf}
+use Rattle.esds.specs.Calls.{values_of, esds_write}
 
 -- ---- a descriptor
 
 -- its length, from that of its contents
-pub text-around : (tag : ℕ) (xs : List ℕ) {n r : ℕ} → n ≡ length xs → r ≡ 1 + length (shortest n) + n → r ≡ length (descriptorText tag xs)
-unfolding descriptorText headText
-text-around tag xs e g = rw (length-append, length-append, length-bytes) (rw e at g)
+pub text_around : (tag : ℕ) (xs : List ℕ) {n r : ℕ} → n ≡ length xs → r ≡ 1 + length (shortest n) + n → r ≡ length (descriptor_text tag xs)
+unfolding descriptor_text head_text
+text_around tag xs e g = rw (length-append, length-append, length_bytes_lem) (rw e at g)
 
 -- its header, and then its contents
-pub pen-text : (tag : ℕ) {xs out mid after : List ℕ} {n at m r : ℕ} → n ≡ length xs → Put (headText tag n) out at m mid → Put xs mid m r after
-    → Put (descriptorText tag xs) out at r after
-unfolding descriptorText
-pen-text tag e p q = pen-then (rw e at p) q
+pub pen_text : (tag : ℕ) {xs out mid after : List ℕ} {n at m r : ℕ} → n ≡ length xs → Put (head_text tag n) out at m mid → Put xs mid m r after
+    → Put (descriptor_text tag xs) out at r after
+unfolding descriptor_text
+pen_text tag e p q = pen_then (rw e at p) q
 
 -- ---- the parts
 
-length-sl : length (descriptorText SL (bytes 1 2)) ≡ 3
-unfolding leastMore ifLt
-length-sl = length-text SL (bytes 1 2) ∙ rw (length-bytes 1 2)
+length_sl : length (descriptor_text SL (bytes 1 2)) ≡ 3
+unfolding least_more if_lt
+length_sl = length_text SL (bytes 1 2) ∙ rw (length_bytes_lem 1 2)
 
 module _ (v : Values) (s : List ℕ) where
-  pub specific-none : v.specific ≡ 0 → [] ≡ specificText v s
-  unfolding specificText
-  specific-none e = eq-yea _ _ _ _ _ e refl
+  pub specific_none : v.specific ≡ 0 → [] ≡ specific_text v s
+  unfolding specific_text
+  specific_none e = eq_yea _ _ _ _ _ e refl
 
-  pub specific-given : (v.specific ≡ 0 → ⊥) → descriptorText SPECIFIC s ≡ specificText v s
-  unfolding specificText
-  specific-given e = eq-nay _ _ _ _ _ e refl
+  pub specific_given : (v.specific ≡ 0 → ⊥) → descriptor_text SPECIFIC s ≡ specific_text v s
+  unfolding specific_text
+  specific_given e = eq_nay _ _ _ _ _ e refl
 
-  length-configuration : length (configurationBody v s) ≡ 13 + length (specificText v s)
-  unfolding configurationBody configurationText
-  length-configuration = simp (length-append, length-bytes)
+  length_configuration : length (configuration_body v s) ≡ 13 + length (specific_text v s)
+  unfolding configuration_body configuration_text
+  length_configuration = simp (length-append, length_bytes_lem)
 
-  length-es : length (esBody v s) ≡ 3 + length (descriptorText CONFIGURATION (configurationBody v s)) + 3
-  unfolding esBody
-  length-es = rw (length-append, length-append, length-append, length-bytes, length-bytes, length-sl)
+  length_es : length (es_body v s) ≡ 3 + length (descriptor_text CONFIGURATION (configuration_body v s)) + 3
+  unfolding es_body
+  length_es = rw (length-append, length-append, length-append, length_bytes_lem, length_bytes_lem, length_sl)
 
-  pub length-esds : length (esdsText v s) ≡ 12 + length (esText v s)
-  unfolding esdsText boxHeader
-  length-esds = simp (length-append, length-bytes)
+  pub length_esds : length (esds_text v s) ≡ 12 + length (es_text v s)
+  unfolding esds_text box_header
+  length_esds = simp (length-append, length_bytes_lem)
 
   -- how long it gets, from the specific information to the whole
-  pub sizes-of : {a b c : ℕ} → (a ≡ length (specificText v s)) × (a ≤ length s + 5)
+  pub sizes_of : {a b c : ℕ} → (a ≡ length (specific_text v s)) × (a ≤ length s + 5)
       → (b ≡ 1 + length (shortest (13 + a)) + (13 + a)) × (b ≤ 13 + a + 5)
       → (c ≡ 1 + length (shortest (3 + b + 3)) + (3 + b + 3)) × (c ≤ 3 + b + 3 + 5)
       → SizesOf v s (record { configuration = 13 + a; es = 3 + b + 3; whole = 12 + c })
-  unfolding esText
-  sizes-of {a} {b} {c} p q r =
-      let k : 13 + a ≡ length (configurationBody v s) = omega (arith, length-configuration, p.0) in
-      let f = text-around CONFIGURATION (configurationBody v s) k q.0 in
-      let e : 3 + b + 3 ≡ length (esBody v s) = omega (arith, length-es, f) in
-      let g = text-around ES (esBody v s) e r.0 in
-      record { configuration = k; es = e; whole = omega (arith, length-esds, g); most = omega (arith, p.1, q.1, r.1) }
+  unfolding es_text
+  sizes_of {a} {b} {c} p q r =
+      let k : 13 + a ≡ length (configuration_body v s) = omega (arith, length_configuration, p.0) in
+      let f = text_around CONFIGURATION (configuration_body v s) k q.0 in
+      let e : 3 + b + 3 ≡ length (es_body v s) = omega (arith, length_es, f) in
+      let g = text_around ES (es_body v s) e r.0 in
+      record { configuration = k; es = e; whole = omega (arith, length_esds, g); most = omega (arith, p.1, q.1, r.1) }
 
   -- what code may count on where the values have their `esds`
-  module _ {i : ℕ} (e : i ≡ oneIf (valuesRule v s)) (h : i ≡ 0 → ⊥) where
-    pub rule-stream : v.stream < 64
-    unfolding valuesRule
-    rule-stream = lt-is _ _ (clause 2 _ (was-yea _ _ h e))
+  module _ {i : ℕ} (e : i ≡ one_if (values_rule v s)) (h : i ≡ 0 → ⊥) where
+    pub rule_stream : v.stream < 64
+    unfolding values_rule
+    rule_stream = lt_is _ _ (clause 2 _ (was_yea _ _ h e))
 
-    pub rule-short : length s < TOO_LONG
-    unfolding valuesRule
-    rule-short = lt-is _ _ (clause 7 _ (was-yea _ _ h e))
+    pub rule_short : length s < TOO_LONG
+    unfolding values_rule
+    rule_short = lt_is _ _ (clause 7 _ (was_yea _ _ h e))
 
 -- ---- the writer, which is given numbers
 
-pub write-count : (ns s out : List ℕ) → (length ns ≡ 8 → ⊥) → Exact (esdsWrite ns s) out (Refused 20 0) out
-unfolding esdsWrite
-write-count ns s out h = test-not 20 _ _ _ out (sym (fails 0 _ (not-eq _ _ h)))
+pub write_count : (ns s out : List ℕ) → (length ns ≡ 8 → ⊥) → Exact (esds_write ns s) out (Refused 20 0) out
+unfolding esds_write
+write_count ns s out h = test_not 20 _ _ _ out (sym (fails 0 _ (not_eq _ _ h)))
 
-module _ (ns s out : List ℕ) {v : Values} (e : v ≡ values_of ns) {i : ℕ} (g : i ≡ oneIf (hasEsds v.kind)) where
-  pub write-other : i ≡ 0 → Exact (esdsWrite ns s) out (Refused 20 0) out
-  unfolding esdsWrite
-  write-other z = test-not 20 _ _ _ out (sym (fails 1 _ (was-nay _ _ z (rw e at g))))
+module _ (ns s out : List ℕ) {v : Values} (e : v ≡ values_of ns) {i : ℕ} (g : i ≡ one_if (has_esds v.kind)) where
+  pub write_other : i ≡ 0 → Exact (esds_write ns s) out (Refused 20 0) out
+  unfolding esds_write
+  write_other z = test_not 20 _ _ _ out (sym (fails 1 _ (was_nay _ _ z (rw e at g))))
 
-  pub write-kind : length ns ≡ 8 → (i ≡ 0 → ⊥) → {r : Answer} {left : List ℕ}
-      → Exact (asked ((50, valuesRule v s) ∷ (52, kindRule v) ∷ []) (gives (esdsText v s))) out r left → Exact (esdsWrite ns s) out r left
-  unfolding esdsWrite
-  write-kind l z x =
-      test-so 20 _ _ _ out (sym (holds _ _ (is-eq _ _ l) (holds _ _ (was-yea _ _ z (rw e at g)) done))) (rw e at x)
+  pub write_kind : length ns ≡ 8 → (i ≡ 0 → ⊥) → {r : Answer} {left : List ℕ}
+      → Exact (asked ((50, values_rule v s) ∷ (52, kind_rule v) ∷ []) (gives (esds_text v s))) out r left → Exact (esds_write ns s) out r left
+  unfolding esds_write
+  write_kind l z x =
+      test_so 20 _ _ _ out (sym (holds _ _ (is_eq_lem _ _ l) (holds _ _ (was_yea _ _ z (rw e at g)) done))) (rw e at x)

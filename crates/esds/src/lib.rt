@@ -10,9 +10,9 @@ ghost use Rattle.entry_heads.specs.Kinds.{kind_of};
 ghost use Rattle.wire.specs.Numbers.{word};
 ghost use Rattle.rule.specs.Results.{asked, Exact};
 ghost use Rattle.rule.specs.Results.Result.{gives};
-ghost use Rattle.esds.specs.Values.{kindRule};
-ghost use Rattle.esds.specs.Texts.{esdsText, valuesRule};
-ghost use Rattle.esds.specs.Calls.{esdsNumbers, openedResult, treeResult, openedAs, entryOpened, esdsRead, specificPart, values_of, esdsWrite};
+ghost use Rattle.esds.specs.Values.{kind_rule};
+ghost use Rattle.esds.specs.Texts.{esds_text, values_rule};
+ghost use Rattle.esds.specs.Calls.{esds_numbers, opened_result, tree_result, opened_as, entry_opened, esds_read, specific_part, values_of, esds_write};
 
 use descriptors::list::Reading;
 use descriptors::{list, part};
@@ -37,7 +37,7 @@ pub enum Opened {
 // The descriptors that start at a place, in an entry of a kind: 50, 51, 52.
 fn open_tree(bytes: &[u8], kind: usize, place: usize) -> Opened
     requires { place < 2 ^ 32 }
-    ensures { openedResult result ≡ treeResult kind place (tree TOP bytes.now) }
+    ensures { opened_result result ≡ tree_result kind place (tree TOP bytes.now) }
 {
     let start = Reading {
         fits: 1,
@@ -61,7 +61,7 @@ fn open_tree(bytes: &[u8], kind: usize, place: usize) -> Opened
 // The `esds` of an entry that stands at a place: 20 for another kind.
 fn open_entry(entry: &[u8], place: usize) -> Opened
     requires { place ≤ LONGEST }
-    ensures { openedResult result ≡ openedAs (kind_of (word 4 entry.now 4)) place entry.now }
+    ensures { opened_result result ≡ opened_as (kind_of (word 4 entry.now 4)) place entry.now }
 {
     let kind = kind::of_code(number::word32(entry, 4));
     if value::has_esds(kind) == 0 {
@@ -74,7 +74,7 @@ fn open_entry(entry: &[u8], place: usize) -> Opened
 // Of entry i, from 1, of an accepted file: 20 where there is none.
 fn open_in(file: &[u8], i: usize) -> Opened
     requires { length file.now ≤ LONGEST }
-    ensures { openedResult result ≡ entryOpened file.now i }
+    ensures { opened_result result ≡ entry_opened file.now i }
 {
     if i == 0 {
         return Opened::Refused(20, 0);
@@ -91,7 +91,7 @@ fn open_in(file: &[u8], i: usize) -> Opened
 
 // What stands in the `esds` of entry i, from 1, of a file.
 pub fn open(file: &[u8], i: usize) -> Opened
-    ensures { openedResult result ≡ esdsRead file.now i }
+    ensures { opened_result result ≡ esds_read file.now i }
 {
     match judge::judge(file) {
         Judgement::Accepted => open_in(file, i),
@@ -101,7 +101,7 @@ pub fn open(file: &[u8], i: usize) -> Opened
 
 // The ten numbers of it.
 fn put(e: Esds, out: &mut [u64]) -> Answer
-    ensures { Exact (gives (esdsNumbers e)) out.old result out.new }
+    ensures { Exact (gives (esds_numbers e)) out.old result out.new }
 {
     if out.len() < 10 {
         return Answer::Refused(25, 0);
@@ -122,7 +122,7 @@ fn put(e: Esds, out: &mut [u64]) -> Answer
 
 // The same as numbers: the values, and the place and the length of the specific information.
 pub fn read(file: &[u8], i: usize, out: &mut [u64]) -> Answer
-    ensures { Exact (esdsRead file.now i) out.old result out.new }
+    ensures { Exact (esds_read file.now i) out.old result out.new }
 {
     match open(file, i) {
         Opened::Found(e) => put(e, out),
@@ -132,7 +132,7 @@ pub fn read(file: &[u8], i: usize, out: &mut [u64]) -> Answer
 
 // The specific information as a part of the file, empty where it isn't there and where the call is refused.
 pub fn specific(file: &[u8], i: usize) -> &[u8]
-    ensures { result.now ≡ specificPart file.now (esdsRead file.now i) }
+    ensures { result.now ≡ specific_part file.now (esds_read file.now i) }
 {
     match open(file, i) {
         Opened::Found(e) => lend::front(lend::rest(file, e.place), e.span),
@@ -159,7 +159,7 @@ fn values_of(fields: &[u64]) -> Values
 
 // The `esds` of values: 50, 52, 25.
 fn write_values(v: Values, specific: &[u8], out: &mut [u8]) -> Answer
-    ensures { Exact (asked ((50, valuesRule v specific.now) ∷ (52, kindRule v) ∷ []) (gives (esdsText v specific.now))) out.old result out.new }
+    ensures { Exact (asked ((50, values_rule v specific.now) ∷ (52, kind_rule v) ∷ []) (gives (esds_text v specific.now))) out.old result out.new }
 {
     if text::values_rule(v, specific) == 0 {
         return Answer::Refused(50, 0);
@@ -176,7 +176,7 @@ fn write_values(v: Values, specific: &[u8], out: &mut [u8]) -> Answer
 
 // The `esds` of eight numbers and the specific information.
 pub fn write(fields: &[u64], specific: &[u8], out: &mut [u8]) -> Answer
-    ensures { Exact (esdsWrite fields.now specific.now) out.old result out.new }
+    ensures { Exact (esds_write fields.now specific.now) out.old result out.new }
 {
     if fields.len() != 8 {
         return Answer::Refused(20, 0);

@@ -1,9 +1,9 @@
 // The `esds` that values make, and which values have one.
 ghost use Rattle.std.specs.Prelude.{◌≡◌, ◌+◌, ◌^◌, ◌≤◌, ◌<◌, length};
-ghost use Rattle.wire.specs.Clauses.{oneIf};
+ghost use Rattle.wire.specs.Clauses.{one_if};
 ghost use Rattle.wire.specs.Writing.{Put};
-ghost use Rattle.descriptors.specs.Lengths.{shortest, TOO_LONG as tooLong};
-ghost use Rattle.esds.specs.Texts.{specificText, configurationText, configurationBody, esBody, esdsText, specificRule, valuesRule, SizesOf};
+ghost use Rattle.descriptors.specs.Lengths.{shortest, TOO_LONG as too_long};
+ghost use Rattle.esds.specs.Texts.{specific_text, configuration_text, configuration_body, es_body, esds_text, specific_rule, values_rule, SizesOf};
 
 use crate::value::Values;
 use descriptors::{descriptor, length, part};
@@ -31,8 +31,8 @@ fn around(n: usize) -> usize
 
 // That of the specific information, 0 where it isn't there.
 fn specific_length(v: Values, specific: &[u8]) -> usize
-    requires { length specific.now < tooLong }
-    ensures { (result ≡ length (specificText v specific.now)) × (result ≤ length specific.now + 5) }
+    requires { length specific.now < too_long }
+    ensures { (result ≡ length (specific_text v specific.now)) × (result ≤ length specific.now + 5) }
 {
     if v.specific == 0 {
         return 0;
@@ -41,7 +41,7 @@ fn specific_length(v: Values, specific: &[u8]) -> usize
 }
 
 pub fn measure(v: Values, specific: &[u8]) -> Sizes
-    requires { length specific.now < tooLong }
+    requires { length specific.now < too_long }
     ensures { SizesOf v specific.now result }
 {
     let configuration = 13 + specific_length(v, specific);
@@ -55,7 +55,7 @@ pub fn measure(v: Values, specific: &[u8]) -> Sizes
 
 // Whether specific information is there or not, and has no bytes where it isn't: 1 or 0.
 fn specific_rule(v: Values, specific: &[u8]) -> usize
-    ensures { result ≡ oneIf (specificRule v specific.now) }
+    ensures { result ≡ one_if (specific_rule v specific.now) }
 {
     if v.specific == 1 {
         return 1;
@@ -71,7 +71,7 @@ fn specific_rule(v: Values, specific: &[u8]) -> usize
 
 // Whether every number fits its place, and no contents are too long: 1 or 0.
 pub fn values_rule(v: Values, specific: &[u8]) -> usize
-    ensures { result ≡ oneIf (valuesRule v specific.now) }
+    ensures { result ≡ one_if (values_rule v specific.now) }
 {
     if v.number >= 65536 {
         return 0;
@@ -110,7 +110,7 @@ pub fn values_rule(v: Values, specific: &[u8]) -> usize
 // Writes the own bytes of the decoder configuration.
 fn put_configuration(out: &mut [u8], at: usize, v: Values) -> usize
     requires { (at < 2 ^ 40) × (v.stream < 64) }
-    ensures { Put (configurationText v) out.old at result out.new × (result ≡ at + 13) }
+    ensures { Put (configuration_text v) out.old at result out.new × (result ≡ at + 13) }
 {
     let a = pen::put_number(out, at, 1, v.object);
     let b = pen::put_number(out, a, 1, 4 * v.stream + 1);
@@ -121,8 +121,8 @@ fn put_configuration(out: &mut [u8], at: usize, v: Values) -> usize
 
 // Writes the specific information, where it is there.
 fn put_specific(out: &mut [u8], at: usize, v: Values, specific: &[u8]) -> usize
-    requires { (at < 2 ^ 41) × (length specific.now < tooLong) }
-    ensures { Put (specificText v specific.now) out.old at result out.new × (result ≤ at + length specific.now + 5) }
+    requires { (at < 2 ^ 41) × (length specific.now < too_long) }
+    ensures { Put (specific_text v specific.now) out.old at result out.new × (result ≤ at + length specific.now + 5) }
 {
     if v.specific == 0 {
         return at;
@@ -133,8 +133,8 @@ fn put_specific(out: &mut [u8], at: usize, v: Values, specific: &[u8]) -> usize
 
 // Writes the contents of the ES descriptor.
 fn put_es(out: &mut [u8], at: usize, v: Values, specific: &[u8], configuration: usize) -> usize
-    requires { (at < 2 ^ 39) × (v.stream < 64) × (length specific.now < tooLong) × (configuration ≡ length (configurationBody v specific.now)) }
-    ensures { Put (esBody v specific.now) out.old at result out.new }
+    requires { (at < 2 ^ 39) × (v.stream < 64) × (length specific.now < too_long) × (configuration ≡ length (configuration_body v specific.now)) }
+    ensures { Put (es_body v specific.now) out.old at result out.new }
 {
     let a = pen::put_number(out, at, 2, v.number);
     let b = pen::put_number(out, a, 1, 0);
@@ -147,8 +147,8 @@ fn put_es(out: &mut [u8], at: usize, v: Values, specific: &[u8], configuration: 
 
 // Writes the box.
 pub fn put_esds(out: &mut [u8], v: Values, specific: &[u8], z: Sizes) -> usize
-    requires { (v.stream < 64) × (length specific.now < tooLong) × (SizesOf v specific.now z) }
-    ensures { Put (esdsText v specific.now) out.old 0 result out.new }
+    requires { (v.stream < 64) × (length specific.now < too_long) × (SizesOf v specific.now z) }
+    ensures { Put (esds_text v specific.now) out.old 0 result out.new }
 {
     let a = put::header(out, 0, z.whole, codes::ESDS);
     let b = pen::put_number(out, a, 4, 0);

@@ -1,9 +1,9 @@
 // The values in an `esds`, read from its descriptors.
 ghost use Rattle.std.specs.Prelude.{◌≡◌, ◌^◌, ◌<◌};
-ghost use Rattle.wire.specs.Clauses.{oneIf};
+ghost use Rattle.wire.specs.Clauses.{one_if};
 ghost use Rattle.descriptors.specs.Parts.{TOP};
 ghost use Rattle.descriptors.specs.Trees.{tree};
-ghost use Rattle.esds.specs.Values.{valuesBy, esdsIn, hasEsds, kindRule, fixedBy, fixedIn};
+ghost use Rattle.esds.specs.Values.{values_by, esds_in, has_esds, kind_rule, fixed_by, fixed_in};
 
 use descriptors::{first, part};
 use entry_heads::kind;
@@ -32,7 +32,7 @@ pub struct Esds {
 
 // Whether an entry of a kind has an `esds`: 1 or 0.
 pub fn has_esds(kind: usize) -> usize
-    ensures { result ≡ oneIf (hasEsds kind) }
+    ensures { result ≡ one_if (has_esds kind) }
 {
     if kind == kind::MP4V {
         return 1;
@@ -45,7 +45,7 @@ pub fn has_esds(kind: usize) -> usize
 
 // Whether object type and stream type are those of the kind: 1 or 0.
 pub fn kind_rule(v: Values) -> usize
-    ensures { result ≡ oneIf (kindRule v) }
+    ensures { result ≡ one_if (kind_rule v) }
 {
     if v.object != test::choose(v.kind, kind::MP4V, 0x20, 0x40) {
         return 0;
@@ -58,7 +58,7 @@ pub fn kind_rule(v: Values) -> usize
 
 // Whether the fixed numbers are right in the own bytes of the three parts that have some, and those of the values: 1 or 0.
 fn fixed_by(es: &[u8], configuration: &[u8], sl: &[u8], v: Values) -> usize
-    ensures { result ≡ oneIf (fixedBy es.now configuration.now sl.now v) }
+    ensures { result ≡ one_if (fixed_by es.now configuration.now sl.now v) }
 {
     if number::byte(es, 2) != 0 {
         return 0;
@@ -78,7 +78,7 @@ fn fixed_by(es: &[u8], configuration: &[u8], sl: &[u8], v: Values) -> usize
 
 // What the own bytes of two parts say, in an entry of a kind.
 fn values_by(kind: usize, es: &[u8], own: &[u8], specific: usize) -> Values
-    ensures { result ≡ valuesBy kind es.now own.now specific }
+    ensures { result ≡ values_by kind es.now own.now specific }
 {
     Values {
         kind,
@@ -95,7 +95,7 @@ fn values_by(kind: usize, es: &[u8], own: &[u8], specific: usize) -> Values
 // What the descriptors say that start at a place, in an entry of a kind.
 pub fn read(bytes: &[u8], kind: usize, place: usize) -> Esds
     requires { place < 2 ^ 32 }
-    ensures { result ≡ esdsIn kind place (tree TOP bytes.now) }
+    ensures { result ≡ esds_in kind place (tree TOP bytes.now) }
 {
     let held = first::held(bytes, part::TOP);
     let specific = first::held(held, part::ES);
@@ -116,7 +116,7 @@ pub fn read(bytes: &[u8], kind: usize, place: usize) -> Esds
 
 // Whether the fixed numbers of the descriptors are right, for values that they say: 1 or 0.
 pub fn fixed(bytes: &[u8], v: Values) -> usize
-    ensures { result ≡ oneIf (fixedIn (tree TOP bytes.now) v) }
+    ensures { result ≡ one_if (fixed_in (tree TOP bytes.now) v) }
 {
     let held = first::held(bytes, part::TOP);
     fixed_by(

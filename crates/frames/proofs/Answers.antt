@@ -7,38 +7,38 @@ use mathlib.Core.List.{List}
 use lib.ListN.{length}
 use Rattle.wire.specs.Tests.{pick}
 use Rattle.frames.specs.declared.codec.Codec.{Codec}
-use Rattle.frames.specs.Codecs.{NONE, dataBytes}
-use Rattle.frames.specs.Frames.{headerOf, type_of, frameSize, good}
-use Rattle.frames.proofs.Fronts.{unknown-not, cut-not, front-good}
+use Rattle.frames.specs.Codecs.{NONE, data_bytes}
+use Rattle.frames.specs.Frames.{header_of, type_of, frame_size, good}
+use Rattle.frames.proofs.Fronts.{unknown_not, cut_not, front_good}
 
 module _ (k : Codec) (xs : List ℕ) where
-  pub front-none : good k xs ≡ false → 0 ≡ pick (good k xs) (frameSize k xs) 0
-  front-none e = rw e
+  pub front_none : good k xs ≡ false → 0 ≡ pick (good k xs) (frame_size k xs) 0
+  front_none e = rw e
 
-  module _ (h d : ℕ) (e : h ≡ headerOf xs) (q : d ≡ dataBytes k (h / 8 % 16)) where
-    data_is : d ≡ dataBytes k (type_of xs)
+  module _ (h d : ℕ) (e : h ≡ header_of xs) (q : d ≡ data_bytes k (h / 8 % 16)) where
+    data_is : d ≡ data_bytes k (type_of xs)
     unfolding type_of
     data_is = rw e at q
 
-    pub unknown-none : NONE ≤ d → 0 ≡ pick (good k xs) (frameSize k xs) 0
-    unknown-none l = front-none (unknown-not k xs (omega (arith, data_is)))
+    pub unknown_none : NONE ≤ d → 0 ≡ pick (good k xs) (frame_size k xs) 0
+    unknown_none l = front_none (unknown_not k xs (omega (arith, data_is)))
 
-    pub cut-none : length xs < 1 + d → 0 ≡ pick (good k xs) (frameSize k xs) 0
-    unfolding frameSize
-    cut-none l = front-none (cut-not k xs (omega (arith, data_is)))
+    pub cut_none : length xs < 1 + d → 0 ≡ pick (good k xs) (frame_size k xs) 0
+    unfolding frame_size
+    cut_none l = front_none (cut_not k xs (omega (arith, data_is)))
 
-    pub front-some : h / 128 ≡ 0 → h % 4 ≡ 0 → d < NONE → 1 + d ≤ length xs → 1 + d ≡ pick (good k xs) (frameSize k xs) 0
-    unfolding frameSize
-    front-some u v l i =
-        let f = front-good k xs (record { there = omega arith; high = rw e at u; low = rw e at v; known = rw data_is at l; inside = rw data_is at i }) in
+    pub front_some : h / 128 ≡ 0 → h % 4 ≡ 0 → d < NONE → 1 + d ≤ length xs → 1 + d ≡ pick (good k xs) (frame_size k xs) 0
+    unfolding frame_size
+    front_some u v l i =
+        let f = front_good k xs (record { there = omega arith; high = rw e at u; low = rw e at v; known = rw data_is at l; inside = rw data_is at i }) in
         rw (f, data_is)
 
 -- ---- back
 
-pub front-was : (t : Bool) (s size : ℕ) → size ≡ pick t s 0 → (size ≡ 0 → ⊥) → (t ≡ true) × (size ≡ s)
-front-was true s size e z = (refl, e)
-front-was false s size e z = absurd (z e)
+pub front_was : (t : Bool) (s size : ℕ) → size ≡ pick t s 0 → (size ≡ 0 → ⊥) → (t ≡ true) × (size ≡ s)
+front_was true s size e z = (refl, e)
+front_was false s size e z = absurd (z e)
 
-pub front-was-none : (t : Bool) (s size : ℕ) → size ≡ pick t s 0 → 1 ≤ s → size ≡ 0 → t ≡ false
-front-was-none true s size e l z = absurd (omega arith)
-front-was-none false s size e l z = refl
+pub front_was_none : (t : Bool) (s size : ℕ) → size ≡ pick t s 0 → 1 ≤ s → size ≡ 0 → t ≡ false
+front_was_none true s size e l z = absurd (omega arith)
+front_was_none false s size e l z = refl

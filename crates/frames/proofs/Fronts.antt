@@ -5,70 +5,70 @@ use mathlib.Core.Path.{◌≡◌, sym}
 use mathlib.Core.Bool.{true, false}
 use mathlib.Core.List.{List}
 use lib.ListN.{length}
-use Rattle.wire.proofs.Clauses.{is-eq, not-eq, eq_is, is-lt, not-lt, lt-is, is-le, not-le, le_is, fails, done, holds, clause}
+use Rattle.wire.proofs.Clauses.{is_eq_lem, not_eq, eq_is, is_lt_lem, not_lt, lt_is, is_le_lem, not_le, le_is, fails, done, holds, clause}
 use Rattle.frames.specs.declared.codec.Codec.{Codec}
-use Rattle.frames.specs.Codecs.{NONE, dataBytes}
-use Rattle.frames.specs.Frames.{headerOf, type_of, frameSize, good}
+use Rattle.frames.specs.Codecs.{NONE, data_bytes}
+use Rattle.frames.specs.Frames.{header_of, type_of, frame_size, good}
 
-pub type-fits : (xs : List ℕ) → type_of xs < 16
+pub type_fits : (xs : List ℕ) → type_of xs < 16
 unfolding type_of
-type-fits xs = omega arith
+type_fits xs = omega arith
 
 module _ (k : Codec) (xs : List ℕ) where
   -- ---- one test that fails
 
-  pub short-not : length xs < 1 → good k xs ≡ false
+  pub short_not : length xs < 1 → good k xs ≡ false
   unfolding good
-  short-not h = sym (fails 0 _ (not-le 1 (length xs) h))
+  short_not h = sym (fails 0 _ (not_le 1 (length xs) h))
 
-  pub high-not : (headerOf xs / 128 ≡ 0 → ⊥) → good k xs ≡ false
+  pub high_not : (header_of xs / 128 ≡ 0 → ⊥) → good k xs ≡ false
   unfolding good
-  high-not h = sym (fails 1 _ (not-eq (headerOf xs / 128) 0 h))
+  high_not h = sym (fails 1 _ (not_eq (header_of xs / 128) 0 h))
 
-  pub low-not : (headerOf xs % 4 ≡ 0 → ⊥) → good k xs ≡ false
+  pub low_not : (header_of xs % 4 ≡ 0 → ⊥) → good k xs ≡ false
   unfolding good
-  low-not h = sym (fails 2 _ (not-eq (headerOf xs % 4) 0 h))
+  low_not h = sym (fails 2 _ (not_eq (header_of xs % 4) 0 h))
 
-  pub unknown-not : NONE ≤ dataBytes k (type_of xs) → good k xs ≡ false
+  pub unknown_not : NONE ≤ data_bytes k (type_of xs) → good k xs ≡ false
   unfolding good
-  unknown-not h = sym (fails 3 _ (not-lt (dataBytes k (type_of xs)) NONE h))
+  unknown_not h = sym (fails 3 _ (not_lt (data_bytes k (type_of xs)) NONE h))
 
-  pub cut-not : length xs < frameSize k xs → good k xs ≡ false
+  pub cut_not : length xs < frame_size k xs → good k xs ≡ false
   unfolding good
-  cut-not h = sym (fails 4 _ (not-le (frameSize k xs) (length xs) h))
+  cut_not h = sym (fails 4 _ (not_le (frame_size k xs) (length xs) h))
 
   -- ---- all that hold
 
   -- what a good frame at the front is
   pub record Front : Type 0 where
     pub there : 1 ≤ length xs
-    pub high : headerOf xs / 128 ≡ 0
-    pub low : headerOf xs % 4 ≡ 0
-    pub known : dataBytes k (type_of xs) < NONE
-    pub inside : frameSize k xs ≤ length xs
+    pub high : header_of xs / 128 ≡ 0
+    pub low : header_of xs % 4 ≡ 0
+    pub known : data_bytes k (type_of xs) < NONE
+    pub inside : frame_size k xs ≤ length xs
 
-  pub front-good : Front → good k xs ≡ true
+  pub front_good : Front → good k xs ≡ true
   unfolding good
-  front-good f =
-      sym (holds _ _ (is-le 1 (length xs) f.there) (holds _ _ (is-eq (headerOf xs / 128) 0 f.high) (holds _ _ (is-eq (headerOf xs % 4) 0 f.low)
-      (holds _ _ (is-lt (dataBytes k (type_of xs)) NONE f.known) (holds _ _ (is-le (frameSize k xs) (length xs) f.inside) done)))))
+  front_good f =
+      sym (holds _ _ (is_le_lem 1 (length xs) f.there) (holds _ _ (is_eq_lem (header_of xs / 128) 0 f.high) (holds _ _ (is_eq_lem (header_of xs % 4) 0 f.low)
+      (holds _ _ (is_lt_lem (data_bytes k (type_of xs)) NONE f.known) (holds _ _ (is_le_lem (frame_size k xs) (length xs) f.inside) done)))))
 
-  pub good-front : good k xs ≡ true → Front
+  pub good_front : good k xs ≡ true → Front
   unfolding good
-  good-front e =
+  good_front e =
       record {
         there = le_is 1 (length xs) (clause 0 _ e);
-        high = eq_is (headerOf xs / 128) 0 (clause 1 _ e);
-        low = eq_is (headerOf xs % 4) 0 (clause 2 _ e);
-        known = lt-is (dataBytes k (type_of xs)) NONE (clause 3 _ e);
-        inside = le_is (frameSize k xs) (length xs) (clause 4 _ e);
+        high = eq_is (header_of xs / 128) 0 (clause 1 _ e);
+        low = eq_is (header_of xs % 4) 0 (clause 2 _ e);
+        known = lt_is (data_bytes k (type_of xs)) NONE (clause 3 _ e);
+        inside = le_is (frame_size k xs) (length xs) (clause 4 _ e);
       }
 
   -- ---- its size
 
-  pub size-least : 1 ≤ frameSize k xs
-  unfolding frameSize
-  size-least = omega arith
+  pub size_least : 1 ≤ frame_size k xs
+  unfolding frame_size
+  size_least = omega arith
 
-  pub size-inside : good k xs ≡ true → frameSize k xs ≤ length xs
-  size-inside e = (good-front e).inside
+  pub size_inside : good k xs ≡ true → frame_size k xs ≤ length xs
+  size_inside e = (good_front e).inside

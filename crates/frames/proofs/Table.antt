@@ -4,13 +4,13 @@ use mathlib.Core.Path.{◌≡◌, refl, sym}
 use mathlib.Core.Bool.{Bool, true}
 use mathlib.Core.List.{List, [], ◌∷◌}
 use lib.ListN.{length, get_or}
-use Rattle.wire.specs.Tests.{ifLt}
+use Rattle.wire.specs.Tests.{if_lt}
 use Rattle.wire.specs.Clauses.{is_eq, is_le, every}
-use Rattle.wire.proofs.Tests.{lt-yea, lt-nay}
+use Rattle.wire.proofs.Tests.{lt_yea, lt_nay}
 use Rattle.wire.proofs.Clauses.{clause, eq_is, le_is}
 use Rattle.frames.specs.declared.codec.Codec.{Codec}
 use Rattle.frames.specs.declared.codec.Codec.TheVariants.{Amr, Wideband}
-use Rattle.frames.specs.Codecs.{sizes, bare, NONE, dataBytes}
+use Rattle.frames.specs.Codecs.{sizes, bare, NONE, data_bytes}
 use Rattle.frames.proofs.Entries.{each, at}
 
 -- the table of a codec, as the code has it
@@ -20,10 +20,10 @@ table Wideband = 17 ∷ 23 ∷ 32 ∷ 36 ∷ 40 ∷ 46 ∷ 50 ∷ 58 ∷ 60 ∷ 
 
 -- an entry is that of the definition, and at most NONE
 right : Codec → ℕ → ℕ → Bool
-right k t x = every (is_eq x (dataBytes k t) ∷ is_le x NONE ∷ [])
+right k t x = every (is_eq x (data_bytes k t) ∷ is_le x NONE ∷ [])
 
 tested : (k : Codec) → each (right k) 0 (table k) ≡ true
-unfolding right every is_eq is_le dataBytes ifLt
+unfolding right every is_eq is_le data_bytes if_lt
 tested Amr = refl
 tested Wideband = refl
 
@@ -32,7 +32,7 @@ sixteen Amr = refl
 sixteen Wideband = refl
 
 pub record Entry (k : Codec) (t x : ℕ) : Type 0 where
-  pub is : x ≡ dataBytes k t
+  pub is : x ≡ data_bytes k t
   pub most : x ≤ NONE
 
 pub entry : (k : Codec) (t : ℕ) → t < 16 → Entry k t (get_or (table k) t 0)
@@ -40,9 +40,9 @@ unfolding right
 entry k t h =
     let e = at (right k) (table k) (tested k) t (rw sixteen h) in
     let x = get_or (table k) t 0 in
-    record { is = eq_is x (dataBytes k t) (clause 0 _ e); most = le_is x NONE (clause 1 _ e) }
+    record { is = eq_is x (data_bytes k t) (clause 0 _ e); most = le_is x NONE (clause 1 _ e) }
 
 -- a type between those with data and those without is unknown
-pub data-none : (k : Codec) (t : ℕ) → length (sizes k) ≤ t → t < bare k → dataBytes k t ≡ NONE
-unfolding dataBytes
-data-none k t h g = sym (lt-nay _ _ _ _ _ h (lt-yea _ _ _ _ _ g refl))
+pub data_none : (k : Codec) (t : ℕ) → length (sizes k) ≤ t → t < bare k → data_bytes k t ≡ NONE
+unfolding data_bytes
+data_none k t h g = sym (lt_nay _ _ _ _ _ h (lt_yea _ _ _ _ _ g refl))

@@ -4,39 +4,39 @@ use Rattle.std.specs.Prelude.{ℕ, zero, suc, ◌+◌, ◌/◌, ◌%◌, ◌≡�
 use Rattle.wire.specs.Tests.{pick}
 use Rattle.wire.specs.Clauses.{is_eq, is_lt, is_le, every}
 use Rattle.frames.specs.declared.codec.Codec.{Codec}
-use Rattle.frames.specs.Codecs.{NONE, dataBytes}
+use Rattle.frames.specs.Codecs.{NONE, data_bytes}
 
 -- the header of the frame at the front
-abbrev pub headerOf : List ℕ → ℕ
-headerOf xs = get_or xs 0 0
+abbrev pub header_of : List ℕ → ℕ
+header_of xs = get_or xs 0 0
 
 -- a header has a padding bit, four bits of type, a quality bit and two padding bits
 unfoldable pub type_of : List ℕ → ℕ
-type_of xs = headerOf xs / 8 % 16
+type_of xs = header_of xs / 8 % 16
 
 -- header and data
-unfoldable pub frameSize : Codec → List ℕ → ℕ
-frameSize k xs = 1 + dataBytes k (type_of xs)
+unfoldable pub frame_size : Codec → List ℕ → ℕ
+frame_size k xs = 1 + data_bytes k (type_of xs)
 
 -- a good frame stands at the front, and not one "with a padding bit set, an unknown type or cut short"
 unfoldable pub good : Codec → List ℕ → Bool
 good k xs =
     every
     (is_le 1 (length xs)
-    ∷ is_eq (headerOf xs / 128) 0
-    ∷ is_eq (headerOf xs % 4) 0
-    ∷ is_lt (dataBytes k (type_of xs)) NONE
-    ∷ is_le (frameSize k xs) (length xs)
+    ∷ is_eq (header_of xs / 128) 0
+    ∷ is_eq (header_of xs % 4) 0
+    ∷ is_lt (data_bytes k (type_of xs)) NONE
+    ∷ is_le (frame_size k xs) (length xs)
     ∷ [])
 
 -- the good frames from the front on, at most n of them
-unfoldable pub framesTo : ℕ → Codec → List ℕ → List (List ℕ)
-framesTo zero k xs = []
-framesTo (suc n) k xs = pick (good k xs) (take (frameSize k xs) xs ∷ framesTo n k (drop (frameSize k xs) xs)) []
+unfoldable pub frames_to : ℕ → Codec → List ℕ → List (List ℕ)
+frames_to zero k xs = []
+frames_to (suc n) k xs = pick (good k xs) (take (frame_size k xs) xs ∷ frames_to n k (drop (frame_size k xs) xs)) []
 
 -- all of them: no more than there are bytes
 unfoldable pub frames : Codec → List ℕ → List (List ℕ)
-frames k xs = framesTo (length xs) k xs
+frames k xs = frames_to (length xs) k xs
 
 -- frames one after the other
 unfoldable pub joined : List (List ℕ) → List ℕ
@@ -50,4 +50,4 @@ rest k xs = drop (length (joined (frames k xs))) xs
 -- each of them is one good frame, and no byte more
 pub data EachGood (k : Codec) : List (List ℕ) → Type 0 where
   none : EachGood k []
-  some : {f : List ℕ} {l : List (List ℕ)} → good k f ≡ true → frameSize k f ≡ length f → EachGood k l → EachGood k (f ∷ l)
+  some : {f : List ℕ} {l : List (List ℕ)} → good k f ≡ true → frame_size k f ≡ length f → EachGood k l → EachGood k (f ∷ l)

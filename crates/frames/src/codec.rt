@@ -1,6 +1,6 @@
 // The two codecs, and the data bytes of each by frame type.
 ghost use Rattle.std.specs.Prelude.{◌≡◌, ◌<◌};
-ghost use Rattle.frames.specs.Codecs.{codecNamed, dataBytes};
+ghost use Rattle.frames.specs.Codecs.{codec_named, data_bytes};
 
 #[derive(Drop)]
 pub enum Codec {
@@ -10,7 +10,7 @@ pub enum Codec {
 
 // The codec that a caller names by a number.
 pub fn of_number(n: u64) -> Codec
-    ensures { result ≡ codecNamed n }
+    ensures { result ≡ codec_named n }
 {
     if n == 0 {
         return Codec::Amr;
@@ -32,7 +32,7 @@ const WIDEBAND: [u8; 16] = [
 // The data bytes of a frame of type t.
 pub fn data_bytes(codec: Codec, t: usize) -> usize
     requires { t < 16 }
-    ensures { (result ≡ dataBytes codec t) × (result < 256) }
+    ensures { (result ≡ data_bytes codec t) × (result < 256) }
 {
     match codec {
         Codec::Amr => AMR[t] as usize,

@@ -1,7 +1,7 @@
 // The run of good frames at the front of a part.
 ghost use Rattle.std.specs.Prelude.{◌≡◌, ◌≤◌, length};
 ghost use Rattle.wire.specs.Tests.{pick};
-ghost use Rattle.frames.specs.Frames.{frameSize, good, framesTo};
+ghost use Rattle.frames.specs.Frames.{frame_size, good, frames_to};
 ghost use Rattle.frames.specs.Modes.{RunOf, flagged};
 
 use crate::codec;
@@ -23,7 +23,7 @@ const BITS: [usize; 16] = [
 
 // The size of the good frame at the front of a part, 0 where there is none.
 pub fn front(codec: Codec, part: &[u8]) -> usize
-    ensures { (result ≡ pick (good codec part.now) (frameSize codec part.now) 0) × (result ≤ length part.now) }
+    ensures { (result ≡ pick (good codec part.now) (frame_size codec part.now) 0) × (result ≤ length part.now) }
 {
     if part.len() < 1 {
         return 0;
@@ -60,7 +60,7 @@ fn mode_set(seen: &[u8]) -> usize
 
 // The good frames from the front on, at most so many of them.
 pub fn read(codec: Codec, part: &[u8], most: usize) -> Run
-    ensures { RunOf (framesTo most codec part.now) result }
+    ensures { RunOf (frames_to most codec part.now) result }
 {
     let mut seen = [0u8; 16];
     let mut count = 0;

@@ -5,34 +5,34 @@ use mathlib.Core.Bool.{true, false}
 use mathlib.Core.List.{List}
 use lib.ListN.{length, take}
 use Rattle.wire.specs.Same.{same}
-use Rattle.wire.proofs.Clauses.{is-eq, not-eq}
+use Rattle.wire.proofs.Clauses.{is_eq_lem, not_eq}
 use Rattle.rule.specs.declared.Answer.{Answer}
 use Rattle.rule.specs.declared.Answer.TheVariants.{Refused}
 use Rattle.rule.specs.Results.{Exact}
-use Rattle.rule.proofs.Results.{exact-refuses}
+use Rattle.rule.proofs.Results.{exact_refuses}
 use Rattle.frames.specs.declared.codec.Codec.{Codec}
 use Rattle.frames.specs.declared.codec.Codec.TheVariants.{Amr, Wideband}
-use Rattle.from_amr.specs.Dump.{magic, opens, dumpOf, fromAmr}
+use Rattle.from_amr.specs.Dump.{magic, opens, dump_of, from_amr}
 
 -- the front of the dump, compared with a magic
 module _ (k : Codec) (xs : List ℕ) {ys : List ℕ} (y : ys ≡ take (length (magic k)) xs) {i : ℕ} (e : i ≡ same ys (magic k)) where
-  pub opens-so : i ≡ 1 → opens k xs ≡ true
+  pub opens_so : i ≡ 1 → opens k xs ≡ true
   unfolding opens
-  opens-so h = is-eq _ 1 (rw (← y, ← e) h)
+  opens_so h = is_eq_lem _ 1 (rw (← y, ← e) h)
 
   pub opens_not : (i ≡ 1 → ⊥) → opens k xs ≡ false
   unfolding opens
-  opens_not h = not-eq _ 1 (rw (← y, ← e) h)
+  opens_not h = not_eq _ 1 (rw (← y, ← e) h)
 
 module _ (xs : List ℕ) {out left : List ℕ} {r : Answer} where
-  pub from_first : opens Amr xs ≡ true → Exact (dumpOf Amr xs) out r left → Exact (fromAmr xs) out r left
-  unfolding fromAmr
+  pub from_first : opens Amr xs ≡ true → Exact (dump_of Amr xs) out r left → Exact (from_amr xs) out r left
+  unfolding from_amr
   from_first a x = rw a x
 
-  pub from_second : opens Amr xs ≡ false → opens Wideband xs ≡ true → Exact (dumpOf Wideband xs) out r left → Exact (fromAmr xs) out r left
-  unfolding fromAmr
+  pub from_second : opens Amr xs ≡ false → opens Wideband xs ≡ true → Exact (dump_of Wideband xs) out r left → Exact (from_amr xs) out r left
+  unfolding from_amr
   from_second a b x = rw (a, b) x
 
-pub from-neither : (xs out : List ℕ) → opens Amr xs ≡ false → opens Wideband xs ≡ false → Exact (fromAmr xs) out (Refused 40 0) out
-unfolding fromAmr
-from-neither xs out a b = rw (a, b) (exact-refuses 40 0 out)
+pub from_neither : (xs out : List ℕ) → opens Amr xs ≡ false → opens Wideband xs ≡ false → Exact (from_amr xs) out (Refused 40 0) out
+unfolding from_amr
+from_neither xs out a b = rw (a, b) (exact_refuses 40 0 out)

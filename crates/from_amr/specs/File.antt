@@ -2,58 +2,58 @@
 -- frames", boxes in the order of rule 3, and an `smhd` opens `minf`.
 use Rattle.std.specs.Prelude.{ℕ, ◌+◌, ◌*◌, ◌≡◌, List, [], ◌∷◌, length}
 use Rattle.codes.specs.Codes.{FTYP, MOOV, MVHD, TRAK, TKHD, MDIA, MDHD, HDLR, MINF, SMHD, DINF, DREF, STBL, STSD, STTS, STSC, STSZ, STCO, MDAT}
-use Rattle.boxes.specs.Box.{Box, plainBox, write}
+use Rattle.boxes.specs.Box.{Box, plain_box, write}
 use Rattle.boxes.specs.Boxes.{HEAD}
 use Rattle.frames.specs.declared.codec.Codec.{Codec}
 use Rattle.frames.specs.Frames.{joined}
-use Rattle.frames.specs.Modes.{modeSet}
-use Rattle.from_amr.specs.Boxes.{scaleBy, sampleTicks, ftyp, mvhd, tkhd, mdhd, hdlr, smhd, dref, stsd, stts, stsc, stsz, stco}
+use Rattle.frames.specs.Modes.{mode_set}
+use Rattle.from_amr.specs.Boxes.{scale_by, sample_ticks, ftyp, mvhd, tkhd, mdhd, hdlr, smhd, dref, stsd, stts, stsc, stsz, stco}
 
 -- the track's ticks
-abbrev pub ticksOf : Codec → List (List ℕ) → ℕ
-ticksOf k l = length l * sampleTicks k
+abbrev pub ticks_of : Codec → List (List ℕ) → ℕ
+ticks_of k l = length l * sample_ticks k
 
 -- the boxes of each container, of a file whose chunk is at an offset
-abbrev pub stblBoxes : Codec → List (List ℕ) → (offset : ℕ) → List Box
-stblBoxes k l offset =
-    plainBox STSD (stsd k (modeSet l))
-    ∷ plainBox STTS (stts k (length l))
-    ∷ plainBox STSC (stsc (length l))
-    ∷ plainBox STSZ (stsz l)
-    ∷ plainBox STCO (stco (length l) offset)
+abbrev pub stbl_boxes : Codec → List (List ℕ) → (offset : ℕ) → List Box
+stbl_boxes k l offset =
+    plain_box STSD (stsd k (mode_set l))
+    ∷ plain_box STTS (stts k (length l))
+    ∷ plain_box STSC (stsc (length l))
+    ∷ plain_box STSZ (stsz l)
+    ∷ plain_box STCO (stco (length l) offset)
     ∷ []
 
-abbrev pub dinfBoxes : List Box
-dinfBoxes = plainBox DREF dref ∷ []
+abbrev pub dinf_boxes : List Box
+dinf_boxes = plain_box DREF dref ∷ []
 
-abbrev pub minfBoxes : Codec → List (List ℕ) → (offset : ℕ) → List Box
-minfBoxes k l offset = plainBox SMHD smhd ∷ plainBox DINF (write dinfBoxes) ∷ plainBox STBL (write (stblBoxes k l offset)) ∷ []
+abbrev pub minf_boxes : Codec → List (List ℕ) → (offset : ℕ) → List Box
+minf_boxes k l offset = plain_box SMHD smhd ∷ plain_box DINF (write dinf_boxes) ∷ plain_box STBL (write (stbl_boxes k l offset)) ∷ []
 
-abbrev pub mdiaBoxes : Codec → List (List ℕ) → (offset : ℕ) → List Box
-mdiaBoxes k l offset = plainBox MDHD (mdhd (scaleBy k) (ticksOf k l)) ∷ plainBox HDLR hdlr ∷ plainBox MINF (write (minfBoxes k l offset)) ∷ []
+abbrev pub mdia_boxes : Codec → List (List ℕ) → (offset : ℕ) → List Box
+mdia_boxes k l offset = plain_box MDHD (mdhd (scale_by k) (ticks_of k l)) ∷ plain_box HDLR hdlr ∷ plain_box MINF (write (minf_boxes k l offset)) ∷ []
 
-abbrev pub trakBoxes : Codec → List (List ℕ) → (offset : ℕ) → List Box
-trakBoxes k l offset = plainBox TKHD (tkhd (ticksOf k l)) ∷ plainBox MDIA (write (mdiaBoxes k l offset)) ∷ []
+abbrev pub trak_boxes : Codec → List (List ℕ) → (offset : ℕ) → List Box
+trak_boxes k l offset = plain_box TKHD (tkhd (ticks_of k l)) ∷ plain_box MDIA (write (mdia_boxes k l offset)) ∷ []
 
-abbrev pub moovBoxes : Codec → List (List ℕ) → (offset : ℕ) → List Box
-moovBoxes k l offset = plainBox MVHD (mvhd (scaleBy k) (ticksOf k l)) ∷ plainBox TRAK (write (trakBoxes k l offset)) ∷ []
+abbrev pub moov_boxes : Codec → List (List ℕ) → (offset : ℕ) → List Box
+moov_boxes k l offset = plain_box MVHD (mvhd (scale_by k) (ticks_of k l)) ∷ plain_box TRAK (write (trak_boxes k l offset)) ∷ []
 
-abbrev pub ftypBox : Box
-ftypBox = plainBox FTYP ftyp
+abbrev pub ftyp_box : Box
+ftyp_box = plain_box FTYP ftyp
 
-abbrev pub moovBox : Codec → List (List ℕ) → (offset : ℕ) → Box
-moovBox k l offset = plainBox MOOV (write (moovBoxes k l offset))
+abbrev pub moov_box : Codec → List (List ℕ) → (offset : ℕ) → Box
+moov_box k l offset = plain_box MOOV (write (moov_boxes k l offset))
 
 -- where the payload of `mdat` starts: past all that stands before it, whose length is the same with any offset, and its header
 unfoldable pub start : Codec → List (List ℕ) → ℕ
-start k l = HEAD + length (write (ftypBox ∷ moovBox k l 0 ∷ []))
+start k l = HEAD + length (write (ftyp_box ∷ moov_box k l 0 ∷ []))
 
 -- the same for all frames of one number
 pub record StartsAt (n r : ℕ) : Type 0 where
   pub is : (k : Codec) (l : List (List ℕ)) → length l ≡ n → r ≡ start k l
 
-abbrev pub fileBoxes : Codec → List (List ℕ) → List Box
-fileBoxes k l = ftypBox ∷ moovBox k l (start k l) ∷ plainBox MDAT (joined l) ∷ []
+abbrev pub file_boxes : Codec → List (List ℕ) → List Box
+file_boxes k l = ftyp_box ∷ moov_box k l (start k l) ∷ plain_box MDAT (joined l) ∷ []
 
-unfoldable pub fileOf : Codec → List (List ℕ) → List ℕ
-fileOf k l = write (fileBoxes k l)
+unfoldable pub file_of : Codec → List (List ℕ) → List ℕ
+file_of k l = write (file_boxes k l)

@@ -1,7 +1,7 @@
 // Boxes by their fields. A total writer asks for no room: it answers the place past what it writes, fit or not.
 ghost use Rattle.std.specs.Prelude.{◌≡◌, [], ◌∷◌, ◌+◌, ◌^◌, ◌≤◌, ◌<◌, length, drop};
 ghost use Rattle.wire.specs.Writing.{Put};
-ghost use Rattle.boxes.specs.Box.{plainBox, write};
+ghost use Rattle.boxes.specs.Box.{plain_box, write};
 ghost use Rattle.from_amr.specs.Fields.{fields as fields_of, span};
 
 use boxes::walk::Form;
@@ -24,7 +24,7 @@ pub fn put_fields(out: &mut [u8], at: usize, fields: &[usize], i: usize) -> usiz
 // Writes a box of such a payload.
 pub fn put_box(out: &mut [u8], at: usize, code: usize, fields: &[usize]) -> usize
     requires { (at < 2 ^ 45) × (span fields.now < 65536) }
-    ensures { Put (write (plainBox code (fields_of fields.now) ∷ [])) out.old at result out.new
+    ensures { Put (write (plain_box code (fields_of fields.now) ∷ [])) out.old at result out.new
         × (result ≡ at + 8 + span fields.now) }
 {
     let r = put_fields(out, at + 8, fields, 0);

@@ -2,11 +2,11 @@
 ghost use Rattle.std.specs.Prelude.{◌≡◌, [], ◌∷◌, ◌+◌, ◌^◌, ◌≤◌, ◌<◌, length};
 ghost use Rattle.codes.specs.Codes.{TRAK, MDIA, MINF, DINF, DREF, MDAT};
 ghost use Rattle.wire.specs.Writing.{Put};
-ghost use Rattle.boxes.specs.Box.{plainBox, write};
+ghost use Rattle.boxes.specs.Box.{plain_box, write};
 ghost use Rattle.frames.specs.Frames.{frames, joined};
 ghost use Rattle.frames.specs.Modes.{RunOf};
-ghost use Rattle.from_amr.specs.Boxes.{dref as drefOf};
-ghost use Rattle.from_amr.specs.File.{dinfBoxes, minfBoxes, mdiaBoxes, trakBoxes, ftypBox, moovBox, fileOf, StartsAt};
+ghost use Rattle.from_amr.specs.Boxes.{dref as dref_of};
+ghost use Rattle.from_amr.specs.File.{dinf_boxes, minf_boxes, mdia_boxes, trak_boxes, ftyp_box, moov_box, file_of, StartsAt};
 
 use crate::{field, header, table};
 use boxes::walk::Form;
@@ -18,7 +18,7 @@ use wire::pen;
 // The data references: one, to this file.
 fn put_dref(out: &mut [u8], at: usize) -> usize
     requires { at < 2 ^ 40 }
-    ensures { Put (write (plainBox DREF drefOf ∷ [])) out.old at result out.new × (result ≡ at + 28) }
+    ensures { Put (write (plain_box DREF dref_of ∷ [])) out.old at result out.new × (result ≡ at + 28) }
 {
     let a = field::put_fields(out, at + 8, &[4, 0, 4, 1], 0);
     let b = field::put_box(out, a, codes::URL, &[4, 1]);
@@ -29,7 +29,7 @@ fn put_dref(out: &mut [u8], at: usize) -> usize
 // What says where the data is.
 fn put_dinf(out: &mut [u8], at: usize) -> usize
     requires { at < 2 ^ 39 }
-    ensures { Put (write (plainBox DINF (write dinfBoxes) ∷ [])) out.old at result out.new × (result ≡ at + 36) }
+    ensures { Put (write (plain_box DINF (write dinf_boxes) ∷ [])) out.old at result out.new × (result ≡ at + 36) }
 {
     let r = put_dref(out, at + 8);
     way::put_header(out, at, r, Form::Plain, codes::DINF);
@@ -39,7 +39,7 @@ fn put_dinf(out: &mut [u8], at: usize) -> usize
 // The media's information.
 fn put_minf(out: &mut [u8], at: usize, codec: Codec, part: &[u8], run: Run, offset: usize) -> usize
     requires { (at < 2 ^ 38) × (RunOf (frames codec part.now) run) × (run.count ≤ 65536) }
-    ensures { Put (write (plainBox MINF (write (minfBoxes codec (frames codec part.now) offset)) ∷ []))
+    ensures { Put (write (plain_box MINF (write (minf_boxes codec (frames codec part.now) offset)) ∷ []))
         out.old at result out.new × (at ≤ result) × (result < 2 ^ 40) }
 {
     let a = field::put_box(out, at + 8, codes::SMHD, &[4, 0, 2, 0, 2, 0]);
@@ -52,7 +52,7 @@ fn put_minf(out: &mut [u8], at: usize, codec: Codec, part: &[u8], run: Run, offs
 // The media.
 fn put_mdia(out: &mut [u8], at: usize, codec: Codec, part: &[u8], run: Run, offset: usize) -> usize
     requires { (at < 2 ^ 37) × (RunOf (frames codec part.now) run) × (run.count ≤ 65536) }
-    ensures { Put (write (plainBox MDIA (write (mdiaBoxes codec (frames codec part.now) offset)) ∷ []))
+    ensures { Put (write (plain_box MDIA (write (mdia_boxes codec (frames codec part.now) offset)) ∷ []))
         out.old at result out.new × (at ≤ result) × (result < 2 ^ 40) }
 {
     let scale = table::scale_by(codec);
@@ -77,7 +77,7 @@ fn put_mdia(out: &mut [u8], at: usize, codec: Codec, part: &[u8], run: Run, offs
 // The track.
 fn put_trak(out: &mut [u8], at: usize, codec: Codec, part: &[u8], run: Run, offset: usize) -> usize
     requires { (at < 2 ^ 36) × (RunOf (frames codec part.now) run) × (run.count ≤ 65536) }
-    ensures { Put (write (plainBox TRAK (write (trakBoxes codec (frames codec part.now) offset)) ∷ []))
+    ensures { Put (write (plain_box TRAK (write (trak_boxes codec (frames codec part.now) offset)) ∷ []))
         out.old at result out.new × (at ≤ result) × (result < 2 ^ 40) }
 {
     let ticks = table::ticks_of(codec, run.count);
@@ -90,7 +90,7 @@ fn put_trak(out: &mut [u8], at: usize, codec: Codec, part: &[u8], run: Run, offs
 // The movie.
 fn put_moov(out: &mut [u8], at: usize, codec: Codec, part: &[u8], run: Run, offset: usize) -> usize
     requires { (at < 2 ^ 35) × (RunOf (frames codec part.now) run) × (run.count ≤ 65536) }
-    ensures { Put (write (moovBox codec (frames codec part.now) offset ∷ [])) out.old at result out.new
+    ensures { Put (write (moov_box codec (frames codec part.now) offset ∷ [])) out.old at result out.new
         × (at ≤ result) × (result < 2 ^ 40) }
 {
     let scale = table::scale_by(codec);
@@ -104,7 +104,7 @@ fn put_moov(out: &mut [u8], at: usize, codec: Codec, part: &[u8], run: Run, offs
 // The brands.
 fn put_ftyp(out: &mut [u8], at: usize) -> usize
     requires { at < 2 ^ 40 }
-    ensures { Put (write (ftypBox ∷ [])) out.old at result out.new × (result ≡ at + 24) }
+    ensures { Put (write (ftyp_box ∷ [])) out.old at result out.new × (result ≡ at + 24) }
 {
     field::put_box(
         out,
@@ -117,7 +117,7 @@ fn put_ftyp(out: &mut [u8], at: usize) -> usize
 // The samples.
 fn put_mdat(out: &mut [u8], at: usize, part: &[u8]) -> usize
     requires { (at < 2 ^ 40) × (length part.now < 2 ^ 40) }
-    ensures { Put (write (plainBox MDAT part.now ∷ [])) out.old at result out.new }
+    ensures { Put (write (plain_box MDAT part.now ∷ [])) out.old at result out.new }
 {
     let r = pen::put_part(out, at + 8, part);
     way::put_header(out, at, r, Form::Plain, codes::MDAT);
@@ -138,7 +138,7 @@ pub fn start(count: usize) -> usize
 // Writes the file of a part that is nothing but good frames, whose run is told.
 pub fn put(out: &mut [u8], codec: Codec, part: &[u8], run: Run) -> usize
     requires { (RunOf (frames codec part.now) run) × (joined (frames codec part.now) ≡ part.now) × (run.count ≤ 65536) × (length part.now < 2 ^ 40) }
-    ensures { Put (fileOf codec (frames codec part.now)) out.old 0 result out.new }
+    ensures { Put (file_of codec (frames codec part.now)) out.old 0 result out.new }
 {
     let offset = start(run.count);
     let a = put_ftyp(out, 0);

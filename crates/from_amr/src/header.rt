@@ -2,9 +2,9 @@
 ghost use Rattle.std.specs.Prelude.{◌≡◌, [], ◌∷◌, ◌+◌, ◌^◌, ◌<◌};
 ghost use Rattle.codes.specs.Codes.{MVHD, TKHD};
 ghost use Rattle.wire.specs.Writing.{Put};
-ghost use Rattle.boxes.specs.Box.{plainBox, write};
+ghost use Rattle.boxes.specs.Box.{plain_box, write};
 ghost use Rattle.from_amr.specs.Fields.{fields};
-ghost use Rattle.from_amr.specs.Boxes.{mvhd as mvhdOf, tkhd as tkhdOf};
+ghost use Rattle.from_amr.specs.Boxes.{mvhd as mvhd_of, tkhd as tkhd_of};
 
 use crate::field;
 use boxes::walk::Form;
@@ -27,7 +27,7 @@ fn put_matrix(out: &mut [u8], at: usize) -> usize
 // The movie's header.
 pub fn put_mvhd(out: &mut [u8], at: usize, scale: usize, ticks: usize) -> usize
     requires { at < 2 ^ 40 }
-    ensures { Put (write (plainBox MVHD (mvhdOf scale ticks) ∷ [])) out.old at result out.new × (result ≡ at + 108) }
+    ensures { Put (write (plain_box MVHD (mvhd_of scale ticks) ∷ [])) out.old at result out.new × (result ≡ at + 108) }
 {
     let a = field::put_fields(out, at + 8, &[4, 0, 8, 0, 4, scale, 4, ticks], 0);
     let b = field::put_fields(out, a, &[4, 0x00010000, 2, 0x0100, 10, 0], 0);
@@ -40,7 +40,7 @@ pub fn put_mvhd(out: &mut [u8], at: usize, scale: usize, ticks: usize) -> usize
 // The track's header.
 pub fn put_tkhd(out: &mut [u8], at: usize, ticks: usize) -> usize
     requires { at < 2 ^ 40 }
-    ensures { Put (write (plainBox TKHD (tkhdOf ticks) ∷ [])) out.old at result out.new × (result ≡ at + 92) }
+    ensures { Put (write (plain_box TKHD (tkhd_of ticks) ∷ [])) out.old at result out.new × (result ≡ at + 92) }
 {
     let a = field::put_fields(out, at + 8, &[4, 7, 8, 0, 4, 1, 4, 0, 4, ticks], 0);
     let b = field::put_fields(out, a, &[8, 0, 4, 0, 2, 0x0100, 2, 0], 0);

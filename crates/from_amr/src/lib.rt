@@ -3,7 +3,7 @@ ghost use Rattle.std.specs.Prelude.{◌≡◌, ◌≤◌, length};
 ghost use Rattle.frames.specs.Frames.{frames, joined};
 ghost use Rattle.frames.specs.Modes.{RunOf};
 ghost use Rattle.rule.specs.Results.{Exact};
-ghost use Rattle.from_amr.specs.Dump.{magic as magicOf, made_of, dumpOf, fromAmr};
+ghost use Rattle.from_amr.specs.Dump.{magic as magic_of, made_of, dump_of, from_amr};
 
 use boxes::containers::LONGEST;
 use frames::codec::Codec;
@@ -41,8 +41,8 @@ fn made(codec: Codec, part: &[u8], run: Run, out: &mut [u8]) -> Answer
 
 // The file of a codec's dump, past a magic of so many bytes.
 fn dump_of(codec: Codec, dump: &[u8], magic: usize, out: &mut [u8]) -> Answer
-    requires { (magic ≡ length (magicOf codec)) × (magic ≤ 9) }
-    ensures { Exact (dumpOf codec dump.now) out.old result out.new }
+    requires { (magic ≡ length (magic_of codec)) × (magic ≤ 9) }
+    ensures { Exact (dump_of codec dump.now) out.old result out.new }
 {
     let part = lend::rest(dump, magic);
     let run = run::read(codec, part, part.len());
@@ -54,7 +54,7 @@ fn dump_of(codec: Codec, dump: &[u8], magic: usize, out: &mut [u8]) -> Answer
 
 // The file of a dump, by its magic.
 pub fn from_amr(dump: &[u8], out: &mut [u8]) -> Answer
-    ensures { Exact (fromAmr dump.now) out.old result out.new }
+    ensures { Exact (from_amr dump.now) out.old result out.new }
 {
     if compare::same(lend::front(dump, 6), b"#!AMR\n") == 1 {
         return dump_of(Codec::Amr, dump, 6, out);

@@ -1,17 +1,17 @@
 // The boxes of `stbl`: one entry, and the tables of the samples.
 ghost use Rattle.std.specs.Prelude.{◌≡◌, [], ◌∷◌, ◌+◌, ◌*◌, ◌^◌, ◌≤◌, ◌<◌, length};
 ghost use Rattle.codes.specs.Codes.{STSD, STTS, STSC, STSZ, STCO, STBL};
-ghost use Rattle.wire.specs.Tests.{ifEq};
+ghost use Rattle.wire.specs.Tests.{if_eq};
 ghost use Rattle.wire.specs.Numbers.{bytes};
 ghost use Rattle.wire.specs.Writing.{Put};
-ghost use Rattle.boxes.specs.Box.{plainBox, write};
-ghost use Rattle.entry_records.specs.Texts.{amrText};
+ghost use Rattle.boxes.specs.Box.{plain_box, write};
+ghost use Rattle.entry_records.specs.Texts.{amr_text};
 ghost use Rattle.frames.specs.Frames.{frames};
 ghost use Rattle.frames.specs.Modes.{RunOf};
 ghost use Rattle.from_amr.specs.Fields.{fields, span};
-ghost use Rattle.from_amr.specs.Boxes.{kindBy, scaleBy, sampleTicks, entryBy, sizesOf};
-ghost use Rattle.from_amr.specs.Boxes.{stsd as stsdOf, stts as sttsOf, stsc as stscOf, stsz as stszOf, stco as stcoOf};
-ghost use Rattle.from_amr.specs.File.{stblBoxes};
+ghost use Rattle.from_amr.specs.Boxes.{kind_by, scale_by, sample_ticks, entry_by, sizes_of};
+ghost use Rattle.from_amr.specs.Boxes.{stsd as stsd_of, stts as stts_of, stsc as stsc_of, stsz as stsz_of, stco as stco_of};
+ghost use Rattle.from_amr.specs.File.{stbl_boxes};
 
 use crate::field;
 use boxes::walk::Form;
@@ -26,7 +26,7 @@ use wire::{number, pen};
 
 // The kind of a codec's entry.
 fn kind_by(codec: Codec) -> usize
-    ensures { result ≡ kindBy codec }
+    ensures { result ≡ kind_by codec }
 {
     match codec {
         Codec::Amr => kind::SAMR,
@@ -36,7 +36,7 @@ fn kind_by(codec: Codec) -> usize
 
 // The ticks of a second.
 pub fn scale_by(codec: Codec) -> usize
-    ensures { result ≡ scaleBy codec }
+    ensures { result ≡ scale_by codec }
 {
     match codec {
         Codec::Amr => 8000,
@@ -46,7 +46,7 @@ pub fn scale_by(codec: Codec) -> usize
 
 // The ticks of a sample.
 fn sample_ticks(codec: Codec) -> usize
-    ensures { (result ≡ sampleTicks codec) × (result ≤ 320) }
+    ensures { (result ≡ sample_ticks codec) × (result ≤ 320) }
 {
     match codec {
         Codec::Amr => 160,
@@ -57,7 +57,7 @@ fn sample_ticks(codec: Codec) -> usize
 // The ticks of n samples.
 pub fn ticks_of(codec: Codec, n: usize) -> usize
     requires { n ≤ 65536 }
-    ensures { result ≡ n * sampleTicks codec }
+    ensures { result ≡ n * sample_ticks codec }
 {
     n * sample_ticks(codec)
 }
@@ -65,7 +65,7 @@ pub fn ticks_of(codec: Codec, n: usize) -> usize
 // Writes the one entry.
 fn put_entry(out: &mut [u8], at: usize, codec: Codec, modes: usize) -> usize
     requires { at < 2 ^ 50 }
-    ensures { Put (amrText (entryBy codec modes)) out.old at result out.new × (result ≡ at + 53) }
+    ensures { Put (amr_text (entry_by codec modes)) out.old at result out.new × (result ≡ at + 53) }
 {
     let mut entry = [0u8; 53];
     let f = Amr {
@@ -85,7 +85,7 @@ fn put_entry(out: &mut [u8], at: usize, codec: Codec, modes: usize) -> usize
 // The entries.
 fn put_stsd(out: &mut [u8], at: usize, codec: Codec, modes: usize) -> usize
     requires { at < 2 ^ 40 }
-    ensures { Put (write (plainBox STSD (stsdOf codec modes) ∷ [])) out.old at result out.new × (result ≡ at + 69) }
+    ensures { Put (write (plain_box STSD (stsd_of codec modes) ∷ [])) out.old at result out.new × (result ≡ at + 69) }
 {
     let a = field::put_fields(out, at + 8, &[4, 0, 4, 1], 0);
     let b = put_entry(out, a, codec, modes);
@@ -96,7 +96,7 @@ fn put_stsd(out: &mut [u8], at: usize, codec: Codec, modes: usize) -> usize
 // A table for n samples, by its fields; for no samples it has no item.
 fn put_one(out: &mut [u8], at: usize, code: usize, n: usize, list: &[usize]) -> usize
     requires { (at < 2 ^ 40) × (span list.now ≤ 20) }
-    ensures { Put (write (plainBox code (ifEq n 0 (fields (4 ∷ 0 ∷ 4 ∷ 0 ∷ [])) (fields list.now)) ∷ []))
+    ensures { Put (write (plain_box code (if_eq n 0 (fields (4 ∷ 0 ∷ 4 ∷ 0 ∷ [])) (fields list.now)) ∷ []))
         out.old at result out.new × (at ≤ result) × (result ≤ at + 28) }
 {
     if n == 0 {
@@ -108,7 +108,7 @@ fn put_one(out: &mut [u8], at: usize, code: usize, n: usize, list: &[usize]) -> 
 // The durations: one run of samples.
 fn put_stts(out: &mut [u8], at: usize, codec: Codec, n: usize) -> usize
     requires { at < 2 ^ 40 }
-    ensures { Put (write (plainBox STTS (sttsOf codec n) ∷ [])) out.old at result out.new × (at ≤ result) × (result ≤ at + 28) }
+    ensures { Put (write (plain_box STTS (stts_of codec n) ∷ [])) out.old at result out.new × (at ≤ result) × (result ≤ at + 28) }
 {
     let ticks = sample_ticks(codec);
     put_one(out, at, codes::STTS, n, &[4, 0, 4, 1, 4, n, 4, ticks])
@@ -117,7 +117,7 @@ fn put_stts(out: &mut [u8], at: usize, codec: Codec, n: usize) -> usize
 // The chunks' lengths: one run of chunks.
 fn put_stsc(out: &mut [u8], at: usize, n: usize) -> usize
     requires { at < 2 ^ 40 }
-    ensures { Put (write (plainBox STSC (stscOf n) ∷ [])) out.old at result out.new × (at ≤ result) × (result ≤ at + 28) }
+    ensures { Put (write (plain_box STSC (stsc_of n) ∷ [])) out.old at result out.new × (at ≤ result) × (result ≤ at + 28) }
 {
     put_one(out, at, codes::STSC, n, &[4, 0, 4, 1, 4, 1, 4, n, 4, 1])
 }
@@ -125,7 +125,7 @@ fn put_stsc(out: &mut [u8], at: usize, n: usize) -> usize
 // The chunks' offsets: one chunk.
 fn put_stco(out: &mut [u8], at: usize, n: usize, offset: usize) -> usize
     requires { at < 2 ^ 40 }
-    ensures { Put (write (plainBox STCO (stcoOf n offset) ∷ [])) out.old at result out.new × (at ≤ result) × (result ≤ at + 28) }
+    ensures { Put (write (plain_box STCO (stco_of n offset) ∷ [])) out.old at result out.new × (at ≤ result) × (result ≤ at + 28) }
 {
     put_one(out, at, codes::STCO, n, &[4, 0, 4, 1, 4, offset])
 }
@@ -146,7 +146,7 @@ fn put_word(out: &mut [u8], at: usize, n: usize) -> usize
 // Writes the size of each good frame from the front of a part on.
 fn put_sizes(out: &mut [u8], at: usize, codec: Codec, part: &[u8]) -> usize
     requires { (at < 2 ^ 45) × (length (frames codec part.now) ≤ 65536) }
-    ensures { Put (sizesOf (frames codec part.now)) out.old at result out.new
+    ensures { Put (sizes_of (frames codec part.now)) out.old at result out.new
         × (result ≡ at + 4 * length (frames codec part.now)) }
 {
     let mut to = at;
@@ -164,7 +164,7 @@ fn put_sizes(out: &mut [u8], at: usize, codec: Codec, part: &[u8]) -> usize
 // The samples' sizes.
 fn put_stsz(out: &mut [u8], at: usize, codec: Codec, part: &[u8], n: usize) -> usize
     requires { (at < 2 ^ 40) × (n ≡ length (frames codec part.now)) × (n ≤ 65536) }
-    ensures { Put (write (plainBox STSZ (stszOf (frames codec part.now)) ∷ [])) out.old at result out.new
+    ensures { Put (write (plain_box STSZ (stsz_of (frames codec part.now)) ∷ [])) out.old at result out.new
         × (at ≤ result) × (result ≤ at + 20 + 4 * n) }
 {
     let a = field::put_fields(out, at + 8, &[4, 0, 4, 0, 4, n], 0);
@@ -183,7 +183,7 @@ pub fn put_stbl(
     offset: usize,
 ) -> usize
     requires { (at < 2 ^ 39) × (RunOf (frames codec part.now) run) × (run.count ≤ 65536) }
-    ensures { Put (write (plainBox STBL (write (stblBoxes codec (frames codec part.now) offset)) ∷ []))
+    ensures { Put (write (plain_box STBL (write (stbl_boxes codec (frames codec part.now) offset)) ∷ []))
         out.old at result out.new × (at ≤ result) × (result < 2 ^ 40) }
 {
     let n = run.count;

@@ -4,17 +4,17 @@ use native.Mathlib.Omega.{arith}
 use mathlib.Core.Path.{◌≡◌, refl, subst, ◌∙◌}
 use mathlib.Core.List.{List, [], ◌∷◌}
 use lib.ListN.{length, drop, length-drop, drop_of_length-le}
-use Rattle.wire.proofs.Tests.{le-yea, le-nay, lt-or}
+use Rattle.wire.proofs.Tests.{le_yea, le_nay, lt_or}
 use Rattle.codes.specs.Codes.{MOOV, TRAK, MDIA, MINF, DINF, DREF, STBL, STSD}
 use Rattle.boxes.specs.Box.{Box, size}
 use Rattle.boxes.specs.Boxes.{FRONT, boxes, total}
 use Rattle.boxes.specs.Seek.{nth, find}
-use Rattle.boxes.proofs.Whole.{short-not}
-use Rattle.boxes.proofs.Reading.{boxes-stop}
-use Rattle.boxes.proofs.Placing.{total-is, place-most, start-most}
-use Rattle.movie.specs.Ways.{follow, startAlong, placeAlong}
-use Rattle.movie.specs.Movie.{storedCount}
-use Rattle.movie.specs.Stsds.{Stsd, stsdsFrom}
+use Rattle.boxes.proofs.Whole.{short_not}
+use Rattle.boxes.proofs.Reading.{boxes_stop}
+use Rattle.boxes.proofs.Placing.{total_is, place_most, start_most}
+use Rattle.movie.specs.Ways.{follow, start_along, place_along}
+use Rattle.movie.specs.Movie.{stored_count}
+use Rattle.movie.specs.Stsds.{Stsd, stsds_from}
 use Rattle.movie.proofs.Stsds.{Each, each_from}
 use Rattle.movie.proofs.Stsds.Each.{none as no_more, more}
 use Rattle.release.specs.declared.Release.{Release}
@@ -22,97 +22,97 @@ use Rattle.entry_rules.specs.declared.entry.Around.{Around}
 use Rattle.rule.specs.declared.Verdict.{Verdict}
 use Rattle.rule.specs.declared.Verdict.TheVariants.{Fine}
 use Rattle.rule.specs.Verdict.{unless}
-use Rattle.rule.specs.Judge.{judgeList}
-use Rattle.rule.proofs.Bounds.{named, Bounded, sooner-most, unless-most, if-most, list-most}
-use Rattle.rule_lists.specs.Five.{listFormIn, MOST, passing, five}
-use Rattle.rule_lists.specs.Nine.{isUrl, urlAt, nine}
-use Rattle.rule_entries.specs.Ten.{around_of, entryFine, entriesJudged, stsdsJudged, tenAt, ten}
+use Rattle.rule.specs.Judge.{judge_list}
+use Rattle.rule.proofs.Bounds.{named, Bounded, sooner_most, unless_most, if_most, list_most}
+use Rattle.rule_lists.specs.Five.{list_form_in, MOST, passing, five}
+use Rattle.rule_lists.specs.Nine.{is_url, url_at, nine}
+use Rattle.rule_entries.specs.Ten.{around_of, entry_fine, entries_judged, stsds_judged, ten_at, ten}
 
 -- ---- a list of boxes behind the first n bytes of a payload that starts at q
 
-listed-most : (f : Box → ℕ → Verdict) → ((x : Box) (p : ℕ) → named (f x p) ≤ p + size x)
-    → (n : ℕ) (b : List ℕ) (q : ℕ) → named (judgeList f (λ i. Fine) (boxes (drop n b)) (q + n)) ≤ q + length b
-unfolding judgeList
-listed-most f h n b q =
-    lt-or (length b) n
-    (λ k. let e : boxes (drop n b) ≡ [] = rw (drop_of_length-le b {i = n} (omega arith)) (boxes-stop [] (short-not [] (omega arith))) in rw e (omega arith))
-    (λ k. list-most (q + length b) f (λ i. Fine) h (boxes (drop n b)) (q + n) (omega (arith, total-is (drop n b), length-drop n b)) (λ i e. omega arith))
+listed_most : (f : Box → ℕ → Verdict) → ((x : Box) (p : ℕ) → named (f x p) ≤ p + size x)
+    → (n : ℕ) (b : List ℕ) (q : ℕ) → named (judge_list f (λ i. Fine) (boxes (drop n b)) (q + n)) ≤ q + length b
+unfolding judge_list
+listed_most f h n b q =
+    lt_or (length b) n
+    (λ k. let e : boxes (drop n b) ≡ [] = rw (drop_of_length-le b {i = n} (omega arith)) (boxes_stop [] (short_not [] (omega arith))) in rw e (omega arith))
+    (λ k. list_most (q + length b) f (λ i. Fine) h (boxes (drop n b)) (q + n) (omega (arith, total_is (drop n b), length-drop n b)) (λ i e. omega arith))
 
 -- ---- the `stsd`s
 
 -- the payload at the end of a way lies inside
-along-inside : (cs b : List ℕ) → startAlong cs b + length (follow cs b) ≤ length b
-unfolding follow startAlong
-along-inside [] b = omega arith
-along-inside (c ∷ cs) b = omega (arith, total-is b, start-most c 0 (boxes b), along-inside cs (find c (boxes b)))
+along_inside : (cs b : List ℕ) → start_along cs b + length (follow cs b) ≤ length b
+unfolding follow start_along
+along_inside [] b = omega arith
+along_inside (c ∷ cs) b = omega (arith, total_is b, start_most c 0 (boxes b), along_inside cs (find c (boxes b)))
 
-along-most : (c : ℕ) (cs b : List ℕ) → placeAlong (c ∷ cs) b ≤ length b
-unfolding placeAlong
-along-most c [] b = omega (arith, total-is b, place-most c 0 (boxes b))
-along-most c (d ∷ cs) b = omega (arith, total-is b, start-most c 0 (boxes b), along-most d cs (find c (boxes b)))
+along_most : (c : ℕ) (cs b : List ℕ) → place_along (c ∷ cs) b ≤ length b
+unfolding place_along
+along_most c [] b = omega (arith, total_is b, place_most c 0 (boxes b))
+along_most c (d ∷ cs) b = omega (arith, total_is b, start_most c 0 (boxes b), along_most d cs (find c (boxes b)))
 
 -- its place, and all of its payload, lie before place m
 record Within (m : ℕ) (s : Stsd) : Type 0 where
   place : s.place ≤ m
   whole : s.start + length s.body ≤ m
 
-within-each : (m t : ℕ) (l : List Box) (p : ℕ) → p + total l ≤ m → Each (Within m) t (stsdsFrom t l p)
-within-each m t l p h =
+within_each : (m t : ℕ) (l : List Box) (p : ℕ) → p + total l ≤ m → Each (Within m) t (stsds_from t l p)
+within_each m t l p h =
     each_from (Within m) l t p
     (λ n k.
     let b = nth TRAK n l in
-    let s = start-most TRAK n l in
+    let s = start_most TRAK n l in
     record {
-      place = omega (arith, along-most MDIA (MINF ∷ STBL ∷ STSD ∷ []) b);
-      whole = omega (arith, along-inside (MDIA ∷ MINF ∷ STBL ∷ STSD ∷ []) b);
+      place = omega (arith, along_most MDIA (MINF ∷ STBL ∷ STSD ∷ []) b);
+      whole = omega (arith, along_inside (MDIA ∷ MINF ∷ STBL ∷ STSD ∷ []) b);
     })
 
 -- ---- rule 5
 
-passing-most : (m most n : ℕ) {t : ℕ} {l : List Stsd} → Each (Within m) t l → named (passing most n l) ≤ m
+passing_most : (m most n : ℕ) {t : ℕ} {l : List Stsd} → Each (Within m) t l → named (passing most n l) ≤ m
 unfolding passing
-passing-most m most n no_more = omega arith
-passing-most m most n (more {s = s} {l = l} e w a) =
-    lt-or most (n + storedCount s.body)
-    (λ k. subst (λ (v : Verdict). named v ≤ m) (le-nay _ _ _ _ _ k refl) w.place)
-    (λ k. subst (λ (v : Verdict). named v ≤ m) (le-yea _ _ _ _ _ k refl) (passing-most m most (n + storedCount s.body) a))
+passing_most m most n no_more = omega arith
+passing_most m most n (more {s = s} {l = l} e w a) =
+    lt_or most (n + stored_count s.body)
+    (λ k. subst (λ (v : Verdict). named v ≤ m) (le_nay _ _ _ _ _ k refl) w.place)
+    (λ k. subst (λ (v : Verdict). named v ≤ m) (le_yea _ _ _ _ _ k refl) (passing_most m most (n + stored_count s.body) a))
 
-pub five-bounded : Bounded five
-five-bounded =
+pub five_bounded : Bounded five
+five_bounded =
     record {
-      leaf = λ k c b p q h. unless-most _ (listFormIn k c b) p (omega arith);
-      node = λ k xs home p h. if-most _ k MOOV _ (passing-most _ MOST 0 (within-each _ 0 (boxes xs) p (omega (arith, total-is xs))));
+      leaf = λ k c b p q h. unless_most _ (list_form_in k c b) p (omega arith);
+      node = λ k xs home p h. if_most _ k MOOV _ (passing_most _ MOST 0 (within_each _ 0 (boxes xs) p (omega (arith, total_is xs))));
       end = λ xs p. omega arith;
     }
 
 -- ---- rule 9
 
-pub nine-bounded : Bounded nine
-nine-bounded =
+pub nine_bounded : Bounded nine
+nine_bounded =
     record {
       leaf = λ k c b p q h.
-          if-most _ k DINF _ (if-most _ c DREF _
-          (listed-most urlAt (λ x i. unless-most _ (isUrl x.code x.body) i (omega arith)) FRONT b q));
+          if_most _ k DINF _ (if_most _ c DREF _
+          (listed_most url_at (λ x i. unless_most _ (is_url x.code x.body) i (omega arith)) FRONT b q));
       node = λ k xs home p h. omega arith;
       end = λ xs p. omega arith;
     }
 
 -- ---- rule 10
 
-entries-most : (m : ℕ) (a : Around) (release : Release) (s : Stsd) → Within m s → named (entriesJudged a release (drop FRONT s.body) (s.start + FRONT)) ≤ m
-unfolding entriesJudged
-entries-most m a release s w = omega (arith, w.whole, listed-most (λ x i. unless (entryFine a release x) i) (λ x i. unless-most _ (entryFine a release x) i (omega arith)) FRONT s.body s.start)
+entries_most : (m : ℕ) (a : Around) (release : Release) (s : Stsd) → Within m s → named (entries_judged a release (drop FRONT s.body) (s.start + FRONT)) ≤ m
+unfolding entries_judged
+entries_most m a release s w = omega (arith, w.whole, listed_most (λ x i. unless (entry_fine a release x) i) (λ x i. unless_most _ (entry_fine a release x) i (omega arith)) FRONT s.body s.start)
 
-judged-most : (m : ℕ) (release : Release) {t : ℕ} {l : List Stsd} → Each (Within m) t l → named (stsdsJudged release l) ≤ m
-unfolding stsdsJudged
-judged-most m release no_more = omega arith
-judged-most m release (more {s = s} e w a) = sooner-most m _ _ (entries-most m (around_of s.trak) release s w) (judged-most m release a)
+judged_most : (m : ℕ) (release : Release) {t : ℕ} {l : List Stsd} → Each (Within m) t l → named (stsds_judged release l) ≤ m
+unfolding stsds_judged
+judged_most m release no_more = omega arith
+judged_most m release (more {s = s} e w a) = sooner_most m _ _ (entries_most m (around_of s.trak) release s w) (judged_most m release a)
 
-pub ten-bounded : (release : Release) → Bounded (ten release)
-unfolding tenAt
-ten-bounded release =
+pub ten_bounded : (release : Release) → Bounded (ten release)
+unfolding ten_at
+ten_bounded release =
     record {
       leaf = λ k c b p q h. omega arith;
-      node = λ k xs home p h. if-most _ k MOOV _ (judged-most _ release (within-each _ 0 (boxes xs) p (omega (arith, total-is xs))));
+      node = λ k xs home p h. if_most _ k MOOV _ (judged_most _ release (within_each _ 0 (boxes xs) p (omega (arith, total_is xs))));
       end = λ xs p. omega arith;
     }

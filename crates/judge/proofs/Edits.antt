@@ -3,37 +3,37 @@ use Prim.Native.Nat.{ℕ}
 use mathlib.Core.Path.{◌≡◌, refl, sym, ap, ◌∙◌}
 use mathlib.Core.Bool.{true}
 use mathlib.Core.List.{List}
-use Rattle.wire.specs.Tests.{ifEq}
-use Rattle.wire.specs.Clauses.{oneIf}
+use Rattle.wire.specs.Tests.{if_eq}
+use Rattle.wire.specs.Clauses.{one_if}
 use Rattle.wire.proofs.Clauses.{yea, nay}
 use Rattle.boxes.specs.Box.{Box}
 use Rattle.boxes.specs.Containers.{FILE, DEPTH}
 use Rattle.rule.specs.declared.Verdict.{Verdict}
 use Rattle.rule.specs.declared.Verdict.TheVariants.{Fine, Bad}
-use Rattle.rule.specs.Verdict.{isFine}
-use Rattle.rule.specs.Judge.{judgeIn}
-use Rattle.rule.specs.Rule.{Rule, placed, allIn}
-use Rattle.rule.proofs.Places.{placed-says}
-use Rattle.rule.proofs.Acceptance.{judge-fine}
+use Rattle.rule.specs.Verdict.{is_fine}
+use Rattle.rule.specs.Judge.{judge_in}
+use Rattle.rule.specs.Rule.{Rule, placed, all_in}
+use Rattle.rule.proofs.Places.{placed_says}
+use Rattle.rule.proofs.Acceptance.{judge_fine}
 use Rattle.rule.proofs.Alike.{no_test}
-use Rattle.rule_shape.specs.TwentyThree.{editableRule}
-use Rattle.judge.specs.Asked.{shapedBy, tiledBy, shape_by, formedBy, firstBy}
+use Rattle.rule_shape.specs.TwentyThree.{editable_rule}
+use Rattle.judge.specs.Asked.{shaped_by, tiled_by, shape_by, formed_by, first_by}
 use Rattle.judge.specs.Acceptance.{editable}
 
-same-rule : shape_by 23 ≡ editableRule
-unfolding shapedBy tiledBy ifEq
-same-rule = refl
+same_rule : shape_by 23 ≡ editable_rule
+unfolding shaped_by tiled_by if_eq
+same_rule = refl
 
-no-form : (k : ℕ) (x : Box) → formedBy 23 k x.form ≡ true
-unfolding formedBy ifEq
-no-form k x = refl
+no_form : (k : ℕ) (x : Box) → formed_by 23 k x.form ≡ true
+unfolding formed_by if_eq
+no_form k x = refl
 
-module _ (xs : List ℕ) {v : Verdict} (e : v ≡ judgeIn (firstBy 23) DEPTH FILE xs 0 0) where
-  is-plain : isFine v ≡ editable xs
-  is-plain = ap isFine (e ∙ no_test (λ k x. formedBy 23 k x.form) (shape_by 23) no-form DEPTH FILE xs 0 0) ∙ judge-fine (placed (shape_by 23)) (shape_by 23) (placed-says (shape_by 23)) DEPTH FILE xs 0 0 ∙ ap (λ (r : Rule). allIn r DEPTH FILE xs) same-rule
+module _ (xs : List ℕ) {v : Verdict} (e : v ≡ judge_in (first_by 23) DEPTH FILE xs 0 0) where
+  is_plain_lem : is_fine v ≡ editable xs
+  is_plain_lem = ap is_fine (e ∙ no_test (λ k x. formed_by 23 k x.form) (shape_by 23) no_form DEPTH FILE xs 0 0) ∙ judge_fine (placed (shape_by 23)) (shape_by 23) (placed_says (shape_by 23)) DEPTH FILE xs 0 0 ∙ ap (λ (r : Rule). all_in r DEPTH FILE xs) same_rule
 
-  pub editable-yea : v ≡ Fine → 1 ≡ oneIf (editable xs)
-  editable-yea f = yea _ (sym (ap isFine f) ∙ is-plain)
+  pub editable_yea : v ≡ Fine → 1 ≡ one_if (editable xs)
+  editable_yea f = yea _ (sym (ap is_fine f) ∙ is_plain_lem)
 
-  pub editable-nay : {p : ℕ} → v ≡ Bad p → 0 ≡ oneIf (editable xs)
-  editable-nay f = nay _ (sym (ap isFine f) ∙ is-plain)
+  pub editable_nay : {p : ℕ} → v ≡ Bad p → 0 ≡ one_if (editable xs)
+  editable_nay f = nay _ (sym (ap is_fine f) ∙ is_plain_lem)

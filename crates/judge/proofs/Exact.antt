@@ -6,36 +6,36 @@ use mathlib.Core.List.{List, [], ◌∷◌}
 use Rattle.boxes.specs.Box.{Box}
 use Rattle.boxes.specs.Boxes.{boxes}
 use Rattle.boxes.specs.Containers.{FILE, DEPTH}
-use Rattle.release.specs.Releases.{releaseOf}
+use Rattle.release.specs.Releases.{release_of}
 use Rattle.rule.specs.declared.Verdict.{Verdict}
 use Rattle.rule.specs.declared.Verdict.TheVariants.{Fine, Bad}
 use Rattle.rule.specs.Judge.{Judge}
 use Rattle.rule.specs.Rule.{Rule, Says}
-use Rattle.rule.proofs.Places.{placed-says}
-use Rattle.rule.proofs.Acceptance.{each-says, fine-all, all-fine}
-use Rattle.rule_shape.specs.Two.{tiledRule, shutIn}
-use Rattle.rule_shape.specs.Three.{threeRule}
-use Rattle.rule_lists.specs.Five.{fiveRule}
-use Rattle.rule_lists.specs.Nine.{nineRule}
-use Rattle.rule_lists.proofs.Rules.{five-says, nine-says}
-use Rattle.rule_headers.proofs.Rule4.{four-says}
-use Rattle.rule_tracks.specs.Six.{sixRule}
-use Rattle.rule_tracks.specs.Seven.{sevenRule}
-use Rattle.rule_tracks.proofs.KeptEight.{eight-says}
-use Rattle.rule_entries.proofs.Kept.{ten-says}
-use Rattle.judge.specs.One.{oneRule}
+use Rattle.rule.proofs.Places.{placed_says}
+use Rattle.rule.proofs.Acceptance.{each_says, fine_all, all_fine}
+use Rattle.rule_shape.specs.Two.{tiled_rule, shut_in}
+use Rattle.rule_shape.specs.Three.{three_rule}
+use Rattle.rule_lists.specs.Five.{five_rule}
+use Rattle.rule_lists.specs.Nine.{nine_rule}
+use Rattle.rule_lists.proofs.Rules.{five_says, nine_says}
+use Rattle.rule_headers.proofs.Rule4.{four_says}
+use Rattle.rule_tracks.specs.Six.{six_rule}
+use Rattle.rule_tracks.specs.Seven.{seven_rule}
+use Rattle.rule_tracks.proofs.KeptEight.{eight_says}
+use Rattle.rule_entries.proofs.Kept.{ten_says}
+use Rattle.judge.specs.One.{one_rule}
 use Rattle.judge.specs.declared.Judgement.{Judgement}
 use Rattle.judge.specs.declared.Judgement.TheVariants.{Accepted}
-use Rattle.judge.specs.Judgement.{judges, verdictBy, unlessBroken, judgedFrom, judged}
+use Rattle.judge.specs.Judgement.{judges, verdict_by, unless_broken, judged_from, judged}
 use Rattle.judge.specs.Acceptance.{Holds, rules, Meets}
-use Rattle.judge.proofs.One.{one_holds, holds-one}
+use Rattle.judge.proofs.One.{one_holds, holds_one}
 
 -- ---- some rules
 
-next-fine : (n : ℕ) (v : Verdict) (j : Judgement) → unlessBroken n v j ≡ Accepted → (v ≡ Fine) × (j ≡ Accepted)
-unfolding unlessBroken
-next-fine n Fine j e = (refl, e)
-next-fine n (Bad p) j e = let z : ◌≡◌ {A = ℕ} 0 1 = cc in absurd (omega arith)
+next_fine : (n : ℕ) (v : Verdict) (j : Judgement) → unless_broken n v j ≡ Accepted → (v ≡ Fine) × (j ≡ Accepted)
+unfolding unless_broken
+next_fine n Fine j e = (refl, e)
+next_fine n (Bad p) j e = let z : ◌≡◌ {A = ℕ} 0 1 = cc in absurd (omega arith)
 
 -- judges that ask what rules ask, one by one
 pub data Say : List Judge → List Rule → Type 0 where
@@ -47,33 +47,33 @@ pub data Hold (xs : List ℕ) : List Rule → Type 0 where
   nil : Hold xs []
   cons : {r : Rule} {rs : List Rule} → Holds r xs → Hold xs rs → Hold xs (r ∷ rs)
 
-all_hold : {js : List Judge} {rs : List Rule} → Say js rs → (n : ℕ) (xs : List ℕ) → judgedFrom n js xs ≡ Accepted → Hold xs rs
-unfolding judgedFrom
+all_hold : {js : List Judge} {rs : List Rule} → Say js rs → (n : ℕ) (xs : List ℕ) → judged_from n js xs ≡ Accepted → Hold xs rs
+unfolding judged_from
 all_hold none n xs e = nil
 all_hold (more {j} {r} {js} s t) n xs e =
-    let a = next-fine n (verdictBy j xs) (judgedFrom (n + 1) js xs) e in
-    cons (fine-all j r s DEPTH FILE xs 0 0 a.0) (all_hold t (n + 1) xs a.1)
+    let a = next_fine n (verdict_by j xs) (judged_from (n + 1) js xs) e in
+    cons (fine_all j r s DEPTH FILE xs 0 0 a.0) (all_hold t (n + 1) xs a.1)
 
 -- a rule that holds is passed
-pub skip : {j : Judge} {r : Rule} → Says j r → (n : ℕ) (js : List Judge) (xs : List ℕ) → Holds r xs → judgedFrom n (j ∷ js) xs ≡ judgedFrom (n + 1) js xs
-unfolding judgedFrom unlessBroken
-skip {j} {r} s n js xs h = rw (all-fine j r s DEPTH FILE xs 0 0 h)
+pub skip : {j : Judge} {r : Rule} → Says j r → (n : ℕ) (js : List Judge) (xs : List ℕ) → Holds r xs → judged_from n (j ∷ js) xs ≡ judged_from (n + 1) js xs
+unfolding judged_from unless_broken
+skip {j} {r} s n js xs h = rw (all_fine j r s DEPTH FILE xs 0 0 h)
 
-hold-all : {js : List Judge} {rs : List Rule} → Say js rs → (n : ℕ) (xs : List ℕ) → Hold xs rs → judgedFrom n js xs ≡ Accepted
-unfolding judgedFrom
-hold-all none n xs nil = refl
-hold-all (more {j} {r} {js} s t) n xs (cons h g) = skip s n js xs h ∙ hold-all t (n + 1) xs g
+hold_all : {js : List Judge} {rs : List Rule} → Say js rs → (n : ℕ) (xs : List ℕ) → Hold xs rs → judged_from n js xs ≡ Accepted
+unfolding judged_from
+hold_all none n xs nil = refl
+hold_all (more {j} {r} {js} s t) n xs (cons h g) = skip s n js xs h ∙ hold_all t (n + 1) xs g
 
 -- ---- rules 1 to 10
 
-pub rules-say : (l : List Box) → Say (judges l) (rules l)
-rules-say l =
-    more (placed-says oneRule) (more (each-says shutIn tiledRule) (more (placed-says threeRule) (more four-says (more five-says (more (placed-says sixRule)
-    (more (placed-says sevenRule) (more (eight-says l) (more nine-says (more (ten-says (releaseOf l)) none)))))))))
+pub rules_say : (l : List Box) → Say (judges l) (rules l)
+rules_say l =
+    more (placed_says one_rule) (more (each_says shut_in tiled_rule) (more (placed_says three_rule) (more four_says (more five_says (more (placed_says six_rule)
+    (more (placed_says seven_rule) (more (eight_says l) (more nine_says (more (ten_says (release_of l)) none)))))))))
 
-all-meet : (xs : List ℕ) → Hold xs (rules (boxes xs)) → Meets xs
-all-meet xs (cons b (cons c (cons d (cons e (cons f (cons g (cons h (cons i (cons j (cons k nil)))))))))) =
-    let a = holds-one xs b in
+all_meet_lem : (xs : List ℕ) → Hold xs (rules (boxes xs)) → Meets xs
+all_meet_lem xs (cons b (cons c (cons d (cons e (cons f (cons g (cons h (cons i (cons j (cons k nil)))))))))) =
+    let a = holds_one xs b in
     record { least = a.0; most = a.1; two = c; three = d; four = e; five = f; six = g; seven = h; eight = i; nine = j; ten = k }
 
 pub meet_all : (xs : List ℕ) → Meets xs → Hold xs (rules (boxes xs))
@@ -84,11 +84,11 @@ meet_all xs m =
 -- ---- demand 2
 
 -- a file that is accepted meets the rules
-pub accepted-meets : (xs : List ℕ) → judged xs ≡ Accepted → Meets xs
+pub accepted_meets : (xs : List ℕ) → judged xs ≡ Accepted → Meets xs
 unfolding judged
-accepted-meets xs e = all-meet xs (all_hold (rules-say (boxes xs)) 1 xs e)
+accepted_meets xs e = all_meet_lem xs (all_hold (rules_say (boxes xs)) 1 xs e)
 
 -- and a file that meets the rules is accepted
-pub meets-accepted : (xs : List ℕ) → Meets xs → judged xs ≡ Accepted
+pub meets_accepted : (xs : List ℕ) → Meets xs → judged xs ≡ Accepted
 unfolding judged
-meets-accepted xs m = hold-all (rules-say (boxes xs)) 1 xs (meet_all xs m)
+meets_accepted xs m = hold_all (rules_say (boxes xs)) 1 xs (meet_all xs m)

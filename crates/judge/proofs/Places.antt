@@ -4,67 +4,67 @@ use native.Mathlib.Omega.{arith}
 use mathlib.Core.Path.{◌≡◌, refl}
 use mathlib.Core.List.{List, [], ◌∷◌}
 use lib.ListN.{length}
-use Rattle.wire.proofs.Tests.{lt-or}
+use Rattle.wire.proofs.Tests.{lt_or}
 use Rattle.boxes.specs.Box.{Box}
 use Rattle.boxes.specs.Boxes.{boxes}
 use Rattle.boxes.specs.Containers.{FILE, DEPTH, LONGEST}
-use Rattle.release.specs.Releases.{releaseOf}
+use Rattle.release.specs.Releases.{release_of}
 use Rattle.rule.specs.declared.Verdict.{Verdict}
 use Rattle.rule.specs.declared.Verdict.TheVariants.{Fine, Bad}
 use Rattle.rule.specs.Judge.{Judge}
-use Rattle.rule.proofs.Bounds.{each-bounded, named, Bounded, placed-bounded, judge-most}
-use Rattle.rule_shape.specs.Two.{tiledRule, shutIn}
-use Rattle.rule_shape.specs.Three.{threeRule}
-use Rattle.rule_headers.proofs.Bounded.{four-bounded}
-use Rattle.rule_tracks.specs.Six.{sixRule}
-use Rattle.rule_tracks.specs.Seven.{sevenRule}
-use Rattle.rule_tracks.proofs.Bounded.{eight-bounded}
-use Rattle.judge.specs.One.{oneRule}
+use Rattle.rule.proofs.Bounds.{each_bounded, named, Bounded, placed_bounded, judge_most}
+use Rattle.rule_shape.specs.Two.{tiled_rule, shut_in}
+use Rattle.rule_shape.specs.Three.{three_rule}
+use Rattle.rule_headers.proofs.Bounded.{four_bounded}
+use Rattle.rule_tracks.specs.Six.{six_rule}
+use Rattle.rule_tracks.specs.Seven.{seven_rule}
+use Rattle.rule_tracks.proofs.Bounded.{eight_bounded}
+use Rattle.judge.specs.One.{one_rule}
 use Rattle.judge.specs.declared.Judgement.{Judgement}
 use Rattle.judge.specs.declared.Judgement.TheVariants.{Accepted, Refused}
-use Rattle.judge.specs.Judgement.{judgedNumber, judgedPlace, judges, verdictBy, unlessBroken, judgedFrom, judged}
+use Rattle.judge.specs.Judgement.{judged_number, judged_place, judges, verdict_by, unless_broken, judged_from, judged}
 use Rattle.judge.proofs.Order.{too_long}
-use Rattle.judge.proofs.Bounded.{five-bounded, nine-bounded, ten-bounded}
-use Rattle.judge.proofs.Refusals.{refused-breaks}
+use Rattle.judge.proofs.Bounded.{five_bounded, nine_bounded, ten_bounded}
+use Rattle.judge.proofs.Refusals.{refused_breaks}
 
 -- judges that are bounded, one by one
 data AllBounded : List Judge → Type 0 where
   none : AllBounded []
   more : {j : Judge} {js : List Judge} → Bounded j → AllBounded js → AllBounded (j ∷ js)
 
-all-bounded : (l : List Box) → AllBounded (judges l)
-all-bounded l =
-    more (placed-bounded oneRule) (more (each-bounded shutIn tiledRule) (more (placed-bounded threeRule) (more four-bounded (more five-bounded
-    (more (placed-bounded sixRule) (more (placed-bounded sevenRule) (more (eight-bounded l) (more nine-bounded (more (ten-bounded (releaseOf l)) none)))))))))
+all_bounded : (l : List Box) → AllBounded (judges l)
+all_bounded l =
+    more (placed_bounded one_rule) (more (each_bounded shut_in tiled_rule) (more (placed_bounded three_rule) (more four_bounded (more five_bounded
+    (more (placed_bounded six_rule) (more (placed_bounded seven_rule) (more (eight_bounded l) (more nine_bounded (more (ten_bounded (release_of l)) none)))))))))
 
-first-most : (m n : ℕ) (v : Verdict) (j : Judgement) → named v ≤ m → judgedPlace j ≤ m → judgedPlace (unlessBroken n v j) ≤ m
-unfolding unlessBroken
-first-most m n Fine j h g = g
-first-most m n (Bad p) j h g = h
+first_most : (m n : ℕ) (v : Verdict) (j : Judgement) → named v ≤ m → judged_place j ≤ m → judged_place (unless_broken n v j) ≤ m
+unfolding unless_broken
+first_most m n Fine j h g = g
+first_most m n (Bad p) j h g = h
 
-from-most : {js : List Judge} → AllBounded js → (n : ℕ) (xs : List ℕ) → judgedPlace (judgedFrom n js xs) ≤ length xs
-unfolding judgedFrom
-from-most none n xs = omega arith
-from-most (more {j} {js} b a) n xs =
-    first-most (length xs) n (verdictBy j xs) (judgedFrom (n + 1) js xs)
-    (omega (arith, judge-most j b DEPTH FILE xs 0 0 (omega arith))) (from-most a (n + 1) xs)
+from_most : {js : List Judge} → AllBounded js → (n : ℕ) (xs : List ℕ) → judged_place (judged_from n js xs) ≤ length xs
+unfolding judged_from
+from_most none n xs = omega arith
+from_most (more {j} {js} b a) n xs =
+    first_most (length xs) n (verdict_by j xs) (judged_from (n + 1) js xs)
+    (omega (arith, judge_most j b DEPTH FILE xs 0 0 (omega arith))) (from_most a (n + 1) xs)
 
 -- ---- the judgement of any file
 
-pub number-most : (xs : List ℕ) → judgedNumber (judged xs) ≤ 10
-number-most xs = go (judged xs) refl
+pub number_most : (xs : List ℕ) → judged_number (judged xs) ≤ 10
+number_most xs = go (judged xs) refl
   where
-    go : (j : Judgement) → judged xs ≡ j → judgedNumber j ≤ 10
+    go : (j : Judgement) → judged xs ≡ j → judged_number j ≤ 10
     go Accepted e = omega arith
-    go (Refused n p) e = (refused-breaks xs n p e).most
+    go (Refused n p) e = (refused_breaks xs n p e).most
 
-pub place_in : (xs : List ℕ) → judgedPlace (judged xs) ≤ length xs
+pub place_in : (xs : List ℕ) → judged_place (judged xs) ≤ length xs
 unfolding judged
-place_in xs = from-most (all-bounded (boxes xs)) 1 xs
+place_in xs = from_most (all_bounded (boxes xs)) 1 xs
 
 -- too long a file is refused at place 0
-pub place-most : (xs : List ℕ) → judgedPlace (judged xs) ≤ LONGEST
-place-most xs = lt-or LONGEST (length xs) (λ h. at_zero h) (λ h. omega (arith, place_in xs))
+pub place_most : (xs : List ℕ) → judged_place (judged xs) ≤ LONGEST
+place_most xs = lt_or LONGEST (length xs) (λ h. at_zero h) (λ h. omega (arith, place_in xs))
   where
-    at_zero : LONGEST < length xs → judgedPlace (judged xs) ≤ LONGEST
+    at_zero : LONGEST < length xs → judged_place (judged xs) ≤ LONGEST
     at_zero h = rw (← too_long xs h) (omega arith)

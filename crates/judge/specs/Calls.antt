@@ -9,14 +9,14 @@ use Rattle.judge.specs.declared.Judgement.TheVariants.{Accepted, Refused}
 use Rattle.judge.specs.Judgement.{judged}
 
 -- what a call comes to where its file is accepted, else the refusal
-unfoldable pub whenAccepted : {A : Type 0} → (ℕ → ℕ → A) → Judgement → A → A
-whenAccepted refusal Accepted a = a
-whenAccepted refusal (Refused n p) a = refusal n p
+unfoldable pub when_accepted : {A : Type 0} → (ℕ → ℕ → A) → Judgement → A → A
+when_accepted refusal Accepted a = a
+when_accepted refusal (Refused n p) a = refusal n p
 
 -- a call that answers a number
-unfoldable pub answerOn : List ℕ → Answer → Answer
-answerOn file a = whenAccepted answer.Refused (judged file) a
+unfoldable pub answer_on : List ℕ → Answer → Answer
+answer_on file a = when_accepted answer.Refused (judged file) a
 
 -- a call that asks these tests, in the paper's order, and then gives xs
-unfoldable pub resultOn : List ℕ → List (ℕ × Bool) → List ℕ → Result
-resultOn file tests xs = whenAccepted refuses (judged file) (asked tests (gives xs))
+unfoldable pub result_on : List ℕ → List (ℕ × Bool) → List ℕ → Result
+result_on file tests xs = when_accepted refuses (judged file) (asked tests (gives xs))

@@ -3,10 +3,10 @@ use Rattle.std.specs.Prelude.{ℕ, ◌+◌, List, [], ◌∷◌}
 use Rattle.boxes.specs.Box.{Box}
 use Rattle.boxes.specs.Boxes.{boxes}
 use Rattle.boxes.specs.Containers.{FILE, DEPTH}
-use Rattle.release.specs.Releases.{releaseOf}
+use Rattle.release.specs.Releases.{release_of}
 use Rattle.rule.specs.declared.Verdict.{Verdict}
 use Rattle.rule.specs.declared.Verdict.TheVariants.{Fine, Bad}
-use Rattle.rule.specs.Judge.{Judge, judgeIn}
+use Rattle.rule.specs.Judge.{Judge, judge_in}
 use Rattle.rule_shape.specs.Two.{two}
 use Rattle.rule_shape.specs.Three.{three}
 use Rattle.rule_lists.specs.Five.{five}
@@ -21,32 +21,32 @@ use Rattle.judge.specs.declared.Judgement.{Judgement}
 use Rattle.judge.specs.declared.Judgement.TheVariants.{Accepted, Refused}
 
 -- the refusal number of the paper, 0 where there is none, and its place
-abbrev pub judgedNumber : Judgement → ℕ
-judgedNumber Accepted = 0
-judgedNumber (Refused n p) = n
+abbrev pub judged_number : Judgement → ℕ
+judged_number Accepted = 0
+judged_number (Refused n p) = n
 
-abbrev pub judgedPlace : Judgement → ℕ
-judgedPlace Accepted = 0
-judgedPlace (Refused n p) = p
+abbrev pub judged_place : Judgement → ℕ
+judged_place Accepted = 0
+judged_place (Refused n p) = p
 
 -- rules 1 to 10 in their order; rules 8 and 10 are asked in a file with the boxes l
 abbrev pub judges : List Box → List Judge
-judges l = one ∷ two ∷ three ∷ four ∷ five ∷ six ∷ seven ∷ eight l ∷ nine ∷ ten (releaseOf l) ∷ []
+judges l = one ∷ two ∷ three ∷ four ∷ five ∷ six ∷ seven ∷ eight l ∷ nine ∷ ten (release_of l) ∷ []
 
 -- what a rule says of a file
-abbrev pub verdictBy : Judge → List ℕ → Verdict
-verdictBy j xs = judgeIn j DEPTH FILE xs 0 0
+abbrev pub verdict_by : Judge → List ℕ → Verdict
+verdict_by j xs = judge_in j DEPTH FILE xs 0 0
 
 -- the verdict of rule n, and then the rules after it
-unfoldable pub unlessBroken : ℕ → Verdict → Judgement → Judgement
-unlessBroken n Fine j = j
-unlessBroken n (Bad p) j = Refused n p
+unfoldable pub unless_broken : ℕ → Verdict → Judgement → Judgement
+unless_broken n Fine j = j
+unless_broken n (Bad p) j = Refused n p
 
 -- the rules from n on
-unfoldable pub judgedFrom : ℕ → List Judge → List ℕ → Judgement
-judgedFrom n [] xs = Accepted
-judgedFrom n (j ∷ js) xs = unlessBroken n (verdictBy j xs) (judgedFrom (n + 1) js xs)
+unfoldable pub judged_from : ℕ → List Judge → List ℕ → Judgement
+judged_from n [] xs = Accepted
+judged_from n (j ∷ js) xs = unless_broken n (verdict_by j xs) (judged_from (n + 1) js xs)
 
 -- all of them
 unfoldable pub judged : List ℕ → Judgement
-judged xs = judgedFrom 1 (judges (boxes xs)) xs
+judged xs = judged_from 1 (judges (boxes xs)) xs

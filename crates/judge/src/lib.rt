@@ -3,11 +3,11 @@ mod rules;
 mod shape;
 
 ghost use Rattle.std.specs.Prelude.{◌≡◌, ◌+◌, ◌≤◌, length};
-ghost use Rattle.wire.specs.Clauses.{oneIf};
+ghost use Rattle.wire.specs.Clauses.{one_if};
 ghost use Rattle.boxes.specs.Containers.{LONGEST};
 ghost use Rattle.rule_all.specs.All.{SureBefore};
 ghost use Rattle.judge.specs.Acceptance.{editable};
-ghost use Rattle.judge.specs.Asked.{verdictOf};
+ghost use Rattle.judge.specs.Asked.{verdict_of};
 ghost use Rattle.judge.specs.Judgement.{judged};
 ghost use Rattle.judge.specs.Tracks.{WithTracks};
 
@@ -26,7 +26,7 @@ pub enum Judgement {
 // What rule n says of a file.
 fn verdict_of(n: usize, file: &[u8]) -> Verdict
     requires { length file.now ≤ LONGEST }
-    ensures { result ≡ verdictOf n file.now }
+    ensures { result ≡ verdict_of n file.now }
 {
     if n < 4 {
         return shape::first(n, file);
@@ -114,7 +114,7 @@ pub fn judge_tracks(file: &[u8]) -> JudgedTracks
 // Whether an edit takes a file, which refusal 23 asks: 1 or 0. Each container is walked once first.
 pub fn editable(file: &[u8]) -> usize
     requires { length file.now ≤ LONGEST }
-    ensures { result ≡ oneIf (editable file.now) }
+    ensures { result ≡ one_if (editable file.now) }
 {
     if rule_all::edit::edits_hold(file) != 0 {
         return 1;

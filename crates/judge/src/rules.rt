@@ -2,9 +2,9 @@
 ghost use Rattle.std.specs.Prelude.{◌≡◌, ◌+◌, ◌-◌, ◌^◌, ◌≤◌, ◌<◌, length};
 ghost use Rattle.boxes.specs.Box.{head_of};
 ghost use Rattle.boxes.specs.Boxes.{boxes};
-ghost use Rattle.boxes.specs.Walk.{boxAt};
-ghost use Rattle.rule.specs.Judge.{judgeBox, judgeIn};
-ghost use Rattle.judge.specs.Asked.{unlessAnswer, leafBy, node_by, ruleBy};
+ghost use Rattle.boxes.specs.Walk.{box_at};
+ghost use Rattle.rule.specs.Judge.{judge_box, judge_in};
+ghost use Rattle.judge.specs.Asked.{unless_answer, leaf_by, node_by, rule_by};
 
 use boxes::walk::{BoxAt, Step, Walk};
 use boxes::{containers, walk};
@@ -12,7 +12,7 @@ use rule::Verdict;
 
 // Broken at a place where an answer is 0.
 fn unless(answer: usize, place: usize) -> Verdict
-    ensures { result ≡ unlessAnswer answer place }
+    ensures { result ≡ unless_answer answer place }
 {
     if answer == 0 {
         return Verdict::Bad(place);
@@ -23,7 +23,7 @@ fn unless(answer: usize, place: usize) -> Verdict
 // What rule n says of an opaque box of code c in a container of kind k.
 fn leaf_by(n: usize, k: usize, c: usize, body: &[u8], place: usize, start: usize) -> Verdict
     requires { start + length body.now < 2 ^ 60 }
-    ensures { result ≡ leafBy n k c body.now place start }
+    ensures { result ≡ leaf_by n k c body.now place start }
 {
     if n == 4 {
         return unless(rule_headers::forms::form(k, c, body), place);
@@ -75,7 +75,7 @@ fn judge_box(
     depth: usize,
 ) -> Verdict
     requires { (b.head ≡ head_of b.form) × (b.head ≤ b.span) × (b.at + b.span ≤ length part.now) × (base + length part.now < 2 ^ 60) × (0 < depth) }
-    ensures { result ≡ judgeBox (ruleBy n (boxes file.now)) (judgeIn (ruleBy n (boxes file.now)) (depth - 1)) k (boxAt part.now b) (base + b.at) }
+    ensures { result ≡ judge_box (rule_by n (boxes file.now)) (judge_in (rule_by n (boxes file.now)) (depth - 1)) k (box_at part.now b) (base + b.at) }
 {
     let place = base + b.at;
     let start = place + b.head;
@@ -98,7 +98,7 @@ pub fn judge_in(
     depth: usize,
 ) -> Verdict
     requires { base + length part.now < 2 ^ 60 }
-    ensures { result ≡ judgeIn (ruleBy n (boxes file.now)) depth k part.now home base }
+    ensures { result ≡ judge_in (rule_by n (boxes file.now)) depth k part.now home base }
 {
     if depth == 0 {
         return Verdict::Fine;

@@ -1,11 +1,11 @@
 // Rules 2 and 3 and refusal 23, which look at containers alone and name each by its own place: the first that is broken is the answer.
 ghost use Rattle.std.specs.Prelude.{◌≡◌, ◌+◌, ◌-◌, ◌^◌, ◌≤◌, ◌<◌, length};
-ghost use Rattle.wire.specs.Clauses.{oneIf};
+ghost use Rattle.wire.specs.Clauses.{one_if};
 ghost use Rattle.boxes.specs.Box.{head_of};
 ghost use Rattle.boxes.specs.Containers.{FILE, DEPTH, LONGEST};
-ghost use Rattle.boxes.specs.Walk.{boxAt};
-ghost use Rattle.rule.specs.Judge.{judgeIn};
-ghost use Rattle.judge.specs.Asked.{shapedBy, shape_by, formedBy, firstBy, formFirst, as_number};
+ghost use Rattle.boxes.specs.Walk.{box_at};
+ghost use Rattle.rule.specs.Judge.{judge_in};
+ghost use Rattle.judge.specs.Asked.{shaped_by, shape_by, formed_by, first_by, form_first, as_number};
 
 use boxes::walk::{BoxAt, Form, Step, Walk};
 use boxes::{containers, walk};
@@ -13,7 +13,7 @@ use rule::Verdict;
 
 // Whether a container of kind k has the boxes that rule n wants: 1 or 0.
 fn shaped(n: usize, k: usize, part: &[u8]) -> usize
-    ensures { result ≡ oneIf (shapedBy n k part.now) }
+    ensures { result ≡ one_if (shaped_by n k part.now) }
 {
     if n == 3 {
         return rule_shape::shape_of(k, part);
@@ -39,7 +39,7 @@ fn idle(n: usize, b: BoxAt) -> usize
 
 // Whether a box may have its form in a container of kind k, of which rule 2 alone asks: 1 or 0.
 fn formed(n: usize, k: usize, form: Form) -> usize
-    ensures { result ≡ oneIf (formedBy n k form) }
+    ensures { result ≡ one_if (formed_by n k form) }
 {
     if n != 2 {
         return 1;
@@ -51,7 +51,7 @@ fn formed(n: usize, k: usize, form: Form) -> usize
 #[cycle(first_box_first_in)]
 fn first_box(n: usize, part: &[u8], b: BoxAt, base: usize, k: usize, depth: usize) -> usize
     requires { (b.head ≡ head_of b.form) × (b.head ≤ b.span) × (b.at + b.span ≤ length part.now) × (base + length part.now < 2 ^ 60) × (0 < depth) }
-    ensures { result ≡ as_number (formFirst n (depth - 1) k (boxAt part.now b) (base + b.at)) }
+    ensures { result ≡ as_number (form_first n (depth - 1) k (box_at part.now b) (base + b.at)) }
 {
     let place = base + b.at;
     let form = b.form;
@@ -73,7 +73,7 @@ fn first_box(n: usize, part: &[u8], b: BoxAt, base: usize, k: usize, depth: usiz
 #[cycle(first_box_first_in)]
 fn first_in(n: usize, part: &[u8], home: usize, base: usize, k: usize, depth: usize) -> usize
     requires { (home ≤ base) × (base + length part.now < 2 ^ 60) }
-    ensures { result ≡ as_number (judgeIn (firstBy n) depth k part.now home base) }
+    ensures { result ≡ as_number (judge_in (first_by n) depth k part.now home base) }
 {
     if depth == 0 {
         return 0;
@@ -107,7 +107,7 @@ fn first_in(n: usize, part: &[u8], home: usize, base: usize, k: usize, depth: us
 // What rule n says of a file.
 pub fn first(n: usize, file: &[u8]) -> Verdict
     requires { length file.now ≤ LONGEST }
-    ensures { result ≡ judgeIn (firstBy n) DEPTH FILE file.now 0 0 }
+    ensures { result ≡ judge_in (first_by n) DEPTH FILE file.now 0 0 }
 {
     let found = first_in(n, file, 0, 0, containers::FILE, containers::DEPTH);
     if found == 0 {

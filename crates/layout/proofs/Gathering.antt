@@ -5,22 +5,22 @@ use mathlib.Core.Path.{◌≡◌, refl, ap}
 use mathlib.Core.Bool.{true}
 use mathlib.Core.List.{List}
 use lib.ListN.{length}
-use Rattle.wire.specs.Clauses.{oneIf}
+use Rattle.wire.specs.Clauses.{one_if}
 use Rattle.boxes.specs.declared.walk.Form.{Form}
 use Rattle.boxes.specs.declared.walk.Form.TheVariants.{Plain, Wide, Open}
 use Rattle.boxes.specs.declared.walk.Walk.{Walk}
 use Rattle.boxes.specs.declared.walk.BoxAt.{BoxAt}
-use Rattle.boxes.specs.Box.{is_plain, isOpen}
+use Rattle.boxes.specs.Box.{is_plain, is_open}
 use Rattle.boxes.specs.Walk.{Ran, Over}
 use Rattle.layout.specs.declared.gather.Slot.{Slot}
 use Rattle.layout.specs.declared.gather.Want.{Want}
 use Rattle.layout.specs.declared.gather.Five.{Five}
-use Rattle.layout.specs.Slots.{slotIn, Lies, nowhere, note_of, endingOf, Gathered}
-use Rattle.layout.proofs.Noting.{Noted, noted-none, note-fits, noted_more, stands, Going, going-none, going_more, going-tiled, going-shut}
+use Rattle.layout.specs.Slots.{slot_in, Lies, nowhere, note_of, ending_of, Gathered}
+use Rattle.layout.proofs.Noting.{Noted, noted_none, note_fits, noted_more, stands, Going, going_none, going_more, going_tiled, going_shut}
 
 -- of the container o, whose bytes are ys: five slots, for the boxes before place at, of which n are open
 pub record Walked (xs ys : List ℕ) (o : Slot) (at n : ℕ) (a b c d e : Want) (i j k l m : Slot) : Type 0 where
-  pub part : ys ≡ slotIn xs o
+  pub part : ys ≡ slot_in xs o
   pub lies : Lies xs o
   pub short : length xs < 2 ^ 63
   pub first : Noted xs ys o.from a at i
@@ -30,7 +30,7 @@ pub record Walked (xs ys : List ℕ) (o : Slot) (at n : ℕ) (a b c d e : Want) 
   pub fifth : Noted xs ys o.from e at m
   pub going : Going ys at n
 
-pub walked_none : {xs ys : List ℕ} {o : Slot} {a b c d e : Want} {i j k l m : Slot} → ys ≡ slotIn xs o → Lies xs o → length xs < 2 ^ 63
+pub walked_none : {xs ys : List ℕ} {o : Slot} {a b c d e : Want} {i j k l m : Slot} → ys ≡ slot_in xs o → Lies xs o → length xs < 2 ^ 63
     → (0 < a.code) × (0 < b.code) × (0 < c.code) × (0 < d.code) × (0 < e.code)
     → (i ≡ nowhere) × (j ≡ nowhere) × (k ≡ nowhere) × (l ≡ nowhere) × (m ≡ nowhere) → Walked xs ys o 0 0 a b c d e i j k l m
 walked_none y w h p q =
@@ -38,28 +38,28 @@ walked_none y w h p q =
       part = y;
       lies = w;
       short = h;
-      first = noted-none _ _ _ _ p.0 q.0;
-      second = noted-none _ _ _ _ p.1 q.1;
-      third = noted-none _ _ _ _ p.2 q.2;
-      fourth = noted-none _ _ _ _ p.3 q.3;
-      fifth = noted-none _ _ _ _ p.4 q.4;
-      going = going-none _;
+      first = noted_none _ _ _ _ p.0 q.0;
+      second = noted_none _ _ _ _ p.1 q.1;
+      third = noted_none _ _ _ _ p.2 q.2;
+      fourth = noted_none _ _ _ _ p.3 q.3;
+      fifth = noted_none _ _ _ _ p.4 q.4;
+      going = going_none _;
     }
 
-none_open : (f : Form) (n : ℕ) → is_plain f ≡ true → n ≡ n + oneIf (isOpen f)
-unfolding oneIf
+none_open : (f : Form) (n : ℕ) → is_plain f ≡ true → n ≡ n + one_if (is_open f)
+unfolding one_if
 none_open Plain n e = omega arith
 none_open Wide n e = let z : ◌≡◌ {A = ℕ} 0 1 = cc in absurd (omega arith)
 none_open Open n e = let z : ◌≡◌ {A = ℕ} 0 1 = cc in absurd (omega arith)
 
 module _ {xs ys : List ℕ} {o : Slot} {at n : ℕ} {a b c d e : Want} {i j k l m : Slot} (w : Walked xs ys o at n a b c d e i j k l m) where
   module _ {x : BoxAt} {v : Walk} (r : Ran ys at x v) where
-    pub walked-fits : {u : Want} {s : Slot} → Noted xs ys o.from u at s → (s.n < 2 ^ 63) × (x.head ≤ x.span) × (o.from + (x.at + x.span) < 2 ^ 63)
-    walked-fits t = note-fits w.part w.lies t r w.short
+    pub walked_fits : {u : Want} {s : Slot} → Noted xs ys o.from u at s → (s.n < 2 ^ 63) × (x.head ≤ x.span) × (o.from + (x.at + x.span) < 2 ^ 63)
+    walked_fits t = note_fits w.part w.lies t r w.short
 
     module _ {i' j' k' l' m' : Slot} (q : (i' ≡ note_of i a x o.from) × (j' ≡ note_of j b x o.from) × (k' ≡ note_of k c x o.from)
         × (l' ≡ note_of l d x o.from) × (m' ≡ note_of m e x o.from)) where
-      pub walked_more : {n' : ℕ} → n' ≡ n + oneIf (isOpen x.form) → Walked xs ys o v.at n' a b c d e i' j' k' l' m'
+      pub walked_more : {n' : ℕ} → n' ≡ n + one_if (is_open x.form) → Walked xs ys o v.at n' a b c d e i' j' k' l' m'
       walked_more f =
           record {
             part = w.part;
@@ -73,12 +73,12 @@ module _ {xs ys : List ℕ} {o : Slot} {at n : ℕ} {a b c d e : Want} {i j k l 
             going = going_more w.going r f;
           }
 
-      pub walked-plain : is_plain x.form ≡ true → Walked xs ys o v.at n a b c d e i' j' k' l' m'
-      walked-plain h = walked_more (none_open x.form n h)
+      pub walked_plain : is_plain x.form ≡ true → Walked xs ys o v.at n a b c d e i' j' k' l' m'
+      walked_plain h = walked_more (none_open x.form n h)
 
   -- the end: of the whole container, or of its boxes
   module _ (q : Over ys at) where
-    gathered : {t : ℕ} → ((t ≡ 0 → ⊥) → length ys ≤ at) → (t ≡ 1 → t ≡ endingOf n) → Gathered xs o a b c d e (record { a = i; b = j; c = k; d = l; e = m; tiled = t })
+    gathered : {t : ℕ} → ((t ≡ 0 → ⊥) → length ys ≤ at) → (t ≡ 1 → t ≡ ending_of n) → Gathered xs o a b c d e (record { a = i; b = j; c = k; d = l; e = m; tiled = t })
     gathered f g =
         record {
           first = stands w.part w.first q;
@@ -86,17 +86,17 @@ module _ {xs ys : List ℕ} {o : Slot} {at n : ℕ} {a b c d e : Want} {i j k l 
           third = stands w.part w.third q;
           fourth = stands w.part w.fourth q;
           fifth = stands w.part w.fifth q;
-          tiled = λ z. rw (← w.part) (going-tiled w.going q (f z));
-          shut = λ z. rw (← w.part) (going-shut w.going q (g z) z);
+          tiled = λ z. rw (← w.part) (going_tiled w.going q (f z));
+          shut = λ z. rw (← w.part) (going_shut w.going q (g z) z);
         }
 
-    pub walked_whole : length ys ≤ at → {t : ℕ} → t ≡ endingOf n → Gathered xs o a b c d e (record { a = i; b = j; c = k; d = l; e = m; tiled = t })
+    pub walked_whole : length ys ≤ at → {t : ℕ} → t ≡ ending_of n → Gathered xs o a b c d e (record { a = i; b = j; c = k; d = l; e = m; tiled = t })
     walked_whole h f = gathered (λ z. h) (λ z. f)
 
-    pub walked-torn : Gathered xs o a b c d e (record { a = i; b = j; c = k; d = l; e = m; tiled = 0 })
-    walked-torn = gathered (λ z. absurd (z refl)) (λ z. absurd (omega arith))
+    pub walked_torn : Gathered xs o a b c d e (record { a = i; b = j; c = k; d = l; e = m; tiled = 0 })
+    walked_torn = gathered (λ z. absurd (z refl)) (λ z. absurd (omega arith))
 
 -- five wanted boxes by other names
-pub gathered-as : {xs : List ℕ} {o : Slot} {a b c d e a' b' c' d' e' : Want} {g : Five} → (a ≡ a') × (b ≡ b') × (c ≡ c') × (d ≡ d') × (e ≡ e')
+pub gathered_as : {xs : List ℕ} {o : Slot} {a b c d e a' b' c' d' e' : Want} {g : Five} → (a ≡ a') × (b ≡ b') × (c ≡ c') × (d ≡ d') × (e ≡ e')
     → Gathered xs o a b c d e g → Gathered xs o a' b' c' d' e' g
-gathered-as q h = rw (← q.0, ← q.1, ← q.2, ← q.3, ← q.4) h
+gathered_as q h = rw (← q.0, ← q.1, ← q.2, ← q.3, ← q.4) h

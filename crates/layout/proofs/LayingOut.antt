@@ -5,9 +5,9 @@ use mathlib.Core.Path.{◌≡◌, sym, ap, subst, ◌∙◌}
 use mathlib.Core.List.{List}
 use lib.ListN.{length}
 use lib.Seq.{take-length}
-use Rattle.wire.specs.Clauses.{is_eq, oneIf}
-use Rattle.wire.proofs.Tests.{lt-or}
-use Rattle.wire.proofs.Clauses.{eq_is, was-yea}
+use Rattle.wire.specs.Clauses.{is_eq, one_if}
+use Rattle.wire.proofs.Tests.{lt_or}
+use Rattle.wire.proofs.Clauses.{eq_is, was_yea}
 use Rattle.codes.specs.Codes.{FTYP, MOOV, MDAT, MVHD, TRAK}
 use Rattle.boxes.specs.Boxes.{boxes}
 use Rattle.boxes.specs.Containers.{FILE}
@@ -17,45 +17,45 @@ use Rattle.rule_shape.specs.Three.{first}
 use Rattle.layout.specs.declared.gather.Slot.{Slot}
 use Rattle.layout.specs.declared.gather.Five.{Five}
 use Rattle.layout.specs.declared.tracks.Movie.{Movie}
-use Rattle.layout.specs.Slots.{slotIn, firstWith, Stands, Gathered}
+use Rattle.layout.specs.Slots.{slot_in, first_with, Stands, Gathered}
 use Rattle.layout.specs.Track.{At, Has}
-use Rattle.layout.specs.Tracks.{whole_of, wanted, trackSlot, Paired, Peopled, Framed, LaidOut, Spread}
-use Rattle.layout.proofs.Shaped.{none_open, file-shut, moov-shape, file-shape, one_of}
+use Rattle.layout.specs.Tracks.{whole_of, wanted, track_slot, Paired, Peopled, Framed, LaidOut, Spread}
+use Rattle.layout.proofs.Shaped.{none_open, file_shut, moov_shape, file_shape, one_of}
 use Rattle.layout.proofs.Laying.{at_in, place_in}
-use Rattle.layout.proofs.Few.{by-four, no-boxes, none-counted}
+use Rattle.layout.proofs.Few.{by_four, no_boxes, none_counted}
 
-whole_is : (xs : List ℕ) → slotIn xs (whole_of xs) ≡ xs
+whole_is : (xs : List ℕ) → slot_in xs (whole_of xs) ≡ xs
 whole_is xs = let z : length xs - 0 ≡ length xs = omega arith in rw z (take-length xs)
 
-pub all-is : {xs : List ℕ} {s : Slot} → s ≡ whole_of xs → slotIn xs s ≡ xs
-all-is {xs} e = ap (slotIn xs) e ∙ whole_is xs
+pub all_is : {xs : List ℕ} {s : Slot} → s ≡ whole_of xs → slot_in xs s ≡ xs
+all_is {xs} e = ap (slot_in xs) e ∙ whole_is xs
 
-module _ {xs : List ℕ} {s : Slot} (e : s ≡ whole_of xs) {f m : Five} (gf : Gathered xs s (firstWith FTYP) (firstWith MOOV) (firstWith MDAT) (firstWith MDAT)
-    (firstWith MDAT) f)
-    (gm : Gathered xs f.b (firstWith MVHD) (wanted 0) (wanted 1) (wanted 2) (wanted 3) m) where
-  moov-at : At xs (find MOOV (boxes xs)) f.b
-  moov-at = at_in gf.second (all-is e)
+module _ {xs : List ℕ} {s : Slot} (e : s ≡ whole_of xs) {f m : Five} (gf : Gathered xs s (first_with FTYP) (first_with MOOV) (first_with MDAT) (first_with MDAT)
+    (first_with MDAT) f)
+    (gm : Gathered xs f.b (first_with MVHD) (wanted 0) (wanted 1) (wanted 2) (wanted 3) m) where
+  moov_at : At xs (find MOOV (boxes xs)) f.b
+  moov_at = at_in gf.second (all_is e)
 
-  track-at : {i : ℕ} {s : Slot} → Stands xs f.b (wanted i) s → At xs (track xs i) s
+  track_at : {i : ℕ} {s : Slot} → Stands xs f.b (wanted i) s → At xs (track xs i) s
   unfolding track
-  track-at {i} k = record { lies = k.lies; is = k.is ∙ ap (λ (ys : List ℕ). nth TRAK i (boxes ys)) moov-at.is }
+  track_at {i} k = record { lies = k.lies; is = k.is ∙ ap (λ (ys : List ℕ). nth TRAK i (boxes ys)) moov_at.is }
 
-  module _ {r q v w : ℕ} (lf : r ≡ oneIf (is_eq (first (boxes xs)) FTYP)) (of : Paired q f) (pm : Peopled v m) (zr : (w ≡ 0 → ⊥) → r ≡ 0 → ⊥)
+  module _ {r q v w : ℕ} (lf : r ≡ one_if (is_eq (first (boxes xs)) FTYP)) (of : Paired q f) (pm : Peopled v m) (zr : (w ≡ 0 → ⊥) → r ≡ 0 → ⊥)
       (zq : (w ≡ 0 → ⊥) → q ≡ 0 → ⊥) (zv : (w ≡ 0 → ⊥) → v ≡ 0 → ⊥) where
     framed : (w ≡ 0 → ⊥) → Framed xs
     framed z =
         let y = zq z in
         let x = zv z in
         record {
-          file = subst (Has FILE) (all-is e) (record {
+          file = subst (Has FILE) (all_is e) (record {
             two = gf.tiled (of.tiled y);
-            shut = file-shut _;
-            three = file-shape _ (one_of gf.first (of.first y)) (one_of gf.second (of.second y)) (rw (all-is e) (eq_is _ _ (was-yea _ _ (zr z) lf)));
+            shut = file_shut _;
+            three = file_shape _ (one_of gf.first (of.first y)) (one_of gf.second (of.second y)) (rw (all_is e) (eq_is _ _ (was_yea _ _ (zr z) lf)));
           });
-          moov = subst (Has MOOV) moov-at.is (record {
+          moov = subst (Has MOOV) moov_at.is (record {
             two = gm.tiled (λ q. omega (arith, pm.tiled x));
             shut = none_open MOOV _ (gm.shut (pm.tiled x));
-            three = moov-shape _ (one_of gm.first (pm.header x)) (rw (← gm.second.counted) (pm.some x)) (rw (← gm.second.counted) (pm.few x));
+            three = moov_shape _ (one_of gm.first (pm.header x)) (rw (← gm.second.counted) (pm.some x)) (rw (← gm.second.counted) (pm.few x));
           });
         }
 
@@ -74,35 +74,35 @@ module _ {xs : List ℕ} {s : Slot} (e : s ≡ whole_of xs) {f m : Five} (gf : G
     laid_out =
         record {
           shaped = framed;
-          tracks = gm.second.counted ∙ ap (λ (ys : List ℕ). count TRAK (boxes ys)) moov-at.is;
-          ftyp = at_in gf.first (all-is e);
-          moov = moov-at;
-          mdat = subst (λ (o : Slot). Stands xs o (firstWith MDAT) f.c) e gf.third;
-          mvhd = at_in gm.first moov-at.is;
-          one = track-at gm.second;
-          two = track-at gm.third;
-          three = track-at gm.fourth;
-          four = track-at gm.fifth;
+          tracks = gm.second.counted ∙ ap (λ (ys : List ℕ). count TRAK (boxes ys)) moov_at.is;
+          ftyp = at_in gf.first (all_is e);
+          moov = moov_at;
+          mdat = subst (λ (o : Slot). Stands xs o (first_with MDAT) f.c) e gf.third;
+          mvhd = at_in gm.first moov_at.is;
+          one = track_at gm.second;
+          two = track_at gm.third;
+          three = track_at gm.fourth;
+          four = track_at gm.fifth;
         }
 
   -- ---- places
 
-  moov-place : 0 < tracks xs → f.b.from ≡ start_in MOOV 0 (boxes xs)
-  moov-place h =
+  moov_place : 0 < tracks xs → f.b.from ≡ start_in MOOV 0 (boxes xs)
+  moov_place h =
       let n : 0 < length (find MOOV (boxes xs)) =
-      lt-or 0 (length (find MOOV (boxes xs))) (λ k. k) (λ k. absurd (omega (
+      lt_or 0 (length (find MOOV (boxes xs))) (λ k. k) (λ k. absurd (omega (
         arith,
-        ap (count TRAK) (no-boxes (find MOOV (boxes xs))
+        ap (count TRAK) (no_boxes (find MOOV (boxes xs))
             (omega arith)),
-        none-counted TRAK,
+        none_counted TRAK,
       ))) in
-      place_in MOOV gf.second (all-is e) n ∙ ap (λ (p : ℕ). p + start_in MOOV 0 (boxes xs)) (ap (λ (w : Slot). w.from) e) ∙ omega arith
+      place_in MOOV gf.second (all_is e) n ∙ ap (λ (p : ℕ). p + start_in MOOV 0 (boxes xs)) (ap (λ (w : Slot). w.from) e) ∙ omega arith
 
   place_of : {i : ℕ} {w : Slot} → Stands xs f.b (wanted i) w → i < tracks xs → w.from ≡ start_in MOOV 0 (boxes xs) + start_in TRAK i (movie xs)
   place_of {i} {w} k h =
-      let c = ap (λ (ys : List ℕ). count TRAK (boxes ys)) moov-at.is in
-      let p = ap (λ (ys : List ℕ). start_in TRAK i (boxes ys)) moov-at.is in
-      omega (arith, k.place (omega (arith, k.counted)), moov-place (omega arith))
+      let c = ap (λ (ys : List ℕ). count TRAK (boxes ys)) moov_at.is in
+      let p = ap (λ (ys : List ℕ). start_in TRAK i (boxes ys)) moov_at.is in
+      omega (arith, k.place (omega (arith, k.counted)), moov_place (omega arith))
 
   pub spread : (w : ℕ) → Spread xs (record {
     shaped = w;
@@ -116,16 +116,16 @@ module _ {xs : List ℕ} {s : Slot} (e : s ≡ whole_of xs) {f m : Five} (gf : G
     three = m.d;
     four = m.e;
   })
-  unfolding trackSlot
+  unfolding track_slot
   spread w =
       record {
         place = λ i h k.
-            by-four (λ (j : ℕ) (s : Slot). j < tracks xs → s.from ≡ start_in MOOV 0 (boxes xs) + start_in TRAK j (movie xs)) (place_of gm.second) (place_of gm.third)
+            by_four (λ (j : ℕ) (s : Slot). j < tracks xs → s.from ≡ start_in MOOV 0 (boxes xs) + start_in TRAK j (movie xs)) (place_of gm.second) (place_of gm.third)
             (place_of gm.fourth) (place_of gm.fifth) i h k;
       }
 
 -- ---- a track by its number
 
-pub slot_at : {xs : List ℕ} {m : Movie} → LaidOut xs m → (i : ℕ) → i < 4 → At xs (track xs i) (trackSlot m i)
-unfolding trackSlot
-slot_at {xs} l i h = by-four (λ j s. At xs (track xs j) s) l.one l.two l.three l.four i h
+pub slot_at : {xs : List ℕ} {m : Movie} → LaidOut xs m → (i : ℕ) → i < 4 → At xs (track xs i) (track_slot m i)
+unfolding track_slot
+slot_at {xs} l i h = by_four (λ j s. At xs (track xs j) s) l.one l.two l.three l.four i h

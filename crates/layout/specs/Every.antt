@@ -1,46 +1,46 @@
 -- What every track of a file says, and where its lists stand.
 use Rattle.std.specs.Prelude.{ℕ, ◌+◌, ◌<◌, ◌≡◌, List, length}
-use Rattle.wire.specs.Tests.{ifEq}
+use Rattle.wire.specs.Tests.{if_eq}
 use Rattle.wire.specs.Numbers.{word}
 use Rattle.codes.specs.Codes.{MOOV, TRAK, STTS}
 use Rattle.boxes.specs.Boxes.{boxes}
 use Rattle.boxes.specs.Seek.{start_in}
-use Rattle.movie.specs.Ways.{toStsd, to_table, follow, startAlong}
-use Rattle.movie.specs.Movie.{movie, tracks, track, handler as handlerOf, scale as scale_of, movieTicks}
+use Rattle.movie.specs.Ways.{to_stsd, to_table, follow, start_along}
+use Rattle.movie.specs.Movie.{movie, tracks, track, handler as handler_of, scale as scale_of, movie_ticks}
 use Rattle.layout.specs.declared.gather.Slot.{Slot}
 use Rattle.layout.specs.declared.track.Track.{Track}
 use Rattle.layout.specs.declared.every.ReadTrack.{ReadTrack}
 use Rattle.layout.specs.declared.every.Tracks.{Tracks}
-use Rattle.layout.specs.Slots.{slotIn, nowhere, Lies}
+use Rattle.layout.specs.Slots.{slot_in, nowhere, Lies}
 use Rattle.layout.specs.Track.{At}
 
 -- a track without boxes
-abbrev pub blankOf : ReadTrack
-blankOf = record { handler = 0; scale = 0; ticks = 0; stsd = nowhere; stts = nowhere }
+abbrev pub blank_of : ReadTrack
+blank_of = record { handler = 0; scale = 0; ticks = 0; stsd = nowhere; stts = nowhere }
 
 -- from where its boxes stand
-abbrev pub toldIn : List ℕ → Track → ReadTrack
-toldIn xs t =
+abbrev pub told_in : List ℕ → Track → ReadTrack
+told_in xs t =
     record {
-      handler = word 4 (slotIn xs t.hdlr) 8;
-      scale = word 4 (slotIn xs t.mdhd) 12;
-      ticks = word 4 (slotIn xs t.tkhd) 20;
+      handler = word 4 (slot_in xs t.hdlr) 8;
+      scale = word 4 (slot_in xs t.mdhd) 12;
+      ticks = word 4 (slot_in xs t.tkhd) 20;
       stsd = t.stsd;
       stts = t.stts;
     }
 
 -- the track whose payload b starts at place p of the file
 pub record ToldAt (xs b : List ℕ) (p : ℕ) (k : ReadTrack) : Type 0 where
-  pub handler : k.handler ≡ handlerOf b
+  pub handler : k.handler ≡ handler_of b
   pub scale : k.scale ≡ scale_of b
-  pub ticks : k.ticks ≡ movieTicks b
-  pub stsd : At xs (follow toStsd b) k.stsd
+  pub ticks : k.ticks ≡ movie_ticks b
+  pub stsd : At xs (follow to_stsd b) k.stsd
   pub stts : At xs (follow (to_table STTS) b) k.stts
-  pub place : 0 < length (follow toStsd b) → k.stsd.from ≡ p + startAlong toStsd b
+  pub place : 0 < length (follow to_stsd b) → k.stsd.from ≡ p + start_along to_stsd b
 
 -- the one whose payload is a slot
 abbrev pub ReadAt : List ℕ → Slot → ReadTrack → Type 0
-ReadAt xs o k = ToldAt xs (slotIn xs o) o.from k
+ReadAt xs o k = ToldAt xs (slot_in xs o) o.from k
 
 -- where the payload of track t, from 0, starts
 abbrev pub start_of : List ℕ → ℕ → ℕ
@@ -56,19 +56,19 @@ abbrev pub TrackAt : List ℕ → ℕ → ReadTrack → Type 0
 TrackAt xs t k = ToldAt xs (track xs t) (start_of xs t) k
 
 -- the one of a number, of four
-unfoldable pub trackOf : Tracks → ℕ → ReadTrack
-trackOf e t = ifEq t 0 e.one (ifEq t 1 e.two (ifEq t 2 e.three e.four))
+unfoldable pub track_of : Tracks → ℕ → ReadTrack
+track_of e t = if_eq t 0 e.one (if_eq t 1 e.two (if_eq t 2 e.three e.four))
 
 -- so many without boxes
-abbrev pub blanksOf : ℕ → Tracks
-blanksOf n = record { count = n; one = blankOf; two = blankOf; three = blankOf; four = blankOf }
+abbrev pub blanks_of : ℕ → Tracks
+blanks_of n = record { count = n; one = blank_of; two = blank_of; three = blank_of; four = blank_of }
 
 -- with the track k in place of the one of number t
-unfoldable pub withTrack : Tracks → ℕ → ReadTrack → Tracks
-withTrack e t k =
-    ifEq t 0 (record { count = e.count; one = k; two = e.two; three = e.three; four = e.four })
-    (ifEq t 1 (record { count = e.count; one = e.one; two = k; three = e.three; four = e.four })
-    (ifEq t 2 (record { count = e.count; one = e.one; two = e.two; three = k; four = e.four })
+unfoldable pub with_track : Tracks → ℕ → ReadTrack → Tracks
+with_track e t k =
+    if_eq t 0 (record { count = e.count; one = k; two = e.two; three = e.three; four = e.four })
+    (if_eq t 1 (record { count = e.count; one = e.one; two = k; three = e.three; four = e.four })
+    (if_eq t 2 (record { count = e.count; one = e.one; two = e.two; three = k; four = e.four })
     (record { count = e.count; one = e.one; two = e.two; three = e.three; four = k })))
 
 pub record TracksAt (xs : List ℕ) (e : Tracks) : Type 0 where

@@ -1,9 +1,9 @@
 -- What one walk over the boxes of a container finds: of each code how many boxes it has, and where in the file the payload of one of them stands.
 use Rattle.std.specs.Prelude.{ℕ, ◌+◌, ◌-◌, ◌≤◌, ◌<◌, ◌≡◌, true, List, [], ◌∷◌, length, take, drop}
-use Rattle.wire.specs.Tests.{ifEq}
-use Rattle.wire.specs.Clauses.{oneIf}
+use Rattle.wire.specs.Tests.{if_eq}
+use Rattle.wire.specs.Clauses.{one_if}
 use Rattle.boxes.specs.declared.walk.BoxAt.{BoxAt}
-use Rattle.boxes.specs.Box.{Box, isOpen}
+use Rattle.boxes.specs.Box.{Box, is_open}
 use Rattle.boxes.specs.Boxes.{boxes, tiles}
 use Rattle.boxes.specs.Seek.{count, nth, start_in}
 use Rattle.layout.specs.declared.gather.Slot.{Slot}
@@ -11,8 +11,8 @@ use Rattle.layout.specs.declared.gather.Want.{Want}
 use Rattle.layout.specs.declared.gather.Five.{Five}
 
 -- the bytes of a slot of the file xs
-abbrev pub slotIn : List ℕ → Slot → List ℕ
-slotIn xs s = take (s.to - s.from) (drop s.from xs)
+abbrev pub slot_in : List ℕ → Slot → List ℕ
+slot_in xs s = take (s.to - s.from) (drop s.from xs)
 
 -- they lie inside it
 pub record Lies (xs : List ℕ) (s : Slot) : Type 0 where
@@ -22,32 +22,32 @@ pub record Lies (xs : List ℕ) (s : Slot) : Type 0 where
 -- of the container o, which is a slot: how many boxes it has of the code that is wanted, the payload of the wanted one, and its place
 pub record Stands (xs : List ℕ) (o : Slot) (w : Want) (s : Slot) : Type 0 where
   pub lies : Lies xs s
-  pub counted : s.n ≡ count w.code (boxes (slotIn xs o))
-  pub is : slotIn xs s ≡ nth w.code w.nth (boxes (slotIn xs o))
-  pub place : w.nth < s.n → s.from ≡ o.from + start_in w.code w.nth (boxes (slotIn xs o))
+  pub counted : s.n ≡ count w.code (boxes (slot_in xs o))
+  pub is : slot_in xs s ≡ nth w.code w.nth (boxes (slot_in xs o))
+  pub place : w.nth < s.n → s.from ≡ o.from + start_in w.code w.nth (boxes (slot_in xs o))
 
 abbrev pub nowhere : Slot
 nowhere = record { n = 0; from = 0; to = 0 }
 
-abbrev pub firstWith : ℕ → Want
-firstWith c = record { code = c; nth = 0 }
+abbrev pub first_with : ℕ → Want
+first_with c = record { code = c; nth = 0 }
 
 -- the slot of a wanted box, past one more box of a part that starts at place p
 unfoldable pub note_of : Slot → Want → BoxAt → ℕ → Slot
 note_of s w b p =
-    ifEq b.code w.code
-    (ifEq s.n w.nth
+    if_eq b.code w.code
+    (if_eq s.n w.nth
     (record { n = s.n + 1; from = p + (b.at + b.head); to = p + (b.at + b.span) })
     (record { n = s.n + 1; from = s.from; to = s.to })) s
 
 -- how many boxes are open
 unfoldable pub opens : List Box → ℕ
 opens [] = 0
-opens (x ∷ l) = oneIf (isOpen x.form) + opens l
+opens (x ∷ l) = one_if (is_open x.form) + opens l
 
 -- how a container ends that boxes tile, n of them open
-unfoldable pub endingOf : ℕ → ℕ
-endingOf n = ifEq n 0 1 2
+unfoldable pub ending_of : ℕ → ℕ
+ending_of n = if_eq n 0 1 2
 
 -- of five wanted boxes; the container ends as 1 only where none is open
 pub record Gathered (xs : List ℕ) (o : Slot) (a b c d e : Want) (g : Five) : Type 0 where
@@ -56,8 +56,8 @@ pub record Gathered (xs : List ℕ) (o : Slot) (a b c d e : Want) (g : Five) : T
   pub third : Stands xs o c g.c
   pub fourth : Stands xs o d g.d
   pub fifth : Stands xs o e g.e
-  pub tiled : (g.tiled ≡ 0 → ⊥) → tiles (slotIn xs o) ≡ true
-  pub shut : g.tiled ≡ 1 → opens (boxes (slotIn xs o)) ≡ 0
+  pub tiled : (g.tiled ≡ 0 → ⊥) → tiles (slot_in xs o) ≡ true
+  pub shut : g.tiled ≡ 1 → opens (boxes (slot_in xs o)) ≡ 0
 
 -- an answer other than 0 says that boxes tile the container and none is open, and that each of five codes has one box
 pub record Alone (r : ℕ) (g : Five) : Type 0 where

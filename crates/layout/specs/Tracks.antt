@@ -1,19 +1,19 @@
 -- Where the tracks of a file stand, and that the file and its `moov` have the boxes of rules 2 and 3.
 use Rattle.std.specs.Prelude.{ℕ, ◌+◌, ◌≤◌, ◌<◌, ◌≡◌, List, length}
-use Rattle.wire.specs.Tests.{ifEq}
+use Rattle.wire.specs.Tests.{if_eq}
 use Rattle.codes.specs.Codes.{FTYP, MOOV, MDAT, MVHD, TRAK}
 use Rattle.boxes.specs.declared.walk.BoxAt.{BoxAt}
 use Rattle.boxes.specs.Boxes.{boxes}
 use Rattle.boxes.specs.Containers.{FILE}
 use Rattle.boxes.specs.Seek.{find, start_in}
-use Rattle.movie.specs.Movie.{movie, tracks as tracksOf, track}
+use Rattle.movie.specs.Movie.{movie, tracks as tracks_of, track}
 use Rattle.layout.specs.declared.gather.Slot.{Slot}
 use Rattle.layout.specs.declared.gather.Want.{Want}
 use Rattle.layout.specs.declared.gather.Five.{Five}
 use Rattle.layout.specs.declared.moov.Ends.{Ends}
 use Rattle.layout.specs.declared.moov.Four.{Four}
 use Rattle.layout.specs.declared.tracks.Movie.{Movie}
-use Rattle.layout.specs.Slots.{firstWith, note_of, Stands}
+use Rattle.layout.specs.Slots.{first_with, note_of, Stands}
 use Rattle.layout.specs.Track.{At, Has}
 
 -- the file as a slot
@@ -25,23 +25,23 @@ abbrev pub wanted : ℕ → Want
 wanted i = record { code = TRAK; nth = i }
 
 -- of so many boxes one that stands there
-abbrev pub slotWith : ℕ → Ends → Slot
-slotWith n e = record { n = n; from = e.from; to = e.to }
+abbrev pub slot_with : ℕ → Ends → Slot
+slot_with n e = record { n = n; from = e.from; to = e.to }
 
 -- what was found of a code, and of tracks with one count
-abbrev pub fiveOf : Slot → Four → ℕ → Five
-fiveOf i f t = record { a = i; b = slotWith f.n f.one; c = slotWith f.n f.two; d = slotWith f.n f.three; e = slotWith f.n f.four; tiled = t }
+abbrev pub five_of : Slot → Four → ℕ → Five
+five_of i f t = record { a = i; b = slot_with f.n f.one; c = slot_with f.n f.two; d = slot_with f.n f.three; e = slot_with f.n f.four; tiled = t }
 
 -- the first four tracks past one more box of a part that starts at place p
 pub record Further (f : Four) (b : BoxAt) (p : ℕ) (r : Four) : Type 0 where
-  pub one : slotWith r.n r.one ≡ note_of (slotWith f.n f.one) (wanted 0) b p
-  pub two : slotWith r.n r.two ≡ note_of (slotWith f.n f.two) (wanted 1) b p
-  pub three : slotWith r.n r.three ≡ note_of (slotWith f.n f.three) (wanted 2) b p
-  pub four : slotWith r.n r.four ≡ note_of (slotWith f.n f.four) (wanted 3) b p
+  pub one : slot_with r.n r.one ≡ note_of (slot_with f.n f.one) (wanted 0) b p
+  pub two : slot_with r.n r.two ≡ note_of (slot_with f.n f.two) (wanted 1) b p
+  pub three : slot_with r.n r.three ≡ note_of (slot_with f.n f.three) (wanted 2) b p
+  pub four : slot_with r.n r.four ≡ note_of (slot_with f.n f.four) (wanted 3) b p
 
 -- the slot of track i, from 0
-unfoldable pub trackSlot : Movie → ℕ → Slot
-trackSlot m i = ifEq i 0 m.one (ifEq i 1 m.two (ifEq i 2 m.three m.four))
+unfoldable pub track_slot : Movie → ℕ → Slot
+track_slot m i = if_eq i 0 m.one (if_eq i 1 m.two (if_eq i 2 m.three m.four))
 
 -- an answer other than 0 says that boxes tile a file, and that it has one `ftyp` and one `moov`
 pub record Paired (r : ℕ) (g : Five) : Type 0 where
@@ -58,7 +58,7 @@ pub record Peopled (r : ℕ) (g : Five) : Type 0 where
 
 -- the first `mdat` of the file
 abbrev pub FirstMdat : List ℕ → Slot → Type 0
-FirstMdat xs s = Stands xs (whole_of xs) (firstWith MDAT) s
+FirstMdat xs s = Stands xs (whole_of xs) (first_with MDAT) s
 
 -- rules 2 and 3 of the file and of its `moov`, of these two alone
 pub record Framed (xs : List ℕ) : Type 0 where
@@ -67,7 +67,7 @@ pub record Framed (xs : List ℕ) : Type 0 where
 
 pub record LaidOut (xs : List ℕ) (m : Movie) : Type 0 where
   pub shaped : (m.shaped ≡ 0 → ⊥) → Framed xs
-  pub tracks : m.tracks ≡ tracksOf xs
+  pub tracks : m.tracks ≡ tracks_of xs
   pub ftyp : At xs (find FTYP (boxes xs)) m.ftyp
   pub moov : At xs (find MOOV (boxes xs)) m.moov
   pub mdat : FirstMdat xs m.mdat
@@ -79,4 +79,4 @@ pub record LaidOut (xs : List ℕ) (m : Movie) : Type 0 where
 
 -- and where the payload of each track starts in the file
 pub record Spread (xs : List ℕ) (m : Movie) : Type 0 where
-  pub place : (i : ℕ) → i < 4 → i < tracksOf xs → (trackSlot m i).from ≡ start_in MOOV 0 (boxes xs) + start_in TRAK i (movie xs)
+  pub place : (i : ℕ) → i < 4 → i < tracks_of xs → (track_slot m i).from ≡ start_in MOOV 0 (boxes xs) + start_in TRAK i (movie xs)

@@ -1,11 +1,11 @@
 // The sample entries of a file by number, from where the lists of its tracks stand.
 ghost use Rattle.std.specs.Prelude.{◌≡◌, ◌+◌, ◌*◌, ◌≤◌, ◌<◌, length};
 ghost use Rattle.boxes.specs.Containers.{LONGEST};
-ghost use Rattle.movie.specs.Movie.{tracks as tracksOf};
-ghost use Rattle.movie.specs.Entries.{entries as entriesOfFile};
+ghost use Rattle.movie.specs.Movie.{tracks as tracks_of};
+ghost use Rattle.movie.specs.Entries.{entries as entries_of_file};
 ghost use Rattle.movie.specs.Named.{PlacedAs, NamedAs};
 ghost use Rattle.layout.specs.Every.{TracksAt};
-ghost use Rattle.layout.specs.Entries.{listSlot, ListAt, ListsAt};
+ghost use Rattle.layout.specs.Entries.{list_slot, ListAt, ListsAt};
 
 use crate::every::Tracks;
 use crate::gather::Slot;
@@ -62,7 +62,7 @@ pub fn lay(file: &[u8], e: Tracks) -> Lists
 
 // The one of track t.
 pub fn list_slot(l: Lists, t: usize) -> Slot
-    ensures { result ≡ listSlot l t }
+    ensures { result ≡ list_slot l t }
 {
     if t == 0 {
         return l.one;
@@ -94,7 +94,7 @@ fn entry_in(file: &[u8], s: Slot, t: usize, n: usize) -> Named
 
 // Entry i, from 0 and in file order.
 pub fn entry(file: &[u8], l: Lists, i: usize) -> Named
-    requires { ListsAt file.now l × (tracksOf file.now ≤ 4) × (length file.now ≤ LONGEST) }
+    requires { ListsAt file.now l × (tracks_of file.now ≤ 4) × (length file.now ≤ LONGEST) }
     ensures { NamedAs file.now i result }
 {
     let n = l.tracks;
@@ -113,8 +113,8 @@ pub fn entry(file: &[u8], l: Lists, i: usize) -> Named
 
 // How many entries the file has.
 pub fn count(file: &[u8], l: Lists) -> usize
-    requires { ListsAt file.now l × (tracksOf file.now ≤ 4) × (length file.now ≤ LONGEST) }
-    ensures { (result ≡ length (entriesOfFile file.now)) × (result ≤ 4 * LONGEST) }
+    requires { ListsAt file.now l × (tracks_of file.now ≤ 4) × (length file.now ≤ LONGEST) }
+    ensures { (result ≡ length (entries_of_file file.now)) × (result ≤ 4 * LONGEST) }
 {
     let n = l.tracks;
     let mut t = 0;

@@ -1,8 +1,8 @@
 // What every track of a file says, and where its lists stand: all that the reads ask for.
 ghost use Rattle.std.specs.Prelude.{◌≡◌};
-ghost use Rattle.movie.specs.Movie.{tracks as tracksOf};
+ghost use Rattle.movie.specs.Movie.{tracks as tracks_of};
 ghost use Rattle.layout.specs.Slots.{Lies};
-ghost use Rattle.layout.specs.Every.{blankOf, blanksOf, toldIn, trackOf, withTrack, TrakAt, TrackAt, TracksAt};
+ghost use Rattle.layout.specs.Every.{blank_of, blanks_of, told_in, track_of, with_track, TrakAt, TrackAt, TracksAt};
 
 use crate::gather::Slot;
 use crate::track::Track;
@@ -31,7 +31,7 @@ pub struct Tracks {
 
 // A track without boxes.
 fn blank() -> ReadTrack
-    ensures { result ≡ blankOf }
+    ensures { result ≡ blank_of }
 {
     let none = gather::none();
     ReadTrack {
@@ -46,7 +46,7 @@ fn blank() -> ReadTrack
 // From where its boxes stand.
 pub fn told(file: &[u8], t: Track) -> ReadTrack
     requires { Lies file.now t.hdlr × Lies file.now t.mdhd × Lies file.now t.tkhd }
-    ensures { result ≡ toldIn file.now t }
+    ensures { result ≡ told_in file.now t }
 {
     let hdlr = t.hdlr;
     let mdhd = t.mdhd;
@@ -64,7 +64,7 @@ pub fn told(file: &[u8], t: Track) -> ReadTrack
 
 // Track t, from 0, of n.
 fn track_at(file: &[u8], n: usize, trak: Slot, t: usize) -> ReadTrack
-    requires { (n ≡ tracksOf file.now) × TrakAt file.now t trak }
+    requires { (n ≡ tracks_of file.now) × TrakAt file.now t trak }
     ensures { TrackAt file.now t result }
 {
     if n <= t {
@@ -94,7 +94,7 @@ pub fn lay(file: &[u8]) -> Tracks
 
 // The one of a number, of four.
 pub fn track(e: Tracks, t: usize) -> ReadTrack
-    ensures { result ≡ trackOf e t }
+    ensures { result ≡ track_of e t }
 {
     if t == 0 {
         return e.one;
@@ -110,7 +110,7 @@ pub fn track(e: Tracks, t: usize) -> ReadTrack
 
 // So many, without boxes.
 pub fn blanks(count: usize) -> Tracks
-    ensures { result ≡ blanksOf count }
+    ensures { result ≡ blanks_of count }
 {
     let none = blank();
     Tracks {
@@ -124,7 +124,7 @@ pub fn blanks(count: usize) -> Tracks
 
 // With a track in place of the one of a number, of four.
 pub fn with_track(e: Tracks, t: usize, k: ReadTrack) -> Tracks
-    ensures { result ≡ withTrack e t k }
+    ensures { result ≡ with_track e t k }
 {
     let count = e.count;
     let one = e.one;

@@ -1,8 +1,8 @@
 // What a walk over the boxes of a container fills, and one over boxes of any form.
 ghost use Rattle.std.specs.Prelude.{◌≡◌, ◌+◌, ◌^◌, ◌≤◌, ◌<◌, length};
-ghost use Rattle.wire.specs.Clauses.{oneIf};
-ghost use Rattle.boxes.specs.Box.{isOpen};
-ghost use Rattle.layout.specs.Slots.{endingOf, slotIn, nowhere, firstWith, note_of, Lies, Gathered, Alone, Both};
+ghost use Rattle.wire.specs.Clauses.{one_if};
+ghost use Rattle.boxes.specs.Box.{is_open};
+ghost use Rattle.layout.specs.Slots.{ending_of, slot_in, nowhere, first_with, note_of, Lies, Gathered, Alone, Both};
 
 use boxes::walk;
 use boxes::walk::{BoxAt, Step, Walk};
@@ -46,7 +46,7 @@ pub fn none() -> Slot
 
 // The first box of a code.
 pub fn first(code: usize) -> Want
-    ensures { result ≡ firstWith code }
+    ensures { result ≡ first_with code }
 {
     Want { code, nth: 0 }
 }
@@ -54,7 +54,7 @@ pub fn first(code: usize) -> Want
 // The bytes of a slot.
 pub fn bytes(file: &[u8], s: Slot) -> &[u8]
     requires { Lies file.now s }
-    ensures { result.now ≡ slotIn file.now s }
+    ensures { result.now ≡ slot_in file.now s }
 {
     let from = s.from;
     let to = s.to;
@@ -86,7 +86,7 @@ pub fn note(s: Slot, want: Want, b: BoxAt, base: usize) -> Slot
 // How many boxes are open, with one box more.
 pub fn opened(endless: usize, b: BoxAt) -> usize
     requires { endless < 2 ^ 63 }
-    ensures { result ≡ endless + oneIf (isOpen b.form) }
+    ensures { result ≡ endless + one_if (is_open b.form) }
 {
     let form = b.form;
     endless + walk::is_open(form)
@@ -94,7 +94,7 @@ pub fn opened(endless: usize, b: BoxAt) -> usize
 
 // How a container ends that boxes tile, of which so many are open.
 pub fn ending(endless: usize) -> usize
-    ensures { result ≡ endingOf endless }
+    ensures { result ≡ ending_of endless }
 {
     if endless == 0 {
         return 1;

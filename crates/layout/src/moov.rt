@@ -1,8 +1,8 @@
 // One walk over the plain boxes of a `moov`, for its first four tracks.
 ghost use Rattle.std.specs.Prelude.{◌≡◌, ◌+◌, ◌^◌, ◌≤◌, ◌<◌};
-ghost use Rattle.wire.specs.Tests.{ifEq};
-ghost use Rattle.layout.specs.Slots.{firstWith, Lies, Gathered};
-ghost use Rattle.layout.specs.Tracks.{wanted, slotWith, fiveOf, Further};
+ghost use Rattle.wire.specs.Tests.{if_eq};
+ghost use Rattle.layout.specs.Slots.{first_with, Lies, Gathered};
+ghost use Rattle.layout.specs.Tracks.{wanted, slot_with, five_of, Further};
 
 use crate::gather;
 use crate::gather::{Five, Slot, Want};
@@ -28,7 +28,7 @@ pub struct Four {
 // The ends of track i, past one more track, number n, at b of a part that starts at base.
 fn ends_past(e: Ends, n: usize, i: usize, b: BoxAt, base: usize) -> Ends
     requires { (b.head ≤ b.span) × (base + (b.at + b.span) < 2 ^ 63) }
-    ensures { slotWith (n + 1) result ≡ ifEq n i (record { n = n + 1; from = base + (b.at + b.head); to = base + (b.at + b.span) }) (slotWith (n + 1) e) }
+    ensures { slot_with (n + 1) result ≡ if_eq n i (record { n = n + 1; from = base + (b.at + b.head); to = base + (b.at + b.span) }) (slot_with (n + 1) e) }
 {
     if n == i {
         return Ends {
@@ -72,7 +72,7 @@ fn more(f: Four, b: BoxAt, base: usize) -> Four
 
 // What was found of a code and of tracks.
 fn found(i: Slot, f: Four, tiled: usize) -> Five
-    ensures { result ≡ fiveOf i f tiled }
+    ensures { result ≡ five_of i f tiled }
 {
     let n = f.n;
     Five {
@@ -104,7 +104,7 @@ fn found(i: Slot, f: Four, tiled: usize) -> Five
 // The first box of a code in a `moov`, and its first four tracks, which have one count.
 pub fn with_tracks(file: &[u8], moov: Slot, code: usize) -> Five
     requires { Lies file.now moov × (0 < code) }
-    ensures { (result.tiled ≡ 0 → ⊥) → Gathered file.now moov (firstWith code) (wanted 0) (wanted 1) (wanted 2) (wanted 3) result }
+    ensures { (result.tiled ≡ 0 → ⊥) → Gathered file.now moov (first_with code) (wanted 0) (wanted 1) (wanted 2) (wanted 3) result }
 {
     let part = gather::bytes(file, moov);
     let nowhere = Ends { from: 0, to: 0 };

@@ -1,7 +1,7 @@
 // One walk over the plain boxes of a container, for the first box of one code, two, three or five: the fewer slots, the less time.
 // Where a box of another form stands it says nothing. The slots past the codes are the last one again.
 ghost use Rattle.std.specs.Prelude.{◌≡◌, ◌<◌};
-ghost use Rattle.layout.specs.Slots.{firstWith, Lies, Gathered};
+ghost use Rattle.layout.specs.Slots.{first_with, Lies, Gathered};
 
 use crate::gather;
 use crate::gather::{Five, Slot, Want};
@@ -9,7 +9,7 @@ use boxes::walk::{Step, Walk};
 
 pub fn one(file: &[u8], whole: Slot, a: usize) -> Five
     requires { Lies file.now whole × (0 < a) }
-    ensures { (result.tiled ≡ 0 → ⊥) → Gathered file.now whole (firstWith a) (firstWith a) (firstWith a) (firstWith a) (firstWith a) result }
+    ensures { (result.tiled ≡ 0 → ⊥) → Gathered file.now whole (first_with a) (first_with a) (first_with a) (first_with a) (first_with a) result }
 {
     let part = gather::bytes(file, whole);
     let none = gather::none();
@@ -47,7 +47,7 @@ pub fn one(file: &[u8], whole: Slot, a: usize) -> Five
 
 pub fn two(file: &[u8], whole: Slot, a: usize, b: usize) -> Five
     requires { Lies file.now whole × (0 < a) × (0 < b) }
-    ensures { (result.tiled ≡ 0 → ⊥) → Gathered file.now whole (firstWith a) (firstWith b) (firstWith b) (firstWith b) (firstWith b) result }
+    ensures { (result.tiled ≡ 0 → ⊥) → Gathered file.now whole (first_with a) (first_with b) (first_with b) (first_with b) (first_with b) result }
 {
     let part = gather::bytes(file, whole);
     let none = gather::none();
@@ -87,7 +87,7 @@ pub fn two(file: &[u8], whole: Slot, a: usize, b: usize) -> Five
 
 pub fn three(file: &[u8], whole: Slot, a: usize, b: usize, c: usize) -> Five
     requires { Lies file.now whole × (0 < a) × (0 < b) × (0 < c) }
-    ensures { (result.tiled ≡ 0 → ⊥) → Gathered file.now whole (firstWith a) (firstWith b) (firstWith c) (firstWith c) (firstWith c) result }
+    ensures { (result.tiled ≡ 0 → ⊥) → Gathered file.now whole (first_with a) (first_with b) (first_with c) (first_with c) (first_with c) result }
 {
     let part = gather::bytes(file, whole);
     let none = gather::none();
@@ -129,7 +129,7 @@ pub fn three(file: &[u8], whole: Slot, a: usize, b: usize, c: usize) -> Five
 
 pub fn five(file: &[u8], whole: Slot, a: usize, b: usize, c: usize, d: usize, e: usize) -> Five
     requires { Lies file.now whole × (0 < a) × (0 < b) × (0 < c) × (0 < d) × (0 < e) }
-    ensures { (result.tiled ≡ 0 → ⊥) → Gathered file.now whole (firstWith a) (firstWith b) (firstWith c) (firstWith d) (firstWith e) result }
+    ensures { (result.tiled ≡ 0 → ⊥) → Gathered file.now whole (first_with a) (first_with b) (first_with c) (first_with d) (first_with e) result }
 {
     let part = gather::bytes(file, whole);
     let none = gather::none();

@@ -1,6 +1,6 @@
 // Where the boxes of a track stand, by one walk over each of its containers.
 ghost use Rattle.std.specs.Prelude.{◌≡◌, ◌<◌};
-ghost use Rattle.layout.specs.Slots.{slotIn, firstWith, Lies, Stands};
+ghost use Rattle.layout.specs.Slots.{slot_in, first_with, Lies, Stands};
 ghost use Rattle.layout.specs.Track.{Laid, StsdPlaced};
 
 use crate::gather::Slot;
@@ -43,7 +43,7 @@ fn unlaid() -> Track
 // Those of the track whose payload is a slot of the file, where all is as rules 2 and 3 want it and plain.
 pub fn lay(file: &[u8], trak: Slot) -> Track
     requires { Lies file.now trak }
-    ensures { (result.shaped ≡ 0 → ⊥) → Laid file.now (slotIn file.now trak) result × StsdPlaced file.now trak result }
+    ensures { (result.shaped ≡ 0 → ⊥) → Laid file.now (slot_in file.now trak) result × StsdPlaced file.now trak result }
 {
     let t = plain::two(file, trak, codes::TKHD, codes::MDIA);
     if gather::alone(t) == 0 {
@@ -96,7 +96,7 @@ pub fn lay(file: &[u8], trak: Slot) -> Track
 // What a container has of a code, and the first box of it, among boxes of any form.
 fn first(file: &[u8], whole: Slot, code: usize) -> Slot
     requires { Lies file.now whole × (0 < code) }
-    ensures { Stands file.now whole (firstWith code) result }
+    ensures { Stands file.now whole (first_with code) result }
 {
     let want = gather::first(code);
     let g = gather::wanted(file, whole, want, want, want, want, want);
@@ -106,7 +106,7 @@ fn first(file: &[u8], whole: Slot, code: usize) -> Slot
 // Those of any track.
 fn any(file: &[u8], trak: Slot) -> Track
     requires { Lies file.now trak }
-    ensures { Laid file.now (slotIn file.now trak) result × StsdPlaced file.now trak result }
+    ensures { Laid file.now (slot_in file.now trak) result × StsdPlaced file.now trak result }
 {
     let mdia = first(file, trak, codes::MDIA);
     let minf = first(file, mdia, codes::MINF);
@@ -129,7 +129,7 @@ fn any(file: &[u8], trak: Slot) -> Track
 // The same, by plain boxes where they are.
 pub fn found(file: &[u8], trak: Slot) -> Track
     requires { Lies file.now trak }
-    ensures { Laid file.now (slotIn file.now trak) result × StsdPlaced file.now trak result }
+    ensures { Laid file.now (slot_in file.now trak) result × StsdPlaced file.now trak result }
 {
     let t = lay(file, trak);
     if t.shaped != 0 {

@@ -1,11 +1,11 @@
 // Where the tracks of a file stand, by one walk over its boxes and one over those of `moov`.
 ghost use Rattle.std.specs.Prelude.{◌≡◌};
-ghost use Rattle.wire.specs.Clauses.{is_eq, oneIf};
+ghost use Rattle.wire.specs.Clauses.{is_eq, one_if};
 ghost use Rattle.codes.specs.Codes.{FTYP};
 ghost use Rattle.boxes.specs.Boxes.{boxes};
 ghost use Rattle.rule_shape.specs.Three.{first};
 ghost use Rattle.layout.specs.Slots.{Lies};
-ghost use Rattle.layout.specs.Tracks.{whole_of, wanted, trackSlot, Paired, Peopled, LaidOut, Spread};
+ghost use Rattle.layout.specs.Tracks.{whole_of, wanted, track_slot, Paired, Peopled, LaidOut, Spread};
 
 use crate::gather::{Five, Slot, Want};
 use crate::{gather, moov, plain};
@@ -73,7 +73,7 @@ fn paired(f: Five) -> usize
 
 // Whether a file starts with `ftyp`: 1 or 0.
 fn led(file: &[u8]) -> usize
-    ensures { result ≡ oneIf (is_eq (first (boxes file.now)) FTYP) }
+    ensures { result ≡ one_if (is_eq (first (boxes file.now)) FTYP) }
 {
     if rule_shape::first_code(file) != codes::FTYP {
         return 0;
@@ -206,7 +206,7 @@ pub fn found(file: &[u8]) -> Movie
 
 // The slot of track i, from 0.
 pub fn track_slot(m: Movie, i: usize) -> Slot
-    ensures { result ≡ trackSlot m i }
+    ensures { result ≡ track_slot m i }
 {
     if i == 0 {
         return m.one;

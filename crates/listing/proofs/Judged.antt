@@ -8,14 +8,14 @@ use Rattle.rule.specs.Results.Result.{gives}
 use Rattle.judge.specs.declared.Judgement.{Judgement}
 use Rattle.judge.specs.declared.Judgement.TheVariants as judgement
 use Rattle.judge.specs.Judgement.{judged}
-use Rattle.listing.specs.Lines.{refusedLine}
-use Rattle.listing.specs.Listing.{acceptedLines, linesFor, listingResult}
+use Rattle.listing.specs.Lines.{refused_line}
+use Rattle.listing.specs.Listing.{accepted_lines, lines_for, listing_result}
 
 module _ (xs out : List ℕ) {j : Judgement} (e : j ≡ judged xs) {r : Answer} {left : List ℕ} where
-  pub listed-accepted : j ≡ judgement.Accepted → Exact (gives (acceptedLines xs)) out r left → Exact (listingResult xs) out r left
-  unfolding linesFor listingResult
-  listed-accepted f x = rw (← e, f) x
+  pub listed_accepted : j ≡ judgement.Accepted → Exact (gives (accepted_lines xs)) out r left → Exact (listing_result xs) out r left
+  unfolding lines_for listing_result
+  listed_accepted f x = rw (← e, f) x
 
-  pub listed-refused : {n p : ℕ} → j ≡ judgement.Refused n p → Exact (gives (refusedLine n p)) out r left → Exact (listingResult xs) out r left
-  unfolding linesFor listingResult
-  listed-refused f x = rw (← e, f) x
+  pub listed_refused : {n p : ℕ} → j ≡ judgement.Refused n p → Exact (gives (refused_line n p)) out r left → Exact (listing_result xs) out r left
+  unfolding lines_for listing_result
+  listed_refused f x = rw (← e, f) x

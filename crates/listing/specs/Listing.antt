@@ -1,7 +1,7 @@
 -- The printed listing of a file.
 use Rattle.std.specs.Prelude.{ℕ, zero, suc, ◌+◌, List, [], ◌∷◌, ◌++◌}
 use Rattle.wire.specs.Text.{text}
-use Rattle.wire.specs.Clauses.{oneIf}
+use Rattle.wire.specs.Clauses.{one_if}
 use Rattle.codes.specs.Codes.{GP4, GP5, GP6, GR6}
 use Rattle.movie.specs.Movie.{tracks, track, handler, scale}
 use Rattle.movie.specs.Entries.{Entry, entries}
@@ -10,47 +10,47 @@ use Rattle.rule.specs.Results.Result.{gives}
 use Rattle.judge.specs.declared.Judgement.{Judgement}
 use Rattle.judge.specs.declared.Judgement.TheVariants.{Accepted, Refused}
 use Rattle.judge.specs.Judgement.{judged}
-use Rattle.read_tracks.specs.Reads.{mediaOf}
-use Rattle.brands.specs.Brands.{brandHolds}
-use Rattle.listing.specs.Lines.{trackLine, entryLine, brandLine, refusedLine}
+use Rattle.read_tracks.specs.Reads.{media_of}
+use Rattle.brands.specs.Brands.{brand_holds}
+use Rattle.listing.specs.Lines.{track_line, entry_line, brand_line, refused_line}
 
 -- the line of track t, whose payload is b
 unfoldable pub line_of : ℕ → List ℕ → List ℕ
-line_of t b = trackLine t (handler b) (mediaOf b) (scale b)
+line_of t b = track_line t (handler b) (media_of b) (scale b)
 
 -- those of the first n tracks, which are numbered from 1
-unfoldable pub trackLines : List ℕ → ℕ → List ℕ
-trackLines xs zero = []
-trackLines xs (suc n) = trackLines xs n ++ line_of (n + 1) (track xs n)
+unfoldable pub track_lines : List ℕ → ℕ → List ℕ
+track_lines xs zero = []
+track_lines xs (suc n) = track_lines xs n ++ line_of (n + 1) (track xs n)
 
 -- those of entries that are numbered from i on
-unfoldable pub entryLines : ℕ → List Entry → List ℕ
-entryLines i [] = []
-entryLines i (e ∷ es) = entryLine i e ++ entryLines (i + 1) es
+unfoldable pub entry_lines : ℕ → List Entry → List ℕ
+entry_lines i [] = []
+entry_lines i (e ∷ es) = entry_line i e ++ entry_lines (i + 1) es
 
 -- the first of them alone
-unfoldable pub firstLine : ℕ → List Entry → List ℕ
-firstLine i [] = []
-firstLine i (e ∷ es) = entryLine i e
+unfoldable pub first_line : ℕ → List Entry → List ℕ
+first_line i [] = []
+first_line i (e ∷ es) = entry_line i e
 
 -- the line of a brand
-unfoldable pub brandOf : ℕ → List ℕ → List ℕ
-brandOf code xs = brandLine code (oneIf (brandHolds code xs))
+unfoldable pub brand_of : ℕ → List ℕ → List ℕ
+brand_of code xs = brand_line code (one_if (brand_holds code xs))
 
-unfoldable pub brandLines : List ℕ → List ℕ
-brandLines xs = brandOf GP4 xs ++ brandOf GP5 xs ++ brandOf GP6 xs ++ brandOf GR6 xs
+unfoldable pub brand_lines : List ℕ → List ℕ
+brand_lines xs = brand_of GP4 xs ++ brand_of GP5 xs ++ brand_of GP6 xs ++ brand_of GR6 xs
 
 -- "All track lines come first, then all entry lines, then the brands."
-unfoldable pub acceptedLines : List ℕ → List ℕ
-acceptedLines xs = text "file 0\n" ++ trackLines xs (tracks xs) ++ entryLines 1 (entries xs) ++ brandLines xs
+unfoldable pub accepted_lines : List ℕ → List ℕ
+accepted_lines xs = text "file 0\n" ++ track_lines xs (tracks xs) ++ entry_lines 1 (entries xs) ++ brand_lines xs
 
-unfoldable pub linesFor : Judgement → List ℕ → List ℕ
-linesFor Accepted xs = acceptedLines xs
-linesFor (Refused n p) xs = refusedLine n p
+unfoldable pub lines_for : Judgement → List ℕ → List ℕ
+lines_for Accepted xs = accepted_lines xs
+lines_for (Refused n p) xs = refused_line n p
 
 abbrev pub listing : List ℕ → List ℕ
-listing xs = linesFor (judged xs) xs
+listing xs = lines_for (judged xs) xs
 
 -- a refused file has a listing too: only 25 is refused
-unfoldable pub listingResult : List ℕ → Result
-listingResult xs = gives (listing xs)
+unfoldable pub listing_result : List ℕ → Result
+listing_result xs = gives (listing xs)

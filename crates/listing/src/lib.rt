@@ -6,8 +6,8 @@ ghost use Rattle.rule.specs.Results.{Exact};
 ghost use Rattle.rule.specs.Results.Result.{gives};
 ghost use Rattle.layout.specs.Every.{TracksAt};
 ghost use Rattle.judge.specs.Acceptance.{Meets};
-ghost use Rattle.listing.specs.Lines.{refusedLine};
-ghost use Rattle.listing.specs.Listing.{acceptedLines, listingResult};
+ghost use Rattle.listing.specs.Lines.{refused_line};
+ghost use Rattle.listing.specs.Listing.{accepted_lines, listing_result};
 
 use brands::conditions;
 use judge::Judgement;
@@ -21,7 +21,7 @@ pub const ROOM: usize = lines::OTHERS + lines::ENTRY * total::MOST;
 
 // A refused file's line, whole or not at all: a run into no room says how long it is.
 fn list_refused(n: usize, p: usize, out: &mut [u8]) -> Answer
-    ensures { Exact (gives (refusedLine n p)) out.old result out.new }
+    ensures { Exact (gives (refused_line n p)) out.old result out.new }
 {
     let m = line::put_refused(&mut out[0..0], n, p);
     if out.len() < m {
@@ -33,7 +33,7 @@ fn list_refused(n: usize, p: usize, out: &mut [u8]) -> Answer
 // An accepted file's lines, in the same way unless there is room for the most that they can take.
 fn list_accepted(file: &[u8], e: Tracks, out: &mut [u8]) -> Answer
     requires { Meets file.now × TracksAt file.now e }
-    ensures { Exact (gives (acceptedLines file.now)) out.old result out.new }
+    ensures { Exact (gives (accepted_lines file.now)) out.old result out.new }
 {
     let l = entries::lay(file, e);
     let o = conditions::asked(file, e, l);
@@ -49,7 +49,7 @@ fn list_accepted(file: &[u8], e: Tracks, out: &mut [u8]) -> Answer
 
 // The listing of any file: only 25 is refused.
 pub fn listing(file: &[u8], out: &mut [u8]) -> Answer
-    ensures { Exact (listingResult file.now) out.old result out.new }
+    ensures { Exact (listing_result file.now) out.old result out.new }
 {
     let j = judge::judge_tracks(file);
     let answer = j.answer;

@@ -1,7 +1,7 @@
 // Writers of one line and its parts. Each answers the place past its text, fit or not.
 ghost use Rattle.std.specs.Prelude.{◌+◌, ◌^◌, ◌≤◌, ◌<◌, length};
 ghost use Rattle.wire.specs.Writing.{Put};
-ghost use Rattle.listing.specs.Lines.{handlerText, codeText, trackLine, entryNamed, entryPlaced, yesText, brandLine, refusedLine};
+ghost use Rattle.listing.specs.Lines.{handler_text, code_text, track_line, entry_named, entry_placed, yes_text, brand_line, refused_line};
 
 use decimal::put_labelled;
 use entry_heads::kind;
@@ -11,7 +11,7 @@ use wire::pen;
 // A handler's name.
 fn put_handler(out: &mut [u8], at: usize, h: usize) -> usize
     requires { at < 2 ^ 62 }
-    ensures { Put (handlerText h) out.old at result out.new × (result ≤ at + 5) }
+    ensures { Put (handler_text h) out.old at result out.new × (result ≤ at + 5) }
 {
     if h == codes::VIDE {
         return pen::put_part(out, at, b"vide");
@@ -28,7 +28,7 @@ fn put_handler(out: &mut [u8], at: usize, h: usize) -> usize
 // A sample entry's code.
 fn put_code(out: &mut [u8], at: usize, c: usize) -> usize
     requires { at < 2 ^ 62 }
-    ensures { Put (codeText c) out.old at result out.new × (result ≤ at + 5) }
+    ensures { Put (code_text c) out.old at result out.new × (result ≤ at + 5) }
 {
     if kind::of_code(c) == kind::OTHER {
         return pen::put_part(out, at, b"other");
@@ -46,7 +46,7 @@ pub fn put_track(
     scale: usize,
 ) -> usize
     requires { at < 2 ^ 61 }
-    ensures { Put (trackLine t h ticks scale) out.old at result out.new × (result ≤ at + 100) }
+    ensures { Put (track_line t h ticks scale) out.old at result out.new × (result ≤ at + 100) }
 {
     let a = put_labelled(out, at, b"track ", t);
     let b = pen::put_part(out, a, b" ");
@@ -59,7 +59,7 @@ pub fn put_track(
 // The first half of an entry's line: its number, its track and its code.
 pub fn put_named(out: &mut [u8], at: usize, i: usize, t: usize, c: usize) -> usize
     requires { at < 2 ^ 61 }
-    ensures { Put (entryNamed i t c) out.old at result out.new × (result ≤ at + 60) }
+    ensures { Put (entry_named i t c) out.old at result out.new × (result ≤ at + 60) }
 {
     let a = put_labelled(out, at, b"entry ", i);
     let b = put_labelled(out, a, b" track ", t);
@@ -70,7 +70,7 @@ pub fn put_named(out: &mut [u8], at: usize, i: usize, t: usize, c: usize) -> usi
 // The second half: its place and its size.
 pub fn put_placed(out: &mut [u8], at: usize, place: usize, span: usize) -> usize
     requires { at < 2 ^ 61 }
-    ensures { Put (entryPlaced place span) out.old at result out.new × (result ≤ at + 60) }
+    ensures { Put (entry_placed place span) out.old at result out.new × (result ≤ at + 60) }
 {
     let a = put_labelled(out, at, b" place ", place);
     let b = put_labelled(out, a, b" size ", span);
@@ -80,7 +80,7 @@ pub fn put_placed(out: &mut [u8], at: usize, place: usize, span: usize) -> usize
 // The end of a brand's line.
 fn put_yes(out: &mut [u8], at: usize, k: usize) -> usize
     requires { at < 2 ^ 62 }
-    ensures { Put (yesText k) out.old at result out.new × (result ≤ at + 5) }
+    ensures { Put (yes_text k) out.old at result out.new × (result ≤ at + 5) }
 {
     if k == 0 {
         return pen::put_part(out, at, b" no\n");
@@ -91,7 +91,7 @@ fn put_yes(out: &mut [u8], at: usize, k: usize) -> usize
 // A brand's line.
 pub fn put_brand(out: &mut [u8], at: usize, code: usize, k: usize) -> usize
     requires { at < 2 ^ 61 }
-    ensures { Put (brandLine code k) out.old at result out.new × (result ≤ at + 15) }
+    ensures { Put (brand_line code k) out.old at result out.new × (result ≤ at + 15) }
 {
     let a = pen::put_part(out, at, b"brand ");
     let b = pen::put_number(out, a, 4, code);
@@ -100,7 +100,7 @@ pub fn put_brand(out: &mut [u8], at: usize, code: usize, k: usize) -> usize
 
 // A refused file's line.
 pub fn put_refused(out: &mut [u8], n: usize, p: usize) -> usize
-    ensures { Put (refusedLine n p) out.old 0 result out.new }
+    ensures { Put (refused_line n p) out.old 0 result out.new }
 {
     let a = put_labelled(out, 0, b"file ", n);
     let b = put_labelled(out, a, b" at ", p);

@@ -8,18 +8,18 @@ use Rattle.codes.specs.Codes.{MDAT}
 use Rattle.boxes.specs.Box.{Box, head}
 use Rattle.boxes.specs.Boxes.{boxes}
 use Rattle.boxes.specs.Seek.{meant, nth, find, start_in}
-use Rattle.boxes.specs.Walk.{boxAt, stepAt, Ran, Stepped}
+use Rattle.boxes.specs.Walk.{box_at, step_at, Ran, Stepped}
 use Rattle.boxes.specs.declared.walk.Walk.{Walk}
 use Rattle.boxes.specs.declared.walk.BoxAt.{BoxAt}
 use Rattle.boxes.specs.declared.walk.Step.{Step}
 use Rattle.boxes.specs.declared.walk.Step.TheVariants.{Found, End, Broken}
-use Rattle.boxes.proofs.Meaning.{meant-or, meant_is, nth-hit, nth-miss, place-hit, place-miss}
-use Rattle.boxes.proofs.Seeking.{length-payload, ran-size}
+use Rattle.boxes.proofs.Meaning.{meant_or, meant_is, nth_hit, nth_miss, place_hit, place_miss}
+use Rattle.boxes.proofs.Seeking.{length_payload, ran_size}
 use Rattle.boxes.proofs.Walking.{stepped}
 use Rattle.mdat.specs.declared.payload.Payload.{Payload}
 use Rattle.mdat.specs.Search.{Start, Media, FirstMedia}
-use Rattle.mdat.proofs.Starts.{start-front, start-next}
-use Rattle.mdat.proofs.Searching.{start-media, media-none}
+use Rattle.mdat.proofs.Starts.{start_front, start_next}
+use Rattle.mdat.proofs.Searching.{start_media, media_none}
 
 -- p is the payload of the first `mdat` of the boxes l, which stand from place `at` on
 record Foremost (at : ℕ) (l : List Box) (p : Payload) : Type 0 where
@@ -28,52 +28,52 @@ record Foremost (at : ℕ) (l : List Box) (p : Payload) : Type 0 where
   end : p.end ≡ p.start + length (find MDAT l)
 
 -- a payload with the same ends
-media-as : {xs : List ℕ} {p q : Payload} → Media xs p → q.start ≡ p.start → q.end ≡ p.end → Media xs q
-media-as m e f = record { inside = λ o n h k. m.inside o n (omega arith) (omega arith); next = rw f m.next }
+media_as : {xs : List ℕ} {p q : Payload} → Media xs p → q.start ≡ p.start → q.end ≡ p.end → Media xs q
+media_as m e f = record { inside = λ o n h k. m.inside o n (omega arith) (omega arith); next = rw f m.next }
 
 -- the box at that place is the one, or the next ones have it
 module _ {xs : List ℕ} {at : ℕ} {b : BoxAt} {w : Walk} (s : Start xs (at + 1) at) (r : Ran xs at b w) {l : List Box} {p : Payload} where
-  first-here : meant MDAT b.code ≡ 1 → Foremost at (boxAt xs b ∷ l) p → Media xs p
+  first_here : meant MDAT b.code ≡ 1 → Foremost at (box_at xs b ∷ l) p → Media xs p
   unfolding start_in
-  first-here m f =
-      let n = nth-hit MDAT (boxAt xs b) l m in
-      let o = place-hit MDAT (boxAt xs b) l m head in
-      let k = length-payload r in
-      media-as (start-media s r (meant_is MDAT b.code (λ z. omega arith) m)) (omega (arith, f.start, r.start))
+  first_here m f =
+      let n = nth_hit MDAT (box_at xs b) l m in
+      let o = place_hit MDAT (box_at xs b) l m head in
+      let k = length_payload r in
+      media_as (start_media s r (meant_is MDAT b.code (λ z. omega arith) m)) (omega (arith, f.start, r.start))
       (omega (arith, f.start, f.end, ap length n, r.start, r.least))
 
-  first_past : meant MDAT b.code ≡ 0 → Foremost at (boxAt xs b ∷ l) p → Foremost w.at l p
+  first_past : meant MDAT b.code ≡ 0 → Foremost at (box_at xs b ∷ l) p → Foremost w.at l p
   unfolding start_in
   first_past m f =
-      let n = nth-miss MDAT (boxAt xs b) l m 0 in
-      let o = place-miss MDAT (boxAt xs b) l m head 0 in
+      let n = nth_miss MDAT (box_at xs b) l m 0 in
+      let o = place_miss MDAT (box_at xs b) l m head 0 in
       record {
         some = rw n at f.some;
-        start = omega (arith, f.start, o, r.next, ran-size r);
+        start = omega (arith, f.start, o, r.next, ran_size r);
         end = rw n at f.end;
       }
 
 -- from a place on, box by box
-first-from : (xs : List ℕ) (p : Payload) (l : List Box) (at : ℕ) → boxes (drop at xs) ≡ l → Start xs (at + 1) at → Foremost at l p → Media xs p
+first_from : (xs : List ℕ) (p : Payload) (l : List Box) (at : ℕ) → boxes (drop at xs) ≡ l → Start xs (at + 1) at → Foremost at l p → Media xs p
 unfolding nth
-first-from xs p [] at e s f = absurd (omega (arith, f.some))
-first-from xs p (x ∷ l) at e s f = go (stepAt xs at) (stepped xs at) (first-from xs p l)
+first_from xs p [] at e s f = absurd (omega (arith, f.some))
+first_from xs p (x ∷ l) at e s f = go (step_at xs at) (stepped xs at) (first_from xs p l)
   where
     go : (t : Step) → Stepped xs at t → ((a : ℕ) → boxes (drop a xs) ≡ l → Start xs (a + 1) a → Foremost a l p → Media xs p) → Media xs p
     go (Found b w) r ih =
-        let q : boxAt xs b ≡ x = cc r.list in
-        let g : Foremost at (boxAt xs b ∷ l) p = rw q f in
-        meant-or MDAT b.code (λ m. first-here s r m g) (λ m. ih w.at (cc r.list) (start-next s r) (first_past s r m g))
+        let q : box_at xs b ≡ x = cc r.list in
+        let g : Foremost at (box_at xs b ∷ l) p = rw q f in
+        meant_or MDAT b.code (λ m. first_here s r m g) (λ m. ih w.at (cc r.list) (start_next s r) (first_past s r m g))
     go End r ih = let z : ◌≡◌ {A = ℕ} 0 1 = cc r.0.list in absurd (omega arith)
     go (Broken k) r ih = let z : ◌≡◌ {A = ℕ} 0 1 = cc r.0.list in absurd (omega arith)
 
 -- of the whole file
-pub first-media : {start end : ℕ} {r : Payload} → start < end → r.start ≡ start → r.end ≡ end → FirstMedia start end r
-first-media {r = r} h e f =
+pub first_media : {start end : ℕ} {r : Payload} → start < end → r.start ≡ start → r.end ≡ end → FirstMedia start end r
+first_media {r = r} h e f =
     record {
       media = λ xs m k.
-          first-from xs r (boxes xs) 0 refl (start-front xs 1) (record { some = omega arith; start = omega (arith, k (omega arith)); end = omega arith });
+          first_from xs r (boxes xs) 0 refl (start_front xs 1) (record { some = omega arith; start = omega (arith, k (omega arith)); end = omega arith });
     }
 
-pub first-none : {start end : ℕ} {r : Payload} → r.start ≡ 1 → r.end ≡ 0 → FirstMedia start end r
-first-none {r = r} e f = record { media = λ xs m k. media-none xs r e f }
+pub first_none : {start end : ℕ} {r : Payload} → r.start ≡ 1 → r.end ≡ 0 → FirstMedia start end r
+first_none {r = r} e f = record { media = λ xs m k. media_none xs r e f }

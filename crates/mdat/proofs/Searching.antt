@@ -7,84 +7,84 @@ use mathlib.Core.List.{List, [], ◌∷◌}
 use lib.ListN.{drop}
 use Rattle.wire.specs.Tests.{pick}
 use Rattle.wire.specs.Clauses.{is_le, every}
-use Rattle.wire.proofs.Clauses.{is-eq, not-eq, eq_is, is-le, clause, fails, done, holds as and}
+use Rattle.wire.proofs.Clauses.{is_eq_lem, not_eq, eq_is, is_le_lem, clause, fails, done, holds as and}
 use Rattle.codes.specs.Codes.{MDAT}
 use Rattle.boxes.specs.Boxes.{boxes}
-use Rattle.boxes.specs.Walk.{boxAt, Ran, Over}
+use Rattle.boxes.specs.Walk.{box_at, Ran, Over}
 use Rattle.boxes.specs.declared.walk.Walk.{Walk}
 use Rattle.boxes.specs.declared.walk.BoxAt.{BoxAt}
-use Rattle.boxes.proofs.Seeking.{ran-size}
+use Rattle.boxes.proofs.Seeking.{ran_size}
 use Rattle.mdat.specs.declared.payload.Payload.{Payload}
 use Rattle.mdat.specs.declared.payload.Looked.{Looked}
 use Rattle.mdat.specs.declared.payload.Looked.TheVariants.{In, Out, Far}
 use Rattle.mdat.specs.Rules.{lies}
-use Rattle.mdat.specs.Search.{Start, Media, heldBy, looked, LookedAs}
-use Rattle.mdat.proofs.Inside.{held, lies-here}
-use Rattle.mdat.proofs.Starts.{start-front, start-for, start-past, start-lies}
+use Rattle.mdat.specs.Search.{Start, Media, held_by, looked, LookedAs}
+use Rattle.mdat.proofs.Inside.{held, lies_here}
+use Rattle.mdat.proofs.Starts.{start_front, start_for, start_past, start_lies}
 
 -- ---- the box that decides
 
 module _ {xs : List ℕ} {o at : ℕ} {b : BoxAt} {w : Walk} (s : Start xs o at) (r : Ran xs at b w) where
-  start-here : (q n : ℕ) → at ≤ q - 1 → q ≤ b.at + b.span → lies (boxes xs) 0 q n ≡ held b.code (b.at + b.head) (b.at + b.span) q n
-  start-here q n k h =
-      start-lies xs q at n (start-for s q k)
-      ∙ rw r.list (lies-here (boxAt xs b) (boxes (drop w.at xs)) at q n (omega (arith, ran-size r, r.start))
-      ∙ rw (ran-size r, ← r.start, r.head))
+  start_here : (q n : ℕ) → at ≤ q - 1 → q ≤ b.at + b.span → lies (boxes xs) 0 q n ≡ held b.code (b.at + b.head) (b.at + b.span) q n
+  start_here q n k h =
+      start_lies xs q at n (start_for s q k)
+      ∙ rw r.list (lies_here (box_at xs b) (boxes (drop w.at xs)) at q n (omega (arith, ran_size r, r.start))
+      ∙ rw (ran_size r, ← r.start, r.head))
 
   -- the payload of an `mdat`
-  pub start-media : b.code ≡ MDAT → Media xs (record { start = b.at + b.head; end = b.at + b.span })
-  start-media c =
+  pub start_media : b.code ≡ MDAT → Media xs (record { start = b.at + b.head; end = b.at + b.span })
+  start_media c =
       record {
-        inside = λ q n h k. start-here q n (omega (arith, r.start, r.eight)) (omega arith)
-            ∙ sym (and _ _ (is-eq _ _ c) (and _ _ (is-le _ _ h) (and _ _ (is-le _ _ k) done)));
-        next = start-past s r refl (omega arith);
+        inside = λ q n h k. start_here q n (omega (arith, r.start, r.eight)) (omega arith)
+            ∙ sym (and _ _ (is_eq_lem _ _ c) (and _ _ (is_le_lem _ _ h) (and _ _ (is_le_lem _ _ k) done)));
+        next = start_past s r refl (omega arith);
       }
 
   -- what it says of the bytes that were looked for
-  pub start-held : (n : ℕ) (F : Type 0) → o ≤ b.at + b.span → LookedAs xs (lies (boxes xs) 0 o n ≡ true) (lies (boxes xs) 0 o n ≡ false) F (heldBy b o n)
-  unfolding heldBy
-  start-held n F h = record { says = go (held b.code (b.at + b.head) (b.at + b.span) o n) refl }
+  pub start_held : (n : ℕ) (F : Type 0) → o ≤ b.at + b.span → LookedAs xs (lies (boxes xs) 0 o n ≡ true) (lies (boxes xs) 0 o n ≡ false) F (held_by b o n)
+  unfolding held_by
+  start_held n F h = record { says = go (held b.code (b.at + b.head) (b.at + b.span) o n) refl }
     where
       go : (t : Bool) → held b.code (b.at + b.head) (b.at + b.span) o n ≡ t → looked xs (lies (boxes xs) 0 o n ≡ true) (lies (boxes xs) 0 o n ≡ false) F
           (pick t (In (record { start = b.at + b.head; end = b.at + b.span })) Out)
-      go true e = (start-here o n s.before h ∙ e, start-media (eq_is _ _ (clause 0 _ e)))
-      go false e = start-here o n s.before h ∙ e
+      go true e = (start_here o n s.before h ∙ e, start_media (eq_is _ _ (clause 0 _ e)))
+      go false e = start_here o n s.before h ∙ e
 
 -- no box from a start on: they lie in none
-pub start-over : {xs : List ℕ} {o at : ℕ} → Start xs o at → Over xs at → (n : ℕ) → lies (boxes xs) 0 o n ≡ false
+pub start_over : {xs : List ℕ} {o at : ℕ} → Start xs o at → Over xs at → (n : ℕ) → lies (boxes xs) 0 o n ≡ false
 unfolding lies
-start-over {xs} {o} {at} s v n = start-lies xs o at n s ∙ rw v.list
+start_over {xs} {o} {at} s v n = start_lies xs o at n s ∙ rw v.list
 
 -- ---- the answer of one box
 
 module _ (b : BoxAt) (o n : ℕ) where
-  pub held-other : (b.code ≡ MDAT → ⊥) → Out ≡ heldBy b o n
-  unfolding heldBy
-  held-other e = rw (← fails 0 _ (not-eq b.code MDAT e))
+  pub held_other : (b.code ≡ MDAT → ⊥) → Out ≡ held_by b o n
+  unfolding held_by
+  held_other e = rw (← fails 0 _ (not_eq b.code MDAT e))
 
-  pub held-within : {t : Bool} → b.code ≡ MDAT → every (is_le (b.at + b.head) o ∷ is_le (o + n) (b.at + b.span) ∷ []) ≡ t
-      → pick t (In (record { start = b.at + b.head; end = b.at + b.span })) Out ≡ heldBy b o n
-  unfolding heldBy
-  held-within c e = rw (← and _ _ (is-eq b.code MDAT c) (sym e))
+  pub held_within : {t : Bool} → b.code ≡ MDAT → every (is_le (b.at + b.head) o ∷ is_le (o + n) (b.at + b.span) ∷ []) ≡ t
+      → pick t (In (record { start = b.at + b.head; end = b.at + b.span })) Out ≡ held_by b o n
+  unfolding held_by
+  held_within c e = rw (← and _ _ (is_eq_lem b.code MDAT c) (sym e))
 
 -- ---- answers
 
 module _ {xs : List ℕ} {H M F : Type 0} {r : Looked} (s : LookedAs xs H M F r) where
-  pub looked-in : (p : Payload) → r ≡ In p → H × Media xs p
-  looked-in p e = subst (looked xs H M F) e s.says
+  pub looked_in : (p : Payload) → r ≡ In p → H × Media xs p
+  looked_in p e = subst (looked xs H M F) e s.says
 
-  pub looked-out : r ≡ Out → M
-  looked-out e = subst (looked xs H M F) e s.says
+  pub looked_out : r ≡ Out → M
+  looked_out e = subst (looked xs H M F) e s.says
 
-  pub looked-far : r ≡ Far → F
-  looked-far e = subst (looked xs H M F) e s.says
+  pub looked_far : r ≡ Far → F
+  looked_far e = subst (looked xs H M F) e s.says
 
 -- given up for another reason
-pub looked-for : {xs : List ℕ} {H M F G : Type 0} (r : Looked) → (F → G) → LookedAs xs H M F r → LookedAs xs H M G r
-looked-for (In p) f s = record { says = s.says }
-looked-for Out f s = record { says = s.says }
-looked-for Far f s = record { says = f s.says }
+pub looked_for : {xs : List ℕ} {H M F G : Type 0} (r : Looked) → (F → G) → LookedAs xs H M F r → LookedAs xs H M G r
+looked_for (In p) f s = record { says = s.says }
+looked_for Out f s = record { says = s.says }
+looked_for Far f s = record { says = f s.says }
 
 -- nothing lies in no payload
-pub media-none : (xs : List ℕ) (p : Payload) → p.start ≡ 1 → p.end ≡ 0 → Media xs p
-media-none xs p e f = record { inside = λ q n h k. absurd (omega arith); next = rw f (start-front xs 1) }
+pub media_none : (xs : List ℕ) (p : Payload) → p.start ≡ 1 → p.end ≡ 0 → Media xs p
+media_none xs p e f = record { inside = λ q n h k. absurd (omega arith); next = rw f (start_front xs 1) }

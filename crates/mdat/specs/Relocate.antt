@@ -2,7 +2,7 @@
 use Rattle.std.specs.Prelude.{ℕ, ◌<◌, ◌≡◌, List, length}
 use Rattle.boxes.specs.Box.{Box, head}
 use Rattle.sample_tables.specs.Tables.{items}
-use Rattle.sample_tables.specs.Chunks.{offsetAt}
+use Rattle.sample_tables.specs.Chunks.{offset_at}
 use Rattle.mdat.specs.Payloads.{Spot, nowhere, spot, resolve, place_of}
 
 abbrev pub put_at : List Box → ℕ → Spot → ℕ
@@ -16,7 +16,7 @@ relocate l m o = put_at m o (resolve l o)
 -- a table of chunk offsets, and the table with each offset relocated
 pub record Relocated (l m : List Box) (stco stco' : List ℕ) : Type 0 where
   pub same : items stco' ≡ items stco
-  pub offsets : (k : ℕ) → k < items stco → offsetAt stco' k ≡ relocate l m (offsetAt stco k)
+  pub offsets : (k : ℕ) → k < items stco → offset_at stco' k ≡ relocate l m (offset_at stco k)
 
 -- two boxes of the same layout
 pub record Alike (x y : Box) : Type 0 where

@@ -42,8 +42,8 @@ pub record Index (xs index : List ℕ) : Type 0 where
   pub start : (j : ℕ) → j < length index → Start xs (STRIDE * j + 1) (get_or index j 0)
 
 -- the n bytes from place o on, by a box that has place o
-unfoldable pub heldBy : BoxAt → ℕ → ℕ → Looked
-heldBy b o n =
+unfoldable pub held_by : BoxAt → ℕ → ℕ → Looked
+held_by b o n =
     pick (every (is_eq b.code MDAT ∷ is_le (b.at + b.head) o ∷ is_le (o + n) (b.at + b.span) ∷ []))
     (In (record { start = b.at + b.head; end = b.at + b.span })) Out
 

@@ -1,10 +1,10 @@
 // Rule 8 of a track's tables.
 ghost use Rattle.std.specs.Prelude.{◌≡◌, false, length};
-ghost use Rattle.wire.specs.Clauses.{oneIf};
+ghost use Rattle.wire.specs.Clauses.{one_if};
 ghost use Rattle.boxes.specs.Boxes.{boxes};
 ghost use Rattle.sample_tables.specs.Tables.{items};
-ghost use Rattle.sample_tables.specs.Chunks.{firstSample, Covers};
-ghost use Rattle.mdat.specs.Rules.{Ready, Goes, chunksLie};
+ghost use Rattle.sample_tables.specs.Chunks.{first_sample, Covers};
+ghost use Rattle.mdat.specs.Rules.{Ready, Goes, chunks_lie};
 ghost use Rattle.mdat.specs.Search.{Media, Index, LookedAs, TestedAs};
 
 use crate::payload::{Looked, Payload};
@@ -24,8 +24,8 @@ fn run_lies(
     start: usize,
     hint: Payload,
 ) -> Looked
-    requires { Ready stsc.now stsz.now stco.now × Covers stsc.now (items stco.now) i from end × (start ≡ firstSample stsc.now from) × Media file.now hint × Index file.now index.now }
-    ensures { LookedAs file.now (Goes (boxes file.now) stsc.now stsz.now stco.now from end) (chunksLie (boxes file.now) stsc.now stsz.now stco.now ≡ false) (length index.now ≡ 0) result }
+    requires { Ready stsc.now stsz.now stco.now × Covers stsc.now (items stco.now) i from end × (start ≡ first_sample stsc.now from) × Media file.now hint × Index file.now index.now }
+    ensures { LookedAs file.now (Goes (boxes file.now) stsc.now stsz.now stco.now from end) (chunks_lie (boxes file.now) stsc.now stsz.now stco.now ≡ false) (length index.now ≡ 0) result }
 {
     let per = run::per_chunk(stsc, i);
     let mut last = hint;
@@ -60,7 +60,7 @@ fn all_lie(
     hint: Payload,
 ) -> Looked
     requires { Ready stsc.now stsz.now stco.now × Index file.now index.now × Media file.now hint }
-    ensures { TestedAs file.now (chunksLie (boxes file.now) stsc.now stsz.now stco.now) (length index.now ≡ 0) result }
+    ensures { TestedAs file.now (chunks_lie (boxes file.now) stsc.now stsz.now stco.now) (length index.now ≡ 0) result }
 {
     let n = table::items(stsc);
     let chunks = table::items(stco);
@@ -91,7 +91,7 @@ fn all_lie(
 // By an index of the file: 1 or 0.
 fn by_index(file: &[u8], stsc: &[u8], stsz: &[u8], stco: &[u8], hint: Payload) -> usize
     requires { Ready stsc.now stsz.now stco.now × Media file.now hint }
-    ensures { result ≡ oneIf (chunksLie (boxes file.now) stsc.now stsz.now stco.now) }
+    ensures { result ≡ one_if (chunks_lie (boxes file.now) stsc.now stsz.now stco.now) }
 {
     let mut index = [0u32; index::PLACES];
     index::fill(&mut index, file);
@@ -105,7 +105,7 @@ fn by_index(file: &[u8], stsc: &[u8], stsz: &[u8], stco: &[u8], hint: Payload) -
 // Whether each chunk of a track lies inside the payload of one `mdat` of the file: 1 or 0. The hint is tried first, and an index made where one is too far off.
 pub fn eight(file: &[u8], stsc: &[u8], stsz: &[u8], stco: &[u8], hint: Payload) -> usize
     requires { Ready stsc.now stsz.now stco.now × Media file.now hint }
-    ensures { result ≡ oneIf (chunksLie (boxes file.now) stsc.now stsz.now stco.now) }
+    ensures { result ≡ one_if (chunks_lie (boxes file.now) stsc.now stsz.now stco.now) }
 {
     let none = [0u32; 1];
     match all_lie(file, &none[0..0], stsc, stsz, stco, hint) {

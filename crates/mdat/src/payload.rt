@@ -1,9 +1,9 @@
 // The payload of an `mdat` that holds a chunk: the last one, those near it, or by an index of the file.
 ghost use Rattle.std.specs.Prelude.{◌≡◌, [], ◌∷◌, ◌+◌, ◌^◌, ◌≤◌, ◌<◌, length};
-ghost use Rattle.wire.specs.Clauses.{is_le, every, oneIf};
+ghost use Rattle.wire.specs.Clauses.{is_le, every, one_if};
 ghost use Rattle.boxes.specs.Boxes.{boxes};
 ghost use Rattle.mdat.specs.Rules.{lies};
-ghost use Rattle.mdat.specs.Search.{Start, Media, FirstMedia, Index, heldBy, TestedAs};
+ghost use Rattle.mdat.specs.Search.{Start, Media, FirstMedia, Index, held_by, TestedAs};
 
 use crate::index;
 use boxes::walk::{BoxAt, Step, Walk};
@@ -45,7 +45,7 @@ const FEW: usize = 16;
 
 // Whether so many bytes from a place on lie in a payload: 1 or 0.
 fn within(p: Payload, offset: usize, bytes: usize) -> usize
-    ensures { result ≡ oneIf (every (is_le p.start offset ∷ is_le (offset + bytes) p.end ∷ [])) }
+    ensures { result ≡ one_if (every (is_le p.start offset ∷ is_le (offset + bytes) p.end ∷ [])) }
 {
     if offset < p.start {
         return 0;
@@ -62,7 +62,7 @@ fn within(p: Payload, offset: usize, bytes: usize) -> usize
 // Whether they lie in the payload of a box, and it is an `mdat`.
 fn held(b: BoxAt, offset: usize, bytes: usize) -> Looked
     requires { (b.head ≤ b.span) × (b.at + b.span < 2 ^ 63) }
-    ensures { result ≡ heldBy b offset bytes }
+    ensures { result ≡ held_by b offset bytes }
 {
     if b.code != codes::MDAT {
         return Looked::Out;

@@ -3,32 +3,32 @@ use Prim.Native.Nat.{ℕ}
 use mathlib.Core.Path.{◌≡◌, ap, ◌∙◌}
 use mathlib.Core.List.{List}
 use lib.ListN.{drop}
-use Rattle.wire.specs.Clauses.{oneIf}
+use Rattle.wire.specs.Clauses.{one_if}
 use Rattle.codes.specs.Codes.{STSC, STSZ, STCO}
 use Rattle.boxes.specs.Boxes.{FRONT, boxes}
-use Rattle.movie.specs.Movie.{sampleTable}
-use Rattle.movie.specs.Named.{listIn}
-use Rattle.layout.specs.Slots.{slotIn}
+use Rattle.movie.specs.Movie.{sample_table}
+use Rattle.movie.specs.Named.{list_in}
+use Rattle.layout.specs.Slots.{slot_in}
 use Rattle.layout.specs.Track.{Laid}
 use Rattle.layout.specs.declared.track.Track.{Track}
 use Rattle.rule.specs.declared.Answer.{Answer}
 use Rattle.rule.specs.Results.{Exact}
 use Rattle.rule.specs.Results.Result.{gives}
-use Rattle.sample_walk.specs.Samples.{samplesAt}
+use Rattle.sample_walk.specs.Samples.{samples_at}
 use Rattle.modes.specs.declared.Failing.{Failing}
-use Rattle.modes.specs.Track.{speechOnly, whyOf, failingFrom, failingIn, failingNumbers}
+use Rattle.modes.specs.Track.{speech_only, why_of, failing_from, failing_in, failing_numbers}
 
-pub laid-list : {xs b : List ℕ} {k : Track} → Laid xs b k → {stsd list : List ℕ} → stsd ≡ slotIn xs k.stsd → list ≡ drop FRONT stsd → list ≡ listIn b
-unfolding listIn
-laid-list l e f = f ∙ ap (drop FRONT) (e ∙ l.stsd.is)
+pub laid_list : {xs b : List ℕ} {k : Track} → Laid xs b k → {stsd list : List ℕ} → stsd ≡ slot_in xs k.stsd → list ≡ drop FRONT stsd → list ≡ list_in b
+unfolding list_in
+laid_list l e f = f ∙ ap (drop FRONT) (e ∙ l.stsd.is)
 
 -- of the track with payload b
-module _ (b : List ℕ) {list : List ℕ} (e : list ≡ listIn b) where
-  pub found-only : {i : ℕ} → i ≡ oneIf (speechOnly (boxes list)) → i ≡ oneIf (speechOnly (boxes (listIn b)))
-  found-only o = rw e at o
+module _ (b : List ℕ) {list : List ℕ} (e : list ≡ list_in b) where
+  pub found_only : {i : ℕ} → i ≡ one_if (speech_only (boxes list)) → i ≡ one_if (speech_only (boxes (list_in b)))
+  found_only o = rw e at o
 
-  module _ (xs : List ℕ) {stsc stsz stco : List ℕ} (g : stsc ≡ sampleTable STSC b) (h : stsz ≡ sampleTable STSZ b) (i : stco ≡ sampleTable STCO b) where
-    pub found-failing : {r : Failing} → r ≡ failingFrom (whyOf xs (boxes list)) 1 (samplesAt stsc stsz stco)
-        → {out left : List ℕ} {a : Answer} → Exact (gives (failingNumbers r)) out a left → Exact (gives (failingNumbers (failingIn xs b))) out a left
-    unfolding failingIn
-    found-failing o x = rw (o, g, h, i, e) at x
+  module _ (xs : List ℕ) {stsc stsz stco : List ℕ} (g : stsc ≡ sample_table STSC b) (h : stsz ≡ sample_table STSZ b) (i : stco ≡ sample_table STCO b) where
+    pub found_failing : {r : Failing} → r ≡ failing_from (why_of xs (boxes list)) 1 (samples_at stsc stsz stco)
+        → {out left : List ℕ} {a : Answer} → Exact (gives (failing_numbers r)) out a left → Exact (gives (failing_numbers (failing_in xs b))) out a left
+    unfolding failing_in
+    found_failing o x = rw (o, g, h, i, e) at x

@@ -1,54 +1,54 @@
 -- K11: "Answer the first sample that fails and why".
 use Rattle.std.specs.Prelude.{ℕ, ◌+◌, ◌-◌, Bool, true, List, [], ◌∷◌, ◌++◌, length}
-use Rattle.wire.specs.Tests.{ifEq}
+use Rattle.wire.specs.Tests.{if_eq}
 use Rattle.wire.specs.Clauses.{is_eq, either}
 use Rattle.codes.specs.Codes.{SAMR, SAWB}
 use Rattle.boxes.specs.Box.{Box, header}
 use Rattle.boxes.specs.Boxes.{boxes}
-use Rattle.boxes.specs.Seek.{byNumber}
-use Rattle.movie.specs.Named.{listIn}
-use Rattle.mdat.specs.Samples.{sampleBytes}
-use Rattle.rule.specs.Rule.{allList}
+use Rattle.boxes.specs.Seek.{by_number}
+use Rattle.movie.specs.Named.{list_in}
+use Rattle.mdat.specs.Samples.{sample_bytes}
+use Rattle.rule.specs.Rule.{all_list}
 use Rattle.rule.specs.Results.{Result}
-use Rattle.judge.specs.Calls.{resultOn}
-use Rattle.read_tracks.specs.Reads.{isTrack, trackBody}
+use Rattle.judge.specs.Calls.{result_on}
+use Rattle.read_tracks.specs.Reads.{is_track, track_body}
 use Rattle.sample_walk.specs.declared.walk.Sample.{Sample}
-use Rattle.read_samples.specs.Reads.{trackSamples}
+use Rattle.read_samples.specs.Reads.{track_samples}
 use Rattle.modes.specs.declared.Failing.{Failing}
-use Rattle.modes.specs.Sample.{speechOf, why}
+use Rattle.modes.specs.Sample.{speech_of, why}
 
 -- ---- the entries of a track
 
 -- "20 for a track that .. has other entries"
-unfoldable pub speechOnly : List Box → Bool
-speechOnly l = allList (λ x. either (is_eq x.code SAMR ∷ is_eq x.code SAWB ∷ [])) true l
+unfoldable pub speech_only : List Box → Bool
+speech_only l = all_list (λ x. either (is_eq x.code SAMR ∷ is_eq x.code SAWB ∷ [])) true l
 
 -- entry n, from 0, header and all
-unfoldable pub entryBytes : List Box → ℕ → List ℕ
-entryBytes [] n = []
-entryBytes (x ∷ l) n = byNumber n (header x ++ x.body) (λ m. entryBytes l m)
+unfoldable pub entry_bytes : List Box → ℕ → List ℕ
+entry_bytes [] n = []
+entry_bytes (x ∷ l) n = by_number n (header x ++ x.body) (λ m. entry_bytes l m)
 
 -- ---- its samples
 
 -- why a sample of the file xs fails, by "the mode_set in their own description"; it has so many samples after it
-unfoldable pub whyOf : List ℕ → List Box → Sample → ℕ → ℕ
-whyOf xs l s left = why (speechOf (entryBytes l (s.description - 1))) left (sampleBytes xs s)
+unfoldable pub why_of : List ℕ → List Box → Sample → ℕ → ℕ
+why_of xs l s left = why (speech_of (entry_bytes l (s.description - 1))) left (sample_bytes xs s)
 
 -- the first that fails, counted from n, and why
-unfoldable pub failingFrom : (Sample → ℕ → ℕ) → ℕ → List Sample → Failing
-failingFrom f n [] = record { number = 0; why = 0 }
-failingFrom f n (s ∷ l) = ifEq (f s (length l)) 0 (failingFrom f (n + 1) l) (record { number = n; why = f s (length l) })
+unfoldable pub failing_from : (Sample → ℕ → ℕ) → ℕ → List Sample → Failing
+failing_from f n [] = record { number = 0; why = 0 }
+failing_from f n (s ∷ l) = if_eq (f s (length l)) 0 (failing_from f (n + 1) l) (record { number = n; why = f s (length l) })
 
 -- of the track with payload b
-unfoldable pub failingIn : List ℕ → List ℕ → Failing
-failingIn xs b = failingFrom (whyOf xs (boxes (listIn b))) 1 (trackSamples b)
+unfoldable pub failing_in : List ℕ → List ℕ → Failing
+failing_in xs b = failing_from (why_of xs (boxes (list_in b))) 1 (track_samples b)
 
 -- nothing where none fails
-unfoldable pub failingNumbers : Failing → List ℕ
-failingNumbers f = ifEq f.why 0 [] (f.number ∷ f.why ∷ [])
+unfoldable pub failing_numbers : Failing → List ℕ
+failing_numbers f = if_eq f.why 0 [] (f.number ∷ f.why ∷ [])
 
 -- ---- the call: 20, 25
 
-unfoldable pub modesResult : List ℕ → ℕ → Result
-modesResult xs t =
-    resultOn xs ((20, isTrack xs t) ∷ (20, speechOnly (boxes (listIn (trackBody xs t)))) ∷ []) (failingNumbers (failingIn xs (trackBody xs t)))
+unfoldable pub modes_result : List ℕ → ℕ → Result
+modes_result xs t =
+    result_on xs ((20, is_track xs t) ∷ (20, speech_only (boxes (list_in (track_body xs t)))) ∷ []) (failing_numbers (failing_in xs (track_body xs t)))

@@ -7,11 +7,11 @@ ghost use Rattle.boxes.specs.Boxes.{boxes};
 ghost use Rattle.rule.specs.Results.{asked, Exact};
 ghost use Rattle.rule.specs.Results.Result.{gives};
 ghost use Rattle.judge.specs.Acceptance.{Meets};
-ghost use Rattle.movie.specs.Named.{listIn};
-ghost use Rattle.read_tracks.specs.Reads.{isTrack, trackBody};
-ghost use Rattle.sample_walk.specs.Samples.{samplesAt};
+ghost use Rattle.movie.specs.Named.{list_in};
+ghost use Rattle.read_tracks.specs.Reads.{is_track, track_body};
+ghost use Rattle.sample_walk.specs.Samples.{samples_at};
 ghost use Rattle.sample_walk.specs.Walks.{Sampled};
-ghost use Rattle.modes.specs.Track.{speechOnly, whyOf, failingFrom, failingNumbers, failingIn, modesResult};
+ghost use Rattle.modes.specs.Track.{speech_only, why_of, failing_from, failing_numbers, failing_in, modes_result};
 
 use boxes::walk;
 use judge::Judgement;
@@ -32,7 +32,7 @@ pub struct Failing {
 // Why a sample fails that has so many after it, by the entries that describe the track's samples; 0 where it passes.
 fn why_of(file: &[u8], list: &[u8], s: Sample, left: usize) -> usize
     requires { 1 ≤ s.description }
-    ensures { result ≡ whyOf file.now (boxes list.now) s left }
+    ensures { result ≡ why_of file.now (boxes list.now) s left }
 {
     sample::why(
         speech::described(list, s.description - 1),
@@ -44,7 +44,7 @@ fn why_of(file: &[u8], list: &[u8], s: Sample, left: usize) -> usize
 // The samples in turn, up to the first that fails.
 fn first_failing(file: &[u8], list: &[u8], stsc: &[u8], stsz: &[u8], stco: &[u8]) -> Failing
     requires { Sampled stsc.now stsz.now stco.now }
-    ensures { result ≡ failingFrom (whyOf file.now (boxes list.now)) 1 (samplesAt stsc.now stsz.now stco.now) }
+    ensures { result ≡ failing_from (why_of file.now (boxes list.now)) 1 (samples_at stsc.now stsz.now stco.now) }
 {
     let n = size::samples(stsz);
     let mut walk = SampleWalk::start();
@@ -69,7 +69,7 @@ fn first_failing(file: &[u8], list: &[u8], stsc: &[u8], stsz: &[u8], stco: &[u8]
 
 // Nothing where none fails, else the two numbers.
 fn put(f: Failing, out: &mut [u64]) -> Answer
-    ensures { Exact (gives (failingNumbers f)) out.old result out.new }
+    ensures { Exact (gives (failing_numbers f)) out.old result out.new }
 {
     if f.why == 0 {
         return Answer::Done(0);
@@ -85,7 +85,7 @@ fn put(f: Failing, out: &mut [u64]) -> Answer
 // Of a file that is accepted.
 fn modes_in(file: &[u8], track: usize, out: &mut [u64]) -> Answer
     requires { Meets file.now }
-    ensures { Exact (asked ((20, isTrack file.now track) ∷ (20, speechOnly (boxes (listIn (trackBody file.now track)))) ∷ []) (gives (failingNumbers (failingIn file.now (trackBody file.now track))))) out.old result out.new }
+    ensures { Exact (asked ((20, is_track file.now track) ∷ (20, speech_only (boxes (list_in (track_body file.now track)))) ∷ []) (gives (failing_numbers (failing_in file.now (track_body file.now track))))) out.old result out.new }
 {
     match read_tracks::numbered_track(file, track) {
         NumberedTrack::At(k) => {
@@ -112,7 +112,7 @@ fn modes_in(file: &[u8], track: usize, out: &mut [u64]) -> Answer
 
 // The first sample of a track of speech that fails, and why.
 pub fn modes(file: &[u8], track: usize, out: &mut [u64]) -> Answer
-    ensures { Exact (modesResult file.now track) out.old result out.new }
+    ensures { Exact (modes_result file.now track) out.old result out.new }
 {
     match judge::judge(file) {
         Judgement::Accepted => modes_in(file, track, out),

@@ -1,8 +1,8 @@
 // One sample of speech.
 ghost use Rattle.std.specs.Prelude.{◌≡◌, ◌<◌};
-ghost use Rattle.wire.specs.Clauses.{oneIf};
+ghost use Rattle.wire.specs.Clauses.{one_if};
 ghost use Rattle.frames.specs.Frames.{frames};
-ghost use Rattle.modes.specs.Sample.{countFits, bitSet, allSet, why};
+ghost use Rattle.modes.specs.Sample.{count_fits, bit_set, all_set, why};
 
 use crate::speech::Speech;
 use frames::codec::Codec;
@@ -16,7 +16,7 @@ const POWERS: [usize; 16] = [
 
 // Whether so many frames fit a sample that has so many samples after it: 1 or 0.
 fn count_fits(most: usize, left: usize, count: usize) -> usize
-    ensures { result ≡ oneIf (countFits most left count) }
+    ensures { result ≡ one_if (count_fits most left count) }
 {
     if count < 1 {
         return 0;
@@ -36,7 +36,7 @@ fn count_fits(most: usize, left: usize, count: usize) -> usize
 // Whether the bit of a type is set in a mode set, which 14 needs not: 1 or 0.
 fn bit_set(modes: usize, t: usize) -> usize
     requires { t < 16 }
-    ensures { result ≡ oneIf (bitSet modes t) }
+    ensures { result ≡ one_if (bit_set modes t) }
 {
     if t == 14 {
         return 1;
@@ -49,7 +49,7 @@ fn bit_set(modes: usize, t: usize) -> usize
 
 // Whether it is for every good frame from the front on: 1 or 0.
 fn all_set(modes: usize, codec: Codec, part: &[u8]) -> usize
-    ensures { result ≡ oneIf (allSet modes (frames codec part.now)) }
+    ensures { result ≡ one_if (all_set modes (frames codec part.now)) }
 {
     let mut at = 0;
     loop {

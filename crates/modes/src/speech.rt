@@ -1,9 +1,9 @@
 // What the entry of a `samr` or a `sawb` says of its samples.
 ghost use Rattle.std.specs.Prelude.{◌≡◌};
-ghost use Rattle.wire.specs.Clauses.{oneIf};
+ghost use Rattle.wire.specs.Clauses.{one_if};
 ghost use Rattle.boxes.specs.Boxes.{boxes};
-ghost use Rattle.modes.specs.Sample.{codecOf, speechOf};
-ghost use Rattle.modes.specs.Track.{entryBytes, speechOnly};
+ghost use Rattle.modes.specs.Sample.{codec_of, speech_of};
+ghost use Rattle.modes.specs.Track.{entry_bytes, speech_only};
 
 use boxes::seek;
 use boxes::seek::Seen;
@@ -21,7 +21,7 @@ pub struct Speech {
 
 // Whether every entry of a list is a `samr` or a `sawb`: 1 or 0.
 pub fn only(list: &[u8]) -> usize
-    ensures { result ≡ oneIf (speechOnly (boxes list.now)) }
+    ensures { result ≡ one_if (speech_only (boxes list.now)) }
 {
     if seek::count(list, codes::SAMR) + seek::count(list, codes::SAWB)
         < seek::count(list, seek::ANY)
@@ -33,7 +33,7 @@ pub fn only(list: &[u8]) -> usize
 
 // The codec of an entry.
 fn codec_of(entry: &[u8]) -> Codec
-    ensures { result ≡ codecOf entry.now }
+    ensures { result ≡ codec_of entry.now }
 {
     if kind::of_code(number::word32(entry, 4)) == kind::SAMR {
         return Codec::Amr;
@@ -42,7 +42,7 @@ fn codec_of(entry: &[u8]) -> Codec
 }
 
 fn read(entry: &[u8]) -> Speech
-    ensures { result ≡ speechOf entry.now }
+    ensures { result ≡ speech_of entry.now }
 {
     Speech {
         codec: codec_of(entry),
@@ -53,7 +53,7 @@ fn read(entry: &[u8]) -> Speech
 
 // What entry n of a list says, from 0.
 pub fn described(list: &[u8], n: usize) -> Speech
-    ensures { result ≡ speechOf (entryBytes (boxes list.now) n) }
+    ensures { result ≡ speech_of (entry_bytes (boxes list.now) n) }
 {
     match seek::nth(list, seek::ANY, n) {
         Seen::At(b) => {

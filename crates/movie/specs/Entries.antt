@@ -11,17 +11,17 @@ pub record Entry : Type 0 where
   pub bytes : List ℕ
 
 -- the boxes l of track t, which stand from place p on
-unfoldable pub entriesFrom : ℕ → List Box → ℕ → List Entry
-entriesFrom t [] p = []
-entriesFrom t (x ∷ l) p = record { track = t; place = p; bytes = header x ++ x.body } ∷ entriesFrom t l (p + size x)
+unfoldable pub entries_from : ℕ → List Box → ℕ → List Entry
+entries_from t [] p = []
+entries_from t (x ∷ l) p = record { track = t; place = p; bytes = header x ++ x.body } ∷ entries_from t l (p + size x)
 
 -- the boxes past the front of an `stsd`
-unfoldable pub entriesOf : Stsd → List Entry
-entriesOf s = entriesFrom s.track (boxes (drop FRONT s.body)) (s.start + FRONT)
+unfoldable pub entries_of : Stsd → List Entry
+entries_of s = entries_from s.track (boxes (drop FRONT s.body)) (s.start + FRONT)
 
-unfoldable pub entriesIn : List Stsd → List Entry
-entriesIn [] = []
-entriesIn (s ∷ l) = entriesOf s ++ entriesIn l
+unfoldable pub entries_in : List Stsd → List Entry
+entries_in [] = []
+entries_in (s ∷ l) = entries_of s ++ entries_in l
 
 unfoldable pub entries : List ℕ → List Entry
-entries xs = entriesIn (stsds xs)
+entries xs = entries_in (stsds xs)

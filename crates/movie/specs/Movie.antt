@@ -5,7 +5,7 @@ use Rattle.wire.specs.Numbers.{word}
 use Rattle.boxes.specs.Box.{Box}
 use Rattle.boxes.specs.Boxes.{boxes}
 use Rattle.boxes.specs.Seek.{count, find, nth}
-use Rattle.movie.specs.Ways.{to_table, toDref, follow}
+use Rattle.movie.specs.Ways.{to_table, to_dref, follow}
 
 -- the boxes of `moov`
 abbrev pub movie : List ℕ → List Box
@@ -29,16 +29,16 @@ minf b = boxes (find MINF (mdia b))
 -- ---- what it says
 
 -- the payload of a box of its `stbl`
-unfoldable pub sampleTable : ℕ → List ℕ → List ℕ
-sampleTable c b = follow (to_table c) b
+unfoldable pub sample_table : ℕ → List ℕ → List ℕ
+sample_table c b = follow (to_table c) b
 
 -- the count that a list of boxes stores before them
-abbrev pub storedCount : List ℕ → ℕ
-storedCount b = word 4 b 4
+abbrev pub stored_count : List ℕ → ℕ
+stored_count b = word 4 b 4
 
 -- how many data references it has
 unfoldable pub references : List ℕ → ℕ
-references b = storedCount (follow toDref b)
+references b = stored_count (follow to_dref b)
 
 -- "hdlr has its type at 8"
 unfoldable pub handler : List ℕ → ℕ
@@ -49,5 +49,5 @@ unfoldable pub scale : List ℕ → ℕ
 scale b = word 4 (find MDHD (mdia b)) 12
 
 -- "movie ticks (the tkhd number at 20)"
-unfoldable pub movieTicks : List ℕ → ℕ
-movieTicks b = word 4 (find TKHD (boxes b)) 20
+unfoldable pub movie_ticks : List ℕ → ℕ
+movie_ticks b = word 4 (find TKHD (boxes b)) 20

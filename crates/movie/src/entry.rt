@@ -4,9 +4,9 @@ ghost use Rattle.boxes.specs.Boxes.{boxes};
 ghost use Rattle.boxes.specs.Seek.{meant};
 ghost use Rattle.codes.specs.Codes.{TRAK};
 ghost use Rattle.boxes.specs.Containers.{LONGEST};
-ghost use Rattle.movie.specs.Stsds.{stsdsFrom};
-ghost use Rattle.movie.specs.Entries.{entries as entriesOfFile};
-ghost use Rattle.movie.specs.Named.{listIn, held as heldBy, listStart, SpotAs, PlacedAs, NamedAs, spotIn};
+ghost use Rattle.movie.specs.Stsds.{stsds_from};
+ghost use Rattle.movie.specs.Entries.{entries as entries_of_file};
+ghost use Rattle.movie.specs.Named.{list_in, held as held_by, list_start, SpotAs, PlacedAs, NamedAs, spot_in};
 
 use boxes::seek::Seen;
 use boxes::walk::{BoxAt, Step, Walk};
@@ -37,14 +37,14 @@ pub enum Spot {
 
 // The entries of a track: what stands past the front of its `stsd`.
 pub fn list(track: &[u8]) -> &[u8]
-    ensures { (result.now ≡ listIn track.now) × (length result.now ≤ length track.now) }
+    ensures { (result.now ≡ list_in track.now) × (length result.now ≤ length track.now) }
 {
     lend::rest(crate::table(track, codes::STSD), walk::FRONT)
 }
 
 // How many entries a box of `moov` holds: none where it is no `trak`.
 fn held(code: usize, body: &[u8]) -> usize
-    ensures { (result ≡ heldBy code body.now) × (result ≤ length body.now) }
+    ensures { (result ≡ held_by code body.now) × (result ≤ length body.now) }
 {
     if code != codes::TRAK {
         return 0;
@@ -54,7 +54,7 @@ fn held(code: usize, body: &[u8]) -> usize
 
 // How many entries a file has.
 pub fn entries(file: &[u8]) -> usize
-    ensures { (result ≡ length (entriesOfFile file.now)) × (result ≤ length file.now) }
+    ensures { (result ≡ length (entries_of_file file.now)) × (result ≤ length file.now) }
 {
     let moov = seek::payload(file, codes::MOOV, 0);
     let mut w = Walk { at: 0 };
@@ -87,7 +87,7 @@ fn one_track(code: usize) -> usize
 
 // In which track of a `moov` the entry i is, and its number there.
 pub fn find_spot(moov: &[u8], i: usize) -> Spot
-    ensures { (SpotAs moov.now i result) × ((p : ℕ) → result ≡ spotIn (stsdsFrom 0 (boxes moov.now) p) i) }
+    ensures { (SpotAs moov.now i result) × ((p : ℕ) → result ≡ spot_in (stsds_from 0 (boxes moov.now) p) i) }
 {
     let mut w = Walk { at: 0 };
     let mut t = 0;
@@ -116,7 +116,7 @@ pub fn find_spot(moov: &[u8], i: usize) -> Spot
 // How far into the file the entries of track t, from 0, start.
 fn list_start(file: &[u8], t: usize) -> usize
     requires { length file.now ≤ LONGEST }
-    ensures { (result ≡ listStart file.now t) × (result ≤ 8388608) }
+    ensures { (result ≡ list_start file.now t) × (result ≤ 8388608) }
 {
     let moov = seek::payload(file, codes::MOOV, 0);
     let to_track = seek::start(file, codes::MOOV, 0) + seek::start(moov, codes::TRAK, t);

@@ -2,29 +2,29 @@
 pub mod entry;
 
 ghost use Rattle.std.specs.Prelude.{◌≡◌, ◌*◌, ◌^◌, ◌≤◌, ◌<◌, length};
-ghost use Rattle.movie.specs.Ways.{toStsd, startAlong, placeAlong};
-ghost use Rattle.movie.specs.Movie.{tracks as tracksOf, track as trackOf, sampleTable, references as referencesOf, handler as handlerOf, scale as scale_of, movieTicks as ticksOf};
+ghost use Rattle.movie.specs.Ways.{to_stsd, start_along, place_along};
+ghost use Rattle.movie.specs.Movie.{tracks as tracks_of, track as track_of, sample_table, references as references_of, handler as handler_of, scale as scale_of, movie_ticks as ticks_of};
 
 use boxes::seek;
 use wire::number;
 
 // How many tracks a file has.
 pub fn tracks(file: &[u8]) -> usize
-    ensures { (result ≡ tracksOf file.now) × (result ≤ length file.now) }
+    ensures { (result ≡ tracks_of file.now) × (result ≤ length file.now) }
 {
     seek::count(seek::payload(file, codes::MOOV, 0), codes::TRAK)
 }
 
 // The payload of track t, from 0.
 pub fn track(file: &[u8], t: usize) -> &[u8]
-    ensures { (result.now ≡ trackOf file.now t) × (length result.now ≤ length file.now) }
+    ensures { (result.now ≡ track_of file.now t) × (length result.now ≤ length file.now) }
 {
     seek::payload(seek::payload(file, codes::MOOV, 0), codes::TRAK, t)
 }
 
 // A box of a track's `stbl`.
 pub fn table(track: &[u8], code: usize) -> &[u8]
-    ensures { (result.now ≡ sampleTable code track.now) × (length result.now ≤ length track.now) }
+    ensures { (result.now ≡ sample_table code track.now) × (length result.now ≤ length track.now) }
 {
     let mdia = seek::payload(track, codes::MDIA, 0);
     let minf = seek::payload(mdia, codes::MINF, 0);
@@ -35,7 +35,7 @@ pub fn table(track: &[u8], code: usize) -> &[u8]
 // How far into a track's payload its `stsd` starts.
 pub fn stsd_place(track: &[u8]) -> usize
     requires { length track.now < 2 ^ 61 }
-    ensures { (result ≡ placeAlong toStsd track.now) × (result ≤ 4 * length track.now) }
+    ensures { (result ≡ place_along to_stsd track.now) × (result ≤ 4 * length track.now) }
 {
     let mdia = seek::payload(track, codes::MDIA, 0);
     let minf = seek::payload(mdia, codes::MINF, 0);
@@ -47,7 +47,7 @@ pub fn stsd_place(track: &[u8]) -> usize
 // How far into a track's payload that of its `stsd` starts.
 pub fn stsd_start(track: &[u8]) -> usize
     requires { length track.now < 2 ^ 61 }
-    ensures { (result ≡ startAlong toStsd track.now) × (result ≤ 4 * length track.now) }
+    ensures { (result ≡ start_along to_stsd track.now) × (result ≤ 4 * length track.now) }
 {
     let mdia = seek::payload(track, codes::MDIA, 0);
     let minf = seek::payload(mdia, codes::MINF, 0);
@@ -58,7 +58,7 @@ pub fn stsd_start(track: &[u8]) -> usize
 
 // How many data references it has.
 pub fn references(track: &[u8]) -> usize
-    ensures { (result ≡ referencesOf track.now) × (result < 2 ^ 32) }
+    ensures { (result ≡ references_of track.now) × (result < 2 ^ 32) }
 {
     let mdia = seek::payload(track, codes::MDIA, 0);
     let minf = seek::payload(mdia, codes::MINF, 0);
@@ -68,7 +68,7 @@ pub fn references(track: &[u8]) -> usize
 
 // A track's handler.
 pub fn handler(track: &[u8]) -> usize
-    ensures { (result ≡ handlerOf track.now) × (result < 2 ^ 32) }
+    ensures { (result ≡ handler_of track.now) × (result < 2 ^ 32) }
 {
     let mdia = seek::payload(track, codes::MDIA, 0);
     number::word32(seek::payload(mdia, codes::HDLR, 0), 8)
@@ -88,7 +88,7 @@ pub struct MovieTicks(pub u64);
 
 // How long it is, in ticks of the movie.
 pub fn movie_ticks(track: &[u8]) -> MovieTicks
-    ensures { (result.0 ≡ ticksOf track.now) × (result.0 < 2 ^ 32) }
+    ensures { (result.0 ≡ ticks_of track.now) × (result.0 < 2 ^ 32) }
 {
     MovieTicks(number::word32(seek::payload(track, codes::TKHD, 0), 20) as u64)
 }

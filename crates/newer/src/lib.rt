@@ -1,9 +1,9 @@
 // The newer of two files.
 ghost use Rattle.std.specs.Prelude.{◌≡◌, [], ◌∷◌, ◌^◌, ◌≤◌, ◌<◌, length, take, drop};
 ghost use Rattle.boxes.specs.Containers.{LONGEST};
-ghost use Rattle.clocks.specs.Zones.{Near, compared as comparedOf};
+ghost use Rattle.clocks.specs.Zones.{Near, compared as compared_of};
 ghost use Rattle.newer.specs.declared.Outcome.TheVariants.{Refused};
-ghost use Rattle.newer.specs.Newer.{modified as modifiedOf, entryIn, entry_of, inZones, newestOf, toldBy, part_of};
+ghost use Rattle.newer.specs.Newer.{modified as modified_of, entry_in, entry_of, in_zones, newest_of, told_by, part_of};
 
 use boxes::seek;
 use clocks::{Order, Zone, Zoned};
@@ -45,7 +45,7 @@ fn refused(number: usize) -> Outcome
 
 // The modification time of a file.
 fn modified(file: &[u8]) -> usize
-    ensures { (result ≡ modifiedOf file.now) × (result < 2 ^ 32) }
+    ensures { (result ≡ modified_of file.now) × (result < 2 ^ 32) }
 {
     let moov = seek::payload(file, codes::MOOV, 0);
     number::word32(seek::payload(moov, codes::MVHD, 0), 8)
@@ -54,7 +54,7 @@ fn modified(file: &[u8]) -> usize
 // Entry i of a file, from 1, with the order and which file it is.
 fn entry_in(file: &[u8], order: Order, which: usize, i: usize) -> Outcome
     requires { length file.now ≤ LONGEST }
-    ensures { result ≡ entryIn order which file.now i }
+    ensures { result ≡ entry_in order which file.now i }
 {
     if i == 0 {
         return refused(20);
@@ -73,7 +73,7 @@ fn entry_in(file: &[u8], order: Order, which: usize, i: usize) -> Outcome
 // Entry i of the later file, by two zones.
 fn compared(first: &[u8], y: Zone, second: &[u8], z: Zone, i: usize) -> Outcome
     requires { (Near y) × (Near z) × (length first.now ≤ LONGEST) × (length second.now ≤ LONGEST) }
-    ensures { result ≡ entry_of (comparedOf (modifiedOf first.now) y (modifiedOf second.now) z) first.now second.now i }
+    ensures { result ≡ entry_of (compared_of (modified_of first.now) y (modified_of second.now) z) first.now second.now i }
 {
     let order = clocks::compare(modified(first), y, modified(second), z);
     match order {
@@ -86,7 +86,7 @@ fn compared(first: &[u8], y: Zone, second: &[u8], z: Zone, i: usize) -> Outcome
 // The same by minutes.
 fn zoned(first: &[u8], y: i64, second: &[u8], z: i64, i: usize) -> Outcome
     requires { (length first.now ≤ LONGEST) × (length second.now ≤ LONGEST) }
-    ensures { result ≡ inZones first.now y second.now z i }
+    ensures { result ≡ in_zones first.now y second.now z i }
 {
     match clocks::zone_of(y) {
         Zoned::Seconds(a) => match clocks::zone_of(z) {
@@ -99,7 +99,7 @@ fn zoned(first: &[u8], y: i64, second: &[u8], z: i64, i: usize) -> Outcome
 
 // What the first of two files is, and where entry i of the later one is.
 pub fn newest(first: &[u8], y: i64, second: &[u8], z: i64, i: usize) -> Outcome
-    ensures { result ≡ newestOf first.now y second.now z i }
+    ensures { result ≡ newest_of first.now y second.now z i }
 {
     match judge::judge(first) {
         Judgement::Accepted => match judge::judge(second) {
@@ -142,7 +142,7 @@ pub fn newer<'a>(
     i: usize,
     answer: &mut [u64; 3],
 ) -> &'a [u8]
-    ensures { (result.now ≡ part_of first.now second.now (newestOf first.now y second.now z i)) × (answer.new ≡ toldBy (newestOf first.now y second.now z i)) }
+    ensures { (result.now ≡ part_of first.now second.now (newest_of first.now y second.now z i)) × (answer.new ≡ told_by (newest_of first.now y second.now z i)) }
 {
     match newest(first, y, second, z, i) {
         Outcome::Found(f) => {

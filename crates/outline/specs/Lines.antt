@@ -1,6 +1,6 @@
 -- The lines of an outline, and how they are printed, each with its newline.
 use Rattle.std.specs.Prelude.{ℕ, zero, suc, ◌+◌, ◌/◌, ◌%◌, Bool, List, [], ◌∷◌, ◌++◌, map}
-use Rattle.wire.specs.Tests.{pick, ifLt}
+use Rattle.wire.specs.Tests.{pick, if_lt}
 use Rattle.wire.specs.Clauses.{is_le, every}
 use Rattle.wire.specs.Numbers.{bytes}
 use Rattle.wire.specs.Text.{text}
@@ -19,7 +19,7 @@ prints b = every (is_le 0x20 b ∷ is_le b 0x7E ∷ [])
 
 -- a digit of base 16, "in capitals"
 unfoldable pub digit : ℕ → ℕ
-digit n = ifLt n 10 (48 + n) (55 + n)
+digit n = if_lt n 10 (48 + n) (55 + n)
 
 -- the last w digits of a number
 unfoldable pub hex : ℕ → ℕ → List ℕ
@@ -27,23 +27,23 @@ hex zero n = []
 hex (suc w) n = hex w (n / 16) ++ digit (n % 16) ∷ []
 
 -- its four bytes, or "`0x` and 8 hex digits"
-unfoldable pub codePrinted : ℕ → List ℕ
-codePrinted c = pick (every (map prints (bytes 4 c))) (bytes 4 c) (text "0x" ++ hex 8 c)
+unfoldable pub code_printed : ℕ → List ℕ
+code_printed c = pick (every (map prints (bytes 4 c))) (bytes 4 c) (text "0x" ++ hex 8 c)
 
 -- ---- a line
 
 -- "`box CODE place P size S depth D`"
-unfoldable pub boxText : (code place size depth : ℕ) → List ℕ
-boxText c p s d = text "box " ++ codePrinted c ++ labelled (text " place ") p ++ labelled (text " size ") s ++ labelled (text " depth ") d ++ text "\n"
+unfoldable pub box_text : (code place size depth : ℕ) → List ℕ
+box_text c p s d = text "box " ++ code_printed c ++ labelled (text " place ") p ++ labelled (text " size ") s ++ labelled (text " depth ") d ++ text "\n"
 
 -- "`broken place P`"
-unfoldable pub brokenText : ℕ → List ℕ
-brokenText p = labelled (text "broken place ") p ++ text "\n"
+unfoldable pub broken_text : ℕ → List ℕ
+broken_text p = labelled (text "broken place ") p ++ text "\n"
 
-abbrev pub lineText : Line → List ℕ
-lineText (box c p s d) = boxText c p s d
-lineText (broken p) = brokenText p
+abbrev pub line_text : Line → List ℕ
+line_text (box c p s d) = box_text c p s d
+line_text (broken p) = broken_text p
 
 unfoldable pub printed : List Line → List ℕ
 printed [] = []
-printed (l ∷ ls) = lineText l ++ printed ls
+printed (l ∷ ls) = line_text l ++ printed ls

@@ -7,7 +7,7 @@ ghost use Rattle.boxes.specs.Containers.{LONGEST as longest};
 ghost use Rattle.rule.specs.Results.{Exact};
 ghost use Rattle.rule.specs.Results.Result.{gives};
 ghost use Rattle.outline.specs.Lines.{printed};
-ghost use Rattle.outline.specs.Outline.{outline as outlineOf, outlineResult};
+ghost use Rattle.outline.specs.Outline.{outline as outline_of, outline_result};
 
 use boxes::containers::{FILE, LONGEST};
 use rule::Answer;
@@ -15,7 +15,7 @@ use rule::Answer;
 // Whole or not at all: a run into no room says how long it is.
 fn print(file: &[u8], out: &mut [u8]) -> Answer
     requires { length file.now ≤ longest }
-    ensures { Exact (gives (printed (outlineOf file.now))) out.old result out.new }
+    ensures { Exact (gives (printed (outline_of file.now))) out.old result out.new }
 {
     let m = list::put_list(&mut out[0..0], 0, file, FILE, 0, 1);
     if out.len() < m {
@@ -26,7 +26,7 @@ fn print(file: &[u8], out: &mut [u8]) -> Answer
 
 // The outline of any file that refusal 1 lets pass.
 pub fn outline(file: &[u8], out: &mut [u8]) -> Answer
-    ensures { Exact (outlineResult file.now) out.old result out.new }
+    ensures { Exact (outline_result file.now) out.old result out.new }
 {
     if file.len() < 8 {
         return Answer::Refused(1, 0);

@@ -1,16 +1,16 @@
 // Writers of one line and its parts. Each answers the place past its text, fit or not.
 ghost use Rattle.std.specs.Prelude.{◌≡◌, ◌+◌, ◌^◌, ◌≤◌, ◌<◌, map};
-ghost use Rattle.wire.specs.Clauses.{oneIf, every};
+ghost use Rattle.wire.specs.Clauses.{one_if, every};
 ghost use Rattle.wire.specs.Numbers.{bytes};
 ghost use Rattle.wire.specs.Writing.{Put};
-ghost use Rattle.outline.specs.Lines.{prints as printsOf, digit as digitOf, hex, codePrinted, boxText, brokenText};
+ghost use Rattle.outline.specs.Lines.{prints as prints_of, digit as digit_of, hex, code_printed, box_text, broken_text};
 
 use decimal::put_labelled;
 use wire::pen;
 
 // Whether a byte prints as it is: 1 or 0.
 fn prints(b: usize) -> usize
-    ensures { result ≡ oneIf (printsOf b) }
+    ensures { result ≡ one_if (prints_of b) }
 {
     if b < 0x20 {
         return 0;
@@ -23,7 +23,7 @@ fn prints(b: usize) -> usize
 
 // Whether every byte of a code does: 1 or 0.
 fn all_print(c: usize) -> usize
-    ensures { result ≡ oneIf (every (map printsOf (bytes 4 c))) }
+    ensures { result ≡ one_if (every (map prints_of (bytes 4 c))) }
 {
     if prints(c / 256 / 256 / 256 % 256) == 0 {
         return 0;
@@ -40,7 +40,7 @@ fn all_print(c: usize) -> usize
 // A digit of base 16.
 fn digit(n: usize) -> usize
     requires { n < 16 }
-    ensures { (result ≡ digitOf n) × (result < 256) }
+    ensures { (result ≡ digit_of n) × (result < 256) }
 {
     if n < 10 {
         return 48 + n;
@@ -63,7 +63,7 @@ fn put_hex(out: &mut [u8], at: usize, w: usize, n: usize) -> usize
 // A code as it stands, or as a number.
 fn put_code(out: &mut [u8], at: usize, c: usize) -> usize
     requires { at < 2 ^ 61 }
-    ensures { Put (codePrinted c) out.old at result out.new × (result ≤ at + 10) }
+    ensures { Put (code_printed c) out.old at result out.new × (result ≤ at + 10) }
 {
     if all_print(c) != 0 {
         return pen::put_number(out, at, 4, c);
@@ -82,7 +82,7 @@ pub fn put_box(
     depth: usize,
 ) -> usize
     requires { at < 2 ^ 60 }
-    ensures { Put (boxText c place span depth) out.old at result out.new × (result ≤ at + 100) }
+    ensures { Put (box_text c place span depth) out.old at result out.new × (result ≤ at + 100) }
 {
     let a = pen::put_part(out, at, b"box ");
     let b = put_code(out, a, c);
@@ -95,7 +95,7 @@ pub fn put_box(
 // The line of a place at which a box doesn't fit.
 pub fn put_broken(out: &mut [u8], at: usize, place: usize) -> usize
     requires { at < 2 ^ 61 }
-    ensures { Put (brokenText place) out.old at result out.new × (result ≤ at + 40) }
+    ensures { Put (broken_text place) out.old at result out.new × (result ≤ at + 40) }
 {
     let a = put_labelled(out, at, b"broken place ", place);
     pen::put_part(out, a, b"\n")

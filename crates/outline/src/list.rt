@@ -1,10 +1,10 @@
 // The lines of a list of boxes, and those of a box, which may hold a list: each function calls the other.
 ghost use Rattle.std.specs.Prelude.{◌≡◌, ◌+◌, ◌-◌, ◌*◌, ◌^◌, ◌≤◌, ◌<◌, length};
 ghost use Rattle.wire.specs.Writing.{Put};
-ghost use Rattle.boxes.specs.Walk.{boxAt};
+ghost use Rattle.boxes.specs.Walk.{box_at};
 ghost use Rattle.boxes.specs.Way.{BoxInside};
 ghost use Rattle.outline.specs.Lines.{printed};
-ghost use Rattle.outline.specs.Outline.{opensAs, wherever, listLines, boxLines, roundsAt};
+ghost use Rattle.outline.specs.Outline.{opens_as, wherever, list_lines, box_lines, rounds_at};
 
 use crate::line;
 use boxes::walk::{BoxAt, Step, Walk};
@@ -15,7 +15,7 @@ const DEEPEST: usize = 16;
 
 // The kind of container that a box of a code opens wherever it stands, and 0 where it opens none.
 fn opens_as(c: usize) -> usize
-    ensures { result ≡ opensAs c }
+    ensures { result ≡ opens_as c }
 {
     if containers::parent(c) != 0 {
         return c;
@@ -38,7 +38,7 @@ fn put_box(
     depth: usize,
 ) -> usize
     requires { BoxInside part.now b × (place + length part.now < 2 ^ 32) × (depth ≤ 16) × (at + 40 * b.span < 2 ^ 60) }
-    ensures { Put (printed (boxLines wherever (roundsAt depth - 1) k depth (place + b.at) (boxAt part.now b)))
+    ensures { Put (printed (box_lines wherever (rounds_at depth - 1) k depth (place + b.at) (box_at part.now b)))
         out.old at result out.new × (result ≤ at + 40 * b.span) }
 {
     let start = place + b.at;
@@ -64,7 +64,7 @@ pub fn put_list(
     depth: usize,
 ) -> usize
     requires { (place + length part.now < 2 ^ 32) × (depth ≤ 16) × (from + 40 * length part.now < 2 ^ 60) }
-    ensures { Put (printed (listLines wherever (roundsAt depth) k depth place part.now))
+    ensures { Put (printed (list_lines wherever (rounds_at depth) k depth place part.now))
         out.old from result out.new × (result ≤ from + 40 * length part.now) }
 {
     let mut at = from;

@@ -5,100 +5,100 @@ use mathlib.Core.Bool.{true}
 use mathlib.Core.List.{List, [], ◌∷◌, ◌++◌}
 use mathlib.Core.Logic.{inl, inr}
 use lib.ListN.{drop}
-use Rattle.wire.specs.Tests.{ifEq, ifLe}
+use Rattle.wire.specs.Tests.{if_eq, if_le}
 use Rattle.wire.specs.Clauses.{is_eq, is_le, is_lt, every, either}
-use Rattle.wire.specs.Numbers.{bytesOn, bytes, word}
-use Rattle.wire.proofs.Clauses.{is-lt}
+use Rattle.wire.specs.Numbers.{bytes_on, bytes, word}
+use Rattle.wire.proofs.Clauses.{is_lt_lem}
 use Rattle.codes.specs.Codes.{SOUN}
 use Rattle.boxes.specs.Box.{header, write}
-use Rattle.boxes.specs.Boxes.{FRONT, form_of, whole, frontBox, boxes, total, after}
-use Rattle.boxes.specs.Seek.{meant, count, allPlain}
+use Rattle.boxes.specs.Boxes.{FRONT, form_of, whole, front_box, boxes, total, after}
+use Rattle.boxes.specs.Seek.{meant, count, all_plain}
 use Rattle.release.specs.declared.Release.TheVariants.{Release6}
-use Rattle.entry_heads.specs.Kinds.{kind_of, code_of, handlerOf}
-use Rattle.entry_heads.specs.Heads.{boxHeader, commonHead, audioHead}
+use Rattle.entry_heads.specs.Kinds.{kind_of, code_of, handler_of}
+use Rattle.entry_heads.specs.Heads.{box_header, common_head, audio_head}
 use Rattle.entry_rules.specs.declared.entry.Around.TheVariants.{Track}
-use Rattle.entry_rules.specs.Decoders.{modesRule, periodRule, framesRule}
-use Rattle.entry_rules.specs.Entries.{handlerRule, scaleRule, trackRule, entryRule}
-use Rattle.entry_rules.proofs.Speech.{Spoken, speech-is}
+use Rattle.entry_rules.specs.Decoders.{modes_rule, period_rule, frames_rule}
+use Rattle.entry_rules.specs.Entries.{handler_rule, scale_rule, track_rule, entry_rule}
+use Rattle.entry_rules.proofs.Speech.{Spoken, speech_is}
 use Rattle.entry_records.specs.declared.field.Record.TheVariants.{Speech}
-use Rattle.entry_records.specs.Fields.{amrRule}
-use Rattle.entry_records.specs.Texts.{amrText}
+use Rattle.entry_records.specs.Fields.{amr_rule}
+use Rattle.entry_records.specs.Texts.{amr_text}
 use Rattle.entry_records.specs.Records.{read_of}
-use Rattle.entry_records.proofs.Speaking.{amr-at}
-use Rattle.entry_records.proofs.Reading.{written-reads}
+use Rattle.entry_records.proofs.Speaking.{amr_at}
+use Rattle.entry_records.proofs.Reading.{written_reads}
 use Rattle.frames.specs.declared.codec.Codec.{Codec}
 use Rattle.frames.specs.declared.codec.Codec.TheVariants.{Amr, Wideband}
-use Rattle.rule.specs.Rule.{allList}
-use Rattle.rule_lists.specs.Five.{listForm}
-use Rattle.rule_entries.specs.Ten.{entriesFine}
+use Rattle.rule.specs.Rule.{all_list}
+use Rattle.rule_lists.specs.Five.{list_form}
+use Rattle.rule_entries.specs.Ten.{entries_fine}
 use Rattle.from_amr.specs.Fields.{fields}
-use Rattle.from_amr.specs.Boxes.{kindBy, scaleBy, entryBy, stsd, dref}
+use Rattle.from_amr.specs.Boxes.{kind_by, scale_by, entry_by, stsd, dref}
 
 -- ---- the list
 
-abbrev pub entryText : Codec → ℕ → List ℕ
-entryText k m = amrText (entryBy k m)
+abbrev pub entry_text : Codec → ℕ → List ℕ
+entry_text k m = amr_text (entry_by k m)
 
-pub listed-stsd : (k : Codec) (m : ℕ) → listForm (stsd k m) ≡ true
-unfolding listForm every is_le is_eq word ifLe allPlain boxes after total form_of whole count meant ifEq
-    stsd fields amrText audioHead commonHead boxHeader code_of bytes bytesOn
-listed-stsd Amr m = refl
-listed-stsd Wideband m = refl
+pub listed_stsd : (k : Codec) (m : ℕ) → list_form (stsd k m) ≡ true
+unfolding list_form every is_le is_eq word if_le all_plain boxes after total form_of whole count meant if_eq
+    stsd fields amr_text audio_head common_head box_header code_of bytes bytes_on
+listed_stsd Amr m = refl
+listed_stsd Wideband m = refl
 
-pub listed-dref : listForm dref ≡ true
-unfolding listForm every is_le is_eq word ifLe allPlain boxes after total form_of whole count meant ifEq dref fields write header bytes bytesOn
-listed-dref = refl
+pub listed_dref : list_form dref ≡ true
+unfolding list_form every is_le is_eq word if_le all_plain boxes after total form_of whole count meant if_eq dref fields write header bytes bytes_on
+listed_dref = refl
 
 -- it is one entry, whole
-pub one_entry : (k : Codec) (m : ℕ) → boxes (drop FRONT (stsd k m)) ≡ frontBox (entryText k m) ∷ []
-unfolding word ifLe boxes form_of whole ifEq stsd fields amrText audioHead commonHead boxHeader code_of bytes bytesOn
-one_entry Amr m = refl
-one_entry Wideband m = refl
+pub one_entry_lem : (k : Codec) (m : ℕ) → boxes (drop FRONT (stsd k m)) ≡ front_box (entry_text k m) ∷ []
+unfolding word if_le boxes form_of whole if_eq stsd fields amr_text audio_head common_head box_header code_of bytes bytes_on
+one_entry_lem Amr m = refl
+one_entry_lem Wideband m = refl
 
-pub entry-bytes : (k : Codec) (m : ℕ) → header (frontBox (entryText k m)) ++ (frontBox (entryText k m)).body ≡ entryText k m
-unfolding word ifLe header form_of ifEq amrText audioHead commonHead boxHeader code_of bytes bytesOn
-entry-bytes Amr m = refl
-entry-bytes Wideband m = refl
+pub entry_bytes : (k : Codec) (m : ℕ) → header (front_box (entry_text k m)) ++ (front_box (entry_text k m)).body ≡ entry_text k m
+unfolding word if_le header form_of if_eq amr_text audio_head common_head box_header code_of bytes bytes_on
+entry_bytes Amr m = refl
+entry_bytes Wideband m = refl
 
 -- ---- its rule
 
 -- modes that the codec has
 pub record OwnModes (k : Codec) (m : ℕ) : Type 0 where
   pub fits : m < 65536
-  pub own : modesRule (kindBy k) m ≡ true
+  pub own : modes_rule (kind_by k) m ≡ true
 
-spoken : (k : Codec) → Spoken (kindBy k)
+spoken : (k : Codec) → Spoken (kind_by k)
 spoken Amr = inl refl
 spoken Wideband = inr refl
 
 module _ (m : ℕ) where
-  fields-rule : (k : Codec) → OwnModes k m → amrRule Release6 (entryBy k m) ≡ true
-  unfolding amrRule framesRule periodRule every either is_eq is_lt is_le
-  fields-rule Amr f = rw (is-lt m 65536 f.fits, f.own)
-  fields-rule Wideband f = rw (is-lt m 65536 f.fits, f.own)
+  fields_rule : (k : Codec) → OwnModes k m → amr_rule Release6 (entry_by k m) ≡ true
+  unfolding amr_rule frames_rule period_rule every either is_eq is_lt is_le
+  fields_rule Amr f = rw (is_lt_lem m 65536 f.fits, f.own)
+  fields_rule Wideband f = rw (is_lt_lem m 65536 f.fits, f.own)
 
-  around : (k : Codec) → trackRule (scaleBy k) SOUN 1 (kindBy k) (entryText k m) ≡ true
-  unfolding trackRule handlerRule scaleRule handlerOf every is_le is_eq ifEq word ifLe amrText audioHead commonHead boxHeader code_of bytes bytesOn
+  around : (k : Codec) → track_rule (scale_by k) SOUN 1 (kind_by k) (entry_text k m) ≡ true
+  unfolding track_rule handler_rule scale_rule handler_of every is_le is_eq if_eq word if_le amr_text audio_head common_head box_header code_of bytes bytes_on
   around Amr = refl
   around Wideband = refl
 
-  kind-is : (k : Codec) → kind_of (word 4 (entryText k m) 4) ≡ kindBy k
-  unfolding kind_of ifEq word ifLe amrText audioHead commonHead boxHeader code_of bytes bytesOn
-  kind-is Amr = refl
-  kind-is Wideband = refl
+  kind_is : (k : Codec) → kind_of (word 4 (entry_text k m) 4) ≡ kind_by k
+  unfolding kind_of if_eq word if_le amr_text audio_head common_head box_header code_of bytes bytes_on
+  kind_is Amr = refl
+  kind_is Wideband = refl
 
   module _ (k : Codec) (f : OwnModes k m) where
-    pub entry-rule : entryRule (Track (scaleBy k) SOUN 1) Release6 (entryText k m) ≡ true
-    unfolding entryRule
-    entry-rule =
-        rw (kind-is k)
-        (speech-is (kindBy k) Release6 (entryText k m) (spoken k) (Track (scaleBy k) SOUN 1)
-        (amr-at Release6 (entryBy k m) (spoken k) (fields-rule k f)) (around k))
+    pub entry_rule_lem : entry_rule (Track (scale_by k) SOUN 1) Release6 (entry_text k m) ≡ true
+    unfolding entry_rule
+    entry_rule_lem =
+        rw (kind_is k)
+        (speech_is (kind_by k) Release6 (entry_text k m) (spoken k) (Track (scale_by k) SOUN 1)
+        (amr_at Release6 (entry_by k m) (spoken k) (fields_rule k f)) (around k))
 
-    pub entries-fine : entriesFine (Track (scaleBy k) SOUN 1) Release6 (drop FRONT (stsd k m)) ≡ true
-    unfolding entriesFine allList
-    entries-fine = rw (one_entry k m, entry-bytes k m, entry-rule)
+    pub entries_fine_lem : entries_fine (Track (scale_by k) SOUN 1) Release6 (drop FRONT (stsd k m)) ≡ true
+    unfolding entries_fine all_list
+    entries_fine_lem = rw (one_entry_lem k m, entry_bytes k m, entry_rule_lem)
 
     -- it reads back as the record with these modes
-    pub entry-reads : read_of Release6 (entryText k m) ≡ Speech (entryBy k m)
-    entry-reads = written-reads Release6 (Speech (entryBy k m)) (fields-rule k f)
+    pub entry_reads : read_of Release6 (entry_text k m) ≡ Speech (entry_by k m)
+    entry_reads = written_reads Release6 (Speech (entry_by k m)) (fields_rule k f)

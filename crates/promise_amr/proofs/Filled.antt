@@ -4,101 +4,101 @@ use native.Mathlib.Omega.{arith}
 use mathlib.Core.List.{List, [], ◌∷◌, ◌++◌}
 use lib.ListN.{length}
 use Rattle.wire.specs.Numbers.{Bytes, bytes}
-use Rattle.wire.proofs.Tests.{eq-any}
-use Rattle.wire.proofs.Numbers.{bytes-append, bytes-bytes}
+use Rattle.wire.proofs.Tests.{eq_any}
+use Rattle.wire.proofs.Numbers.{bytes_append, bytes_bytes}
 use Rattle.codes.specs.Codes.{DAMR}
 use Rattle.boxes.specs.Box.{write}
 use Rattle.boxes.proofs.Reading.All.{none, some}
-use Rattle.boxes.proofs.Rewriting.{bytes-write}
-use Rattle.entry_heads.specs.Heads.{boxHeader, commonHead, audioHead}
+use Rattle.boxes.proofs.Rewriting.{bytes_write}
+use Rattle.entry_heads.specs.Heads.{box_header, common_head, audio_head}
 use Rattle.entry_heads.specs.Kinds.{code_of}
 use Rattle.entry_records.specs.declared.field.Amr.{Amr}
-use Rattle.entry_records.specs.Texts.{amrText}
+use Rattle.entry_records.specs.Texts.{amr_text}
 use Rattle.frames.specs.declared.codec.Codec.{Codec}
 use Rattle.frames.specs.Frames.{joined}
-use Rattle.frames.specs.Modes.{modeSet}
+use Rattle.frames.specs.Modes.{mode_set}
 use Rattle.from_amr.specs.Fields.{fields}
-use Rattle.from_amr.specs.Boxes.{ftyp, mvhd, tkhd, mdhd, hdlr, smhd, dref, entryBy, stsd, oneFor, sizesOf, stsz}
-use Rattle.from_amr.specs.File.{stblBoxes, minfBoxes, trakBoxes, moovBoxes, start, fileOf}
+use Rattle.from_amr.specs.Boxes.{ftyp, mvhd, tkhd, mdhd, hdlr, smhd, dref, entry_by, stsd, one_for, sizes_of, stsz}
+use Rattle.from_amr.specs.File.{stbl_boxes, minf_boxes, trak_boxes, moov_boxes, start, file_of}
 
-bytes-none : Bytes []
-bytes-none i = omega arith
+bytes_none : Bytes []
+bytes_none i = omega arith
 
 -- ---- payloads
 
-bytes-fields : (l : List ℕ) → Bytes (fields l)
+bytes_fields : (l : List ℕ) → Bytes (fields l)
 unfolding fields
-bytes-fields [] = bytes-none
-bytes-fields (w ∷ []) = bytes-none
-bytes-fields (w ∷ n ∷ l) = bytes-append (bytes w n) (fields l) (bytes-bytes w n) (bytes-fields l)
+bytes_fields [] = bytes_none
+bytes_fields (w ∷ []) = bytes_none
+bytes_fields (w ∷ n ∷ l) = bytes_append (bytes w n) (fields l) (bytes_bytes w n) (bytes_fields l)
 
-bytes_one : (n : ℕ) (item : List ℕ) → Bytes (oneFor n item)
-unfolding oneFor
-bytes_one n item = eq-any Bytes n 0 _ _ (bytes-fields (4 ∷ 0 ∷ 4 ∷ 0 ∷ [])) (bytes-fields (4 ∷ 0 ∷ 4 ∷ 1 ∷ item))
+bytes_one : (n : ℕ) (item : List ℕ) → Bytes (one_for n item)
+unfolding one_for
+bytes_one n item = eq_any Bytes n 0 _ _ (bytes_fields (4 ∷ 0 ∷ 4 ∷ 0 ∷ [])) (bytes_fields (4 ∷ 0 ∷ 4 ∷ 1 ∷ item))
 
-bytes-sizes : (l : List (List ℕ)) → Bytes (sizesOf l)
-unfolding sizesOf
-bytes-sizes [] = bytes-none
-bytes-sizes (f ∷ l) = bytes-append (bytes 4 (length f)) (sizesOf l) (bytes-bytes 4 (length f)) (bytes-sizes l)
+bytes_sizes : (l : List (List ℕ)) → Bytes (sizes_of l)
+unfolding sizes_of
+bytes_sizes [] = bytes_none
+bytes_sizes (f ∷ l) = bytes_append (bytes 4 (length f)) (sizes_of l) (bytes_bytes 4 (length f)) (bytes_sizes l)
 
 -- bytes, and a number behind them
 record Full (p : List ℕ) : Type 0 where
   is : Bytes p
 
 full : (w n : ℕ) → Full (bytes w n)
-full w n = record { is = bytes-bytes w n }
+full w n = record { is = bytes_bytes w n }
 
 also : {p : List ℕ} (w n : ℕ) → Full p → Full (p ++ bytes w n)
-also {p} w n h = record { is = bytes-append p (bytes w n) h.is (bytes-bytes w n) }
+also {p} w n h = record { is = bytes_append p (bytes w n) h.is (bytes_bytes w n) }
 
-full-header : (span code : ℕ) → Full (boxHeader span code)
-unfolding boxHeader
-full-header span code = also 4 code (full 4 span)
+full_header : (span code : ℕ) → Full (box_header span code)
+unfolding box_header
+full_header span code = also 4 code (full 4 span)
 
-full-head : (span code reference scale : ℕ) → Full (audioHead span code reference scale)
-unfolding audioHead commonHead
-full-head span code reference scale =
-    also 2 0 (also 2 scale (also 4 0 (also 2 16 (also 2 2 (also 8 0 (also 2 reference (also 6 0 (full-header span code))))))))
+full_head : (span code reference scale : ℕ) → Full (audio_head span code reference scale)
+unfolding audio_head common_head
+full_head span code reference scale =
+    also 2 0 (also 2 scale (also 4 0 (also 2 16 (also 2 2 (also 8 0 (also 2 reference (also 6 0 (full_header span code))))))))
 
-full-damr : {p : List ℕ} → Full p → Full (p ++ boxHeader 17 DAMR)
-full-damr {p} h = record { is = bytes-append p (boxHeader 17 DAMR) h.is (full-header 17 DAMR).is }
+full_damr : {p : List ℕ} → Full p → Full (p ++ box_header 17 DAMR)
+full_damr {p} h = record { is = bytes_append p (box_header 17 DAMR) h.is (full_header 17 DAMR).is }
 
-full-entry : (f : Amr) → Full (amrText f)
-unfolding amrText
-full-entry f =
+full_entry : (f : Amr) → Full (amr_text f)
+unfolding amr_text
+full_entry f =
     also 1 f.frames (also 1 f.period (also 2 f.modes (also 1 f.version (also 4 f.vendor
-    (full-damr (full-head 53 (code_of f.kind) f.reference f.scale))))))
+    (full_damr (full_head 53 (code_of f.kind) f.reference f.scale))))))
 
 -- ---- boxes
 
 module _ (k : Codec) (l : List (List ℕ)) (o : ℕ) where
-  dref-filled : Bytes dref
+  dref_filled : Bytes dref
   unfolding dref
-  dref-filled = bytes-append (fields (4 ∷ 0 ∷ 4 ∷ 1 ∷ [])) _ (bytes-fields _) (bytes-write (some (bytes-fields (4 ∷ 1 ∷ [])) none))
+  dref_filled = bytes_append (fields (4 ∷ 0 ∷ 4 ∷ 1 ∷ [])) _ (bytes_fields _) (bytes_write (some (bytes_fields (4 ∷ 1 ∷ [])) none))
 
-  stsd-filled : Bytes (stsd k (modeSet l))
+  stsd_filled : Bytes (stsd k (mode_set l))
   unfolding stsd
-  stsd-filled = bytes-append (fields (4 ∷ 0 ∷ 4 ∷ 1 ∷ [])) _ (bytes-fields _) (full-entry (entryBy k (modeSet l))).is
+  stsd_filled = bytes_append (fields (4 ∷ 0 ∷ 4 ∷ 1 ∷ [])) _ (bytes_fields _) (full_entry (entry_by k (mode_set l))).is
 
-  stsz-filled : Bytes (stsz l)
+  stsz_filled : Bytes (stsz l)
   unfolding stsz
-  stsz-filled = bytes-append (fields (4 ∷ 0 ∷ 4 ∷ 0 ∷ 4 ∷ length l ∷ [])) _ (bytes-fields _) (bytes-sizes l)
+  stsz_filled = bytes_append (fields (4 ∷ 0 ∷ 4 ∷ 0 ∷ 4 ∷ length l ∷ [])) _ (bytes_fields _) (bytes_sizes l)
 
-  stbl-filled : Bytes (write (stblBoxes k l o))
-  stbl-filled = bytes-write (some stsd-filled (some (bytes_one _ _) (some (bytes_one _ _) (some stsz-filled (some (bytes_one _ _) none)))))
+  stbl_filled : Bytes (write (stbl_boxes k l o))
+  stbl_filled = bytes_write (some stsd_filled (some (bytes_one _ _) (some (bytes_one _ _) (some stsz_filled (some (bytes_one _ _) none)))))
 
-  minf-filled : Bytes (write (minfBoxes k l o))
+  minf_filled : Bytes (write (minf_boxes k l o))
   unfolding smhd
-  minf-filled = bytes-write (some (bytes-fields _) (some (bytes-write (some dref-filled none)) (some stbl-filled none)))
+  minf_filled = bytes_write (some (bytes_fields _) (some (bytes_write (some dref_filled none)) (some stbl_filled none)))
 
-  trak-filled : Bytes (write (trakBoxes k l o))
+  trak_filled : Bytes (write (trak_boxes k l o))
   unfolding tkhd mdhd hdlr
-  trak-filled = bytes-write (some (bytes-fields _) (some (bytes-write (some (bytes-fields _) (some (bytes-fields _) (some minf-filled none)))) none))
+  trak_filled = bytes_write (some (bytes_fields _) (some (bytes_write (some (bytes_fields _) (some (bytes_fields _) (some minf_filled none)))) none))
 
-  moov-filled : Bytes (write (moovBoxes k l o))
+  moov_filled : Bytes (write (moov_boxes k l o))
   unfolding mvhd
-  moov-filled = bytes-write (some (bytes-fields _) (some trak-filled none))
+  moov_filled = bytes_write (some (bytes_fields _) (some trak_filled none))
 
-pub file-filled : (k : Codec) (l : List (List ℕ)) → Bytes (joined l) → Bytes (fileOf k l)
-unfolding fileOf ftyp
-file-filled k l v = bytes-write (some (bytes-fields _) (some (moov-filled k l (start k l)) (some v none)))
+pub file_filled : (k : Codec) (l : List (List ℕ)) → Bytes (joined l) → Bytes (file_of k l)
+unfolding file_of ftyp
+file_filled k l v = bytes_write (some (bytes_fields _) (some (moov_filled k l (start k l)) (some v none)))

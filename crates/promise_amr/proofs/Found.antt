@@ -2,70 +2,70 @@
 use Prim.Native.Nat.{ℕ}
 use mathlib.Core.Path.{◌≡◌, refl}
 use mathlib.Core.List.{List}
-use Rattle.wire.specs.Tests.{ifEq, ifLe}
-use Rattle.wire.specs.Numbers.{bytesOn, bytes, word}
+use Rattle.wire.specs.Tests.{if_eq, if_le}
+use Rattle.wire.specs.Numbers.{bytes_on, bytes, word}
 use Rattle.codes.specs.Codes.{SOUN}
 use Rattle.boxes.specs.Box.{header, write}
 use Rattle.boxes.specs.Boxes.{boxes}
 use Rattle.boxes.specs.Seek.{meant, count, nth, find}
-use Rattle.movie.specs.Movie.{movie, tracks, track, mdia, sampleTable, references, handler, scale}
+use Rattle.movie.specs.Movie.{movie, tracks, track, mdia, sample_table, references, handler, scale}
 use Rattle.movie.specs.Ways.{follow}
 use Rattle.frames.specs.declared.codec.Codec.{Codec}
 use Rattle.frames.specs.declared.codec.Codec.TheVariants.{Amr, Wideband}
 use Rattle.from_amr.specs.Fields.{fields}
-use Rattle.from_amr.specs.Boxes.{scaleBy, mdhd, hdlr, dref}
-use Rattle.from_amr.specs.File.{ticksOf, stblBoxes, mdiaBoxes, trakBoxes, moovBoxes, start, fileBoxes, fileOf}
+use Rattle.from_amr.specs.Boxes.{scale_by, mdhd, hdlr, dref}
+use Rattle.from_amr.specs.File.{ticks_of, stbl_boxes, mdia_boxes, trak_boxes, moov_boxes, start, file_boxes, file_of}
 use Rattle.promise_amr.proofs.Reading.{Reads}
 
-scale-there : (k : Codec) (n : ℕ) → word 4 (mdhd (scaleBy k) n) 12 ≡ scaleBy k
-unfolding mdhd fields bytes bytesOn word ifLe
-scale-there Amr n = refl
-scale-there Wideband n = refl
+scale_there : (k : Codec) (n : ℕ) → word 4 (mdhd (scale_by k) n) 12 ≡ scale_by k
+unfolding mdhd fields bytes bytes_on word if_le
+scale_there Amr n = refl
+scale_there Wideband n = refl
 
-one-reference : word 4 dref 4 ≡ 1
-unfolding dref fields bytes bytesOn word ifLe write header
-one-reference = refl
+one_reference : word 4 dref 4 ≡ 1
+unfolding dref fields bytes bytes_on word if_le write header
+one_reference = refl
 
 module _ (k : Codec) (l : List (List ℕ)) (b : Reads k l) where
   abbrev trak : List ℕ
-  trak = write (trakBoxes k l (start k l))
+  trak = write (trak_boxes k l (start k l))
 
   -- ---- the movie and its track
 
-  pub boxes-file : boxes (fileOf k l) ≡ fileBoxes k l
-  unfolding fileOf
-  boxes-file = b.file.list
+  pub boxes_file : boxes (file_of k l) ≡ file_boxes k l
+  unfolding file_of
+  boxes_file = b.file.list
 
-  pub movie-boxes : movie (fileOf k l) ≡ moovBoxes k l (start k l)
-  unfolding nth meant ifEq
-  movie-boxes = rw boxes-file b.moov.list
+  pub movie_boxes : movie (file_of k l) ≡ moov_boxes k l (start k l)
+  unfolding nth meant if_eq
+  movie_boxes = rw boxes_file b.moov.list
 
-  pub one-track : tracks (fileOf k l) ≡ 1
-  unfolding count meant ifEq
-  one-track = rw movie-boxes
+  pub one_track : tracks (file_of k l) ≡ 1
+  unfolding count meant if_eq
+  one_track = rw movie_boxes
 
-  pub track-is : track (fileOf k l) 0 ≡ trak
-  unfolding track nth meant ifEq
-  track-is = rw movie-boxes
+  pub track_is : track (file_of k l) 0 ≡ trak
+  unfolding track nth meant if_eq
+  track_is = rw movie_boxes
 
   -- ---- what the track says
 
-  mdia-boxes : mdia trak ≡ mdiaBoxes k l (start k l)
-  unfolding nth meant ifEq
-  mdia-boxes = rw b.trak.list b.mdia.list
+  mdia_boxes_lem : mdia trak ≡ mdia_boxes k l (start k l)
+  unfolding nth meant if_eq
+  mdia_boxes_lem = rw b.trak.list b.mdia.list
 
-  pub handler-is : handler trak ≡ SOUN
-  unfolding handler nth meant ifEq hdlr fields bytes bytesOn word ifLe
-  handler-is = rw mdia-boxes
+  pub handler_is : handler trak ≡ SOUN
+  unfolding handler nth meant if_eq hdlr fields bytes bytes_on word if_le
+  handler_is = rw mdia_boxes_lem
 
-  pub scale-is : scale trak ≡ scaleBy k
-  unfolding scale nth meant ifEq
-  scale-is = rw mdia-boxes (scale-there k (ticksOf k l))
+  pub scale_is : scale trak ≡ scale_by k
+  unfolding scale nth meant if_eq
+  scale_is = rw mdia_boxes_lem (scale_there k (ticks_of k l))
 
-  pub references-is : references trak ≡ 1
-  unfolding references follow nth meant ifEq
-  references-is = rw (b.trak.list, b.mdia.list, b.minf.list, b.dinf.list) one-reference
+  pub references_is : references trak ≡ 1
+  unfolding references follow nth meant if_eq
+  references_is = rw (b.trak.list, b.mdia.list, b.minf.list, b.dinf.list) one_reference
 
-  pub table_is : (c : ℕ) → sampleTable c trak ≡ find c (stblBoxes k l (start k l))
-  unfolding sampleTable follow nth meant ifEq
+  pub table_is : (c : ℕ) → sample_table c trak ≡ find c (stbl_boxes k l (start k l))
+  unfolding sample_table follow nth meant if_eq
   table_is c = rw (b.trak.list, b.mdia.list, b.minf.list, b.stbl.list)

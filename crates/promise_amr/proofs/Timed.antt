@@ -5,49 +5,49 @@ use native.Mathlib.Nat.{zero-add, zero-mul, mul-le-mul_left, mul-le-mul_right}
 use mathlib.Core.Path.{◌≡◌, sym}
 use mathlib.Core.List.{List, [], ◌∷◌}
 use lib.ListN.{length}
-use Rattle.wire.specs.Tests.{ifEq, ifLe}
-use Rattle.wire.specs.Numbers.{bytesOn, bytes, word}
+use Rattle.wire.specs.Tests.{if_eq, if_le}
+use Rattle.wire.specs.Numbers.{bytes_on, bytes, word}
 use Rattle.wire.specs.Sums.{sum_to}
 use Rattle.wire.proofs.Numbers.{word_bytes}
 use Rattle.codes.specs.Codes.{STTS}
 use Rattle.boxes.specs.Seek.{meant, nth}
-use Rattle.movie.specs.Movie.{track, sampleTable, movieTicks}
-use Rattle.sample_tables.specs.Times.{delta, ticksTo, mediaTicks}
+use Rattle.movie.specs.Movie.{track, sample_table, movie_ticks}
+use Rattle.sample_tables.specs.Times.{delta, ticks_to, media_ticks}
 use Rattle.frames.specs.declared.codec.Codec.{Codec}
 use Rattle.frames.specs.declared.codec.Codec.TheVariants.{Amr, Wideband}
 use Rattle.from_amr.specs.Fields.{fields}
-use Rattle.from_amr.specs.Boxes.{sampleTicks, tkhd, oneFor, stts}
-use Rattle.from_amr.specs.File.{ticksOf, fileOf}
+use Rattle.from_amr.specs.Boxes.{sample_ticks, tkhd, one_for, stts}
+use Rattle.from_amr.specs.File.{ticks_of, file_of}
 use Rattle.promise_amr.proofs.Reading.{Reads}
-use Rattle.promise_amr.proofs.Found.{track-is, table_is}
-use Rattle.promise_amr.proofs.Agreed.{one-for, one-timed}
+use Rattle.promise_amr.proofs.Found.{track_is, table_is}
+use Rattle.promise_amr.proofs.Agreed.{one_for_lem, one_timed}
 
-ticks-fit : (k : Codec) → sampleTicks k ≤ 320
-ticks-fit Amr = omega arith
-ticks-fit Wideband = omega arith
+ticks_fit : (k : Codec) → sample_ticks k ≤ 320
+ticks_fit Amr = omega arith
+ticks_fit Wideband = omega arith
 
 module _ (k : Codec) (n : ℕ) where
-  one-delta : (n ≡ 0 → ⊥) → delta (stts k n) 0 ≡ sampleTicks k
-  unfolding fields bytes bytesOn word ifLe
-  one-delta h = rw (one-for n (4 ∷ n ∷ 4 ∷ sampleTicks k ∷ []) h) (word_bytes 4 (sampleTicks k) [] (omega (arith, ticks-fit k)))
+  one_delta : (n ≡ 0 → ⊥) → delta (stts k n) 0 ≡ sample_ticks k
+  unfolding fields bytes bytes_on word if_le
+  one_delta h = rw (one_for_lem n (4 ∷ n ∷ 4 ∷ sample_ticks k ∷ []) h) (word_bytes 4 (sample_ticks k) [] (omega (arith, ticks_fit k)))
 
-  pub movie-there : n < 4294967296 → word 4 (tkhd n) 20 ≡ n
-  unfolding tkhd fields bytes bytesOn word ifLe
-  movie-there h = word_bytes 4 n [] h
+  pub movie_there : n < 4294967296 → word 4 (tkhd n) 20 ≡ n
+  unfolding tkhd fields bytes bytes_on word if_le
+  movie_there h = word_bytes 4 n [] h
 
-pub media-ticks : (k : Codec) (l : List (List ℕ)) → length l < 4294967296 → mediaTicks (stts k (length l)) ≡ ticksOf k l
-unfolding ticksTo sum_to oneFor ifEq fields bytes bytesOn word ifLe
-media-ticks k [] f = sym (zero-mul (sampleTicks k))
-media-ticks k (x ∷ l) f =
-    let t = one-timed k (length (x ∷ l)) (λ e. omega arith) f in
-    rw (t.0, t.1, one-delta k (length (x ∷ l)) (λ e. omega arith)) (zero-add (ticksOf k (x ∷ l)))
+pub media_ticks_lem : (k : Codec) (l : List (List ℕ)) → length l < 4294967296 → media_ticks (stts k (length l)) ≡ ticks_of k l
+unfolding ticks_to sum_to one_for if_eq fields bytes bytes_on word if_le
+media_ticks_lem k [] f = sym (zero-mul (sample_ticks k))
+media_ticks_lem k (x ∷ l) f =
+    let t = one_timed k (length (x ∷ l)) (λ e. omega arith) f in
+    rw (t.0, t.1, one_delta k (length (x ∷ l)) (λ e. omega arith)) (zero-add (ticks_of k (x ∷ l)))
 
 module _ (k : Codec) (l : List (List ℕ)) (b : Reads k l) where
-  pub media-is : length l < 4294967296 → mediaTicks (sampleTable STTS (track (fileOf k l) 0)) ≡ ticksOf k l
-  unfolding nth meant ifEq
-  media-is f = rw (track-is k l b, table_is k l b STTS) (media-ticks k l f)
+  pub media_is : length l < 4294967296 → media_ticks (sample_table STTS (track (file_of k l) 0)) ≡ ticks_of k l
+  unfolding nth meant if_eq
+  media_is f = rw (track_is k l b, table_is k l b STTS) (media_ticks_lem k l f)
 
-  pub movie-is : length l ≤ 65536 → movieTicks (track (fileOf k l) 0) ≡ ticksOf k l
-  unfolding movieTicks nth meant ifEq
-  movie-is f =
-      rw (track-is k l b, b.trak.list) (movie-there k (ticksOf k l) (omega (arith, mul-le-mul_right (sampleTicks k) f, mul-le-mul_left 65536 (ticks-fit k))))
+  pub movie_is : length l ≤ 65536 → movie_ticks (track (file_of k l) 0) ≡ ticks_of k l
+  unfolding movie_ticks nth meant if_eq
+  movie_is f =
+      rw (track_is k l b, b.trak.list) (movie_there k (ticks_of k l) (omega (arith, mul-le-mul_right (sample_ticks k) f, mul-le-mul_left 65536 (ticks_fit k))))

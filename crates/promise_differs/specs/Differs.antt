@@ -6,16 +6,16 @@ use Rattle.boxes.specs.Boxes.{HEAD, FRONT, boxes}
 use Rattle.boxes.specs.Containers.{FILE, DEPTH}
 use Rattle.boxes.specs.Seek.{ANY}
 use Rattle.boxes.specs.Kin.{Kin}
-use Rattle.boxes.specs.Way.{overTurn, tailBy}
+use Rattle.boxes.specs.Way.{over_turn, tail_by}
 use Rattle.movie.specs.declared.entry.Spot.TheVariants.{In}
-use Rattle.movie.specs.Movie.{track, sampleTable}
+use Rattle.movie.specs.Movie.{track, sample_table}
 use Rattle.movie.specs.Stsds.{stsds}
-use Rattle.movie.specs.Named.{spotIn}
-use Rattle.entry_heads.specs.Heads.{headSize}
+use Rattle.movie.specs.Named.{spot_in}
+use Rattle.entry_heads.specs.Heads.{head_size}
 use Rattle.edit_offsets.specs.Close.{closed}
-use Rattle.edit_move.specs.Moving.{moovSecond}
+use Rattle.edit_move.specs.Moving.{moov_second}
 use Rattle.edit_replace.specs.Replace.{kind_at}
-use Rattle.edit_shift.specs.Shift.{CREATION, hasTimes}
+use Rattle.edit_shift.specs.Shift.{CREATION, has_times}
 use Rattle.promise_kept.specs.Edits.{Edit, shift, replace, move}
 use Rattle.promise_differs.specs.Times.{TimesShifted}
 use Rattle.promise_differs.specs.OneEntry.{OneEntry}
@@ -54,15 +54,15 @@ pub record OnlyOffsets (k c : ℕ) (b b' : List ℕ) : Type 0 where
 -- ys is xs closed, with its boxes in their new order, and then chunk offsets differ
 pub record Moves (xs ys : List ℕ) : Type 0 where
   pub mid : List ℕ
-  pub order : boxes mid ≡ moovSecond (boxes (closed xs))
+  pub order : boxes mid ≡ moov_second (boxes (closed xs))
   pub offsets : Kin OnlyOffsets DEPTH FILE mid ys
 
 -- ---- a shift
 
 -- times; every other opaque box is the same, and so are chunk offsets, since nothing moves
 pub record OnlyTimes (k c : ℕ) (b b' : List ℕ) : Type 0 where
-  pub times : hasTimes k c ≡ true → ButTimes b b'
-  pub rest : hasTimes k c ≡ false → b ≡ b'
+  pub times : has_times k c ≡ true → ButTimes b b'
+  pub rest : has_times k c ≡ false → b ≡ b'
 
 -- ys is xs with other times, each by z minutes
 pub record Shifts (z : ℤ) (xs ys : List ℕ) : Type 0 where
@@ -72,18 +72,18 @@ pub record Shifts (z : ℤ) (xs ys : List ℕ) : Type 0 where
 -- ---- a replacement
 
 -- an `stsd` with another record behind the first `keep` bytes of the payload of its entry n, from 0
-abbrev pub withRecord : (n keep : ℕ) (new b : List ℕ) → List ℕ
-withRecord n keep new b = overTurn (record { skip = FRONT; code = ANY; nth = n }) (tailBy keep new) b
+abbrev pub with_record : (n keep : ℕ) (new b : List ℕ) → List ℕ
+with_record n keep new b = over_turn (record { skip = FRONT; code = ANY; nth = n }) (tail_by keep new) b
 
 -- one record in an `stsd`, and chunk offsets; every other opaque box is the same
 pub record OnlyRecord (n keep : ℕ) (new : List ℕ) (k c : ℕ) (b b' : List ℕ) : Type 0 where
   pub offsets : HasOffsets k c → ButOffsets b b'
-  pub entry : HasEntries k c → (b ≡ b') ⊎ (b' ≡ withRecord n keep new b)
+  pub entry : HasEntries k c → (b ≡ b') ⊎ (b' ≡ with_record n keep new b)
   pub rest : (HasOffsets k c → ⊥) → (HasEntries k c → ⊥) → b ≡ b'
 
 -- how many bytes of the payload of entry i stand before its record
-abbrev pub keptOf : List ℕ → ℕ → ℕ
-keptOf xs i = headSize (kind_at xs i) - HEAD
+abbrev pub kept_of : List ℕ → ℕ → ℕ
+kept_of xs i = head_size (kind_at xs i) - HEAD
 
 -- the depth of a track: the containers from `trak` on
 abbrev pub TRACK : ℕ
@@ -94,9 +94,9 @@ TRACK = DEPTH - 2
 pub record Replaces (xs : List ℕ) (i : ℕ) (new ys : List ℕ) : Type 0 where
   pub t : ℕ
   pub n : ℕ
-  pub spot : spotIn (stsds xs) (i - 1) ≡ In t n
-  pub differs : Kin (OnlyRecord n (keptOf xs i) new) DEPTH FILE xs ys
-  pub there : sampleTable STSD (track ys t) ≡ withRecord n (keptOf xs i) new (sampleTable STSD (track xs t))
+  pub spot : spot_in (stsds xs) (i - 1) ≡ In t n
+  pub differs : Kin (OnlyRecord n (kept_of xs i) new) DEPTH FILE xs ys
+  pub there : sample_table STSD (track ys t) ≡ with_record n (kept_of xs i) new (sample_table STSD (track xs t))
   pub elsewhere : (u : ℕ) → (u ≡ t → ⊥) → Kin OnlyOffsets TRACK TRAK (track xs u) (track ys u)
 
 -- and so, by the sheet's list, entry i alone

@@ -16,12 +16,12 @@ use Rattle.boxes.specs.Kin.{All2, Leaf, Formed, KinBox, Kin}
 use Rattle.boxes.specs.Kin.All2.{nil, cons}
 use Rattle.boxes.proofs.Reading.{All}
 use Rattle.boxes.proofs.Reading.All.{none, some}
-use Rattle.boxes.proofs.Kin.{Then, kin-then}
+use Rattle.boxes.proofs.Kin.{Then, kin_then}
 use Rattle.release.specs.declared.Release.{Release}
 use Rattle.edit_offsets.specs.Close.{closed}
-use Rattle.edit_offsets.proofs.Closing.{Equal, ShutMoov, moovs-shut}
-use Rattle.edit_offsets.proofs.ClosedFile.{length-closed, boxes-closed, bytes-closed, kin-closed}
-use Rattle.promise_kept.proofs.Sound.{Sound, sound-then}
+use Rattle.edit_offsets.proofs.Closing.{Equal, ShutMoov, moovs_shut}
+use Rattle.edit_offsets.proofs.ClosedFile.{length_closed, boxes_closed, bytes_closed, kin_closed}
+use Rattle.promise_kept.proofs.Sound.{Sound, sound_then}
 
 -- the content of xs was edited to ys, which keeps the rules of a release
 pub record Content (release : Release) (xs ys : List ℕ) : Type 1 where
@@ -35,22 +35,22 @@ pub record Content (release : Release) (xs ys : List ℕ) : Type 1 where
 
 -- ---- no `moov` opens
 
-plain-open : Plain ≡ Open → ⊥
-plain-open e = let z : ◌≡◌ {A = ℕ} 0 1 = cc in omega arith
+plain_open : Plain ≡ Open → ⊥
+plain_open e = let z : ◌≡◌ {A = ℕ} 0 1 = cc in omega arith
 
-stays-shut : {k : ℕ} (x y : Box) → Formed k x.code x.form y.form → x.code ≡ y.code → ShutMoov x → ShutMoov y
-stays-shut x y (inl e) c h o m = h (e ∙ o) (c ∙ m)
-stays-shut x y (inr (z, n, f, p)) c h o m = plain-open (sym p ∙ o)
+stays_shut : {k : ℕ} (x y : Box) → Formed k x.code x.form y.form → x.code ≡ y.code → ShutMoov x → ShutMoov y
+stays_shut x y (inl e) c h o m = h (e ∙ o) (c ∙ m)
+stays_shut x y (inr (z, n, f, p)) c h o m = plain_open (sym p ∙ o)
 
-pub kin-shut : {G : Leaf} {go : ℕ → List ℕ → List ℕ → Type 0} {k : ℕ} {l m : List Box} → All2 (KinBox G go k) l m → All ShutMoov l → All ShutMoov m
-kin-shut nil none = none
-kin-shut (cons {x} {y} r a) (some h b) = some {x = y} (stays-shut x y r.form r.code h) (kin-shut a b)
+pub kin_shut : {G : Leaf} {go : ℕ → List ℕ → List ℕ → Type 0} {k : ℕ} {l m : List Box} → All2 (KinBox G go k) l m → All ShutMoov l → All ShutMoov m
+kin_shut nil none = none
+kin_shut (cons {x} {y} r a) (some h b) = some {x = y} (stays_shut x y r.form r.code h) (kin_shut a b)
 
 -- ---- the file with its `moov` closed: no body changes
 
 -- which is sound
-pub equal-sound : (release : Release) → Sound release Equal
-equal-sound release =
+pub equal_sound : (release : Release) → Sound release Equal
+equal_sound release =
     record {
       ftyp = λ b b' r. r;
       mdat = λ b b' r. r;
@@ -63,25 +63,25 @@ equal-sound release =
       described = record { mdhd = λ b b' r. rw r; hdlr = λ b b' r. rw r; dref = λ b b' r. rw r; stsd = λ b b' r a q. rw (← r) q };
     }
 
-pub content-closed : (release : Release) (xs : List ℕ) → Bytes xs → length xs ≤ LONGEST → Content release xs (closed xs)
-content-closed release xs w n =
+pub content_closed : (release : Release) (xs : List ℕ) → Bytes xs → length xs ≤ LONGEST → Content release xs (closed xs)
+content_closed release xs w n =
     record {
       leaf = Equal;
-      kin = kin-closed xs w (omega arith);
-      sound = equal-sound release;
+      kin = kin_closed xs w (omega arith);
+      sound = equal_sound release;
       stco = λ b b' r. r;
-      shut = rw (boxes-closed xs w (omega arith)) (moovs-shut (boxes xs));
-      bytes = bytes-closed xs w (omega arith);
-      small = omega (arith, length-closed xs);
+      shut = rw (boxes_closed xs w (omega arith)) (moovs_shut (boxes xs));
+      bytes = bytes_closed xs w (omega arith);
+      small = omega (arith, length_closed xs);
     }
 
 -- one after the other
-pub content-then : {release : Release} {xs ys zs : List ℕ} → Content release xs ys → Content release ys zs → Content release xs zs
-content-then {release} {xs} {ys} {zs} c d =
+pub content_then : {release : Release} {xs ys zs : List ℕ} → Content release xs ys → Content release ys zs → Content release xs zs
+content_then {release} {xs} {ys} {zs} c d =
     record {
       leaf = Then c.leaf d.leaf;
-      kin = kin-then c.leaf d.leaf DEPTH FILE xs ys zs c.kin d.kin;
-      sound = sound-then c.sound d.sound;
+      kin = kin_then c.leaf d.leaf DEPTH FILE xs ys zs c.kin d.kin;
+      sound = sound_then c.sound d.sound;
       stco = λ b b'' r. c.stco b r.0 r.1 ∙ d.stco r.0 b'' r.2;
       shut = d.shut;
       bytes = d.bytes;

@@ -5,12 +5,12 @@ use mathlib.Core.Bool.{true}
 use mathlib.Core.List.{List}
 use Rattle.wire.specs.Numbers.{word}
 use Rattle.codes.specs.Codes.{FTYP, TRAK, TKHD, DINF, DREF, STBL, STSD, MDAT}
-use Rattle.boxes.specs.Containers.{FILE, kindIn}
+use Rattle.boxes.specs.Containers.{FILE, kind_in}
 use Rattle.boxes.specs.Kin.{Leaf}
 use Rattle.boxes.proofs.Kin.{Then}
 use Rattle.release.specs.declared.Release.{Release}
-use Rattle.rule_lists.specs.Five.{listForm}
-use Rattle.rule_lists.specs.Nine.{allUrls}
+use Rattle.rule_lists.specs.Five.{list_form}
+use Rattle.rule_lists.specs.Nine.{all_urls}
 use Rattle.rule_headers.specs.Forms.{form}
 use Rattle.rule_tracks.proofs.Kept.{Tables}
 use Rattle.rule_entries.proofs.Kept.{Described}
@@ -19,17 +19,17 @@ use Rattle.rule_entries.proofs.Kept.{Described}
 pub record Sound (release : Release) (G : Leaf) : Type 0 where
   pub ftyp : (b b' : List ℕ) → G FILE FTYP b b' → b ≡ b'
   pub mdat : (b b' : List ℕ) → G FILE MDAT b b' → b ≡ b'
-  pub forms : (k c : ℕ) (b b' : List ℕ) → kindIn k c ≡ 0 → G k c b b' → form k c b ≡ true → form k c b' ≡ true
+  pub forms : (k c : ℕ) (b b' : List ℕ) → kind_in k c ≡ 0 → G k c b b' → form k c b ≡ true → form k c b' ≡ true
   pub tkhd : (b b' : List ℕ) → G TRAK TKHD b b' → word 4 b 12 ≡ word 4 b' 12
-  pub stsd : (b b' : List ℕ) → G STBL STSD b b' → listForm b ≡ true → listForm b' ≡ true
-  pub dref : (b b' : List ℕ) → G DINF DREF b b' → listForm b ≡ true → listForm b' ≡ true
-  pub urls : (b b' : List ℕ) → G DINF DREF b b' → allUrls b ≡ true → allUrls b' ≡ true
+  pub stsd : (b b' : List ℕ) → G STBL STSD b b' → list_form b ≡ true → list_form b' ≡ true
+  pub dref : (b b' : List ℕ) → G DINF DREF b b' → list_form b ≡ true → list_form b' ≡ true
+  pub urls : (b b' : List ℕ) → G DINF DREF b b' → all_urls b ≡ true → all_urls b' ≡ true
   pub tables : Tables G
   pub described : Described release G
 
 -- a narrower relation is sound too
-pub sound-less : {release : Release} {G H : Leaf} → ((k c : ℕ) (b b' : List ℕ) → H k c b b' → G k c b b') → Sound release G → Sound release H
-sound-less h s =
+pub sound_less : {release : Release} {G H : Leaf} → ((k c : ℕ) (b b' : List ℕ) → H k c b b' → G k c b b') → Sound release G → Sound release H
+sound_less h s =
     record {
       ftyp = λ b b' r. s.ftyp b b' (h _ _ b b' r);
       mdat = λ b b' r. s.mdat b b' (h _ _ b b' r);
@@ -58,8 +58,8 @@ sound-less h s =
     }
 
 -- one after the other
-pub sound-then : {release : Release} {G H : Leaf} → Sound release G → Sound release H → Sound release (Then G H)
-sound-then s t =
+pub sound_then : {release : Release} {G H : Leaf} → Sound release G → Sound release H → Sound release (Then G H)
+sound_then s t =
     record {
       ftyp = λ b b'' r. s.ftyp b r.0 r.1 ∙ t.ftyp r.0 b'' r.2;
       mdat = λ b b'' r. s.mdat b r.0 r.1 ∙ t.mdat r.0 b'' r.2;

@@ -6,8 +6,8 @@ use mathlib.Core.List.{List, [], ◌∷◌, ◌++◌}
 use lib.ListN.{length}
 use Rattle.boxes.specs.Box.{Box, size, header}
 use Rattle.boxes.specs.Seek.{ANY, count, nth}
-use Rattle.boxes.proofs.Meaning.{meant-any}
-use Rattle.movie.specs.Entries.{Entry, entriesFrom}
+use Rattle.boxes.proofs.Meaning.{meant_any}
+use Rattle.movie.specs.Entries.{Entry, entries_from}
 use Rattle.movie.specs.Named.{bytes_at}
 
 -- box n of a list, from 0, with its bytes
@@ -20,12 +20,12 @@ pub record Split (l : List Box) (n : ℕ) (bs : List ℕ) : Type 0 where
   pub bytes : bs ≡ header box ++ box.body
 
 -- the entries of one track
-pub split_from : (t : ℕ) (l : List Box) (p n : ℕ) (more : List Entry) → n < count ANY l → Split l n (bytes_at n (entriesFrom t l p ++ more))
-unfolding entriesFrom bytes_at count
+pub split_from : (t : ℕ) (l : List Box) (p n : ℕ) (more : List Entry) → n < count ANY l → Split l n (bytes_at n (entries_from t l p ++ more))
+unfolding entries_from bytes_at count
 split_from t [] p n more h = absurd (omega arith)
 split_from t (x ∷ l) p zero more h = record { before = []; box = x; past = l; list = refl; nth = refl; bytes = refl }
 split_from t (x ∷ l) p (suc n) more h =
-    let o = meant-any ANY x.code refl in
+    let o = meant_any ANY x.code refl in
     let s = split_from t l (p + size x) n more (omega arith) in
     record { before = x ∷ s.before; box = s.box; past = s.past; list = ap (λ (m : List Box). x ∷ m) s.list; nth = omega (arith, s.nth); bytes = s.bytes }
 

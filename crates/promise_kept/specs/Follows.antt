@@ -5,8 +5,8 @@ use Rattle.boxes.specs.Box.{Box}
 use Rattle.boxes.specs.Boxes.{boxes}
 use Rattle.boxes.specs.Seek.{count, nth, start_in}
 use Rattle.sample_tables.specs.Tables.{items}
-use Rattle.sample_tables.specs.Chunks.{offsetAt}
-use Rattle.movie.specs.Movie.{track, sampleTable}
+use Rattle.sample_tables.specs.Chunks.{offset_at}
+use Rattle.movie.specs.Movie.{track, sample_table}
 
 -- from a file with the boxes l to one with the boxes m: offset o is in the payload of `mdat` j, from 0, and offset p is as far
 -- from the start of that payload there as o was here
@@ -19,10 +19,10 @@ pub record Follows (l m : List Box) (o p : ℕ) : Type 0 where
   pub moved : p - start_in MDAT j m ≡ o - start_in MDAT j l
 
 -- the chunk offsets of track t, from 0
-abbrev pub chunkOffsets : List ℕ → ℕ → List ℕ
-chunkOffsets xs t = sampleTable STCO (track xs t)
+abbrev pub chunk_offsets : List ℕ → ℕ → List ℕ
+chunk_offsets xs t = sample_table STCO (track xs t)
 
 -- as many in every track, and each so
 pub record AllFollow (xs ys : List ℕ) : Type 0 where
-  pub same : (t : ℕ) → items (chunkOffsets ys t) ≡ items (chunkOffsets xs t)
-  pub each : (t k : ℕ) → k < items (chunkOffsets xs t) → Follows (boxes xs) (boxes ys) (offsetAt (chunkOffsets xs t) k) (offsetAt (chunkOffsets ys t) k)
+  pub same : (t : ℕ) → items (chunk_offsets ys t) ≡ items (chunk_offsets xs t)
+  pub each : (t k : ℕ) → k < items (chunk_offsets xs t) → Follows (boxes xs) (boxes ys) (offset_at (chunk_offsets xs t) k) (offset_at (chunk_offsets ys t) k)

@@ -7,18 +7,18 @@ use Rattle.release.specs.declared.Release.{Release}
 use Rattle.rule.specs.declared.Answer.{Answer}
 use Rattle.rule.specs.Results.{Result, Exact}
 use Rattle.rule.proofs.Results.{one_answer}
-use Rattle.read_tracks.specs.Reads.{trackResult, offsetsResult}
-use Rattle.read_samples.specs.Reads.{samplesResult}
-use Rattle.modes.specs.Track.{modesResult}
-use Rattle.sheet.specs.Reader.{sheetResult}
-use Rattle.sheet_table.specs.Table.{tableResult}
-use Rattle.listing.specs.Listing.{listingResult}
-use Rattle.outline.specs.Outline.{outlineResult}
-use Rattle.entry_fields.specs.Numbers.{readResult, writeResult}
-use Rattle.esds.specs.Calls.{esdsRead, esdsWrite}
-use Rattle.edit_shift.specs.Shift.{shiftResult}
-use Rattle.edit_replace.specs.Replace.{replaceResult}
-use Rattle.edit_move.specs.Moving.{moveResult}
+use Rattle.read_tracks.specs.Reads.{track_result, offsets_result}
+use Rattle.read_samples.specs.Reads.{samples_result}
+use Rattle.modes.specs.Track.{modes_result}
+use Rattle.sheet.specs.Reader.{sheet_result}
+use Rattle.sheet_table.specs.Table.{table_result}
+use Rattle.listing.specs.Listing.{listing_result}
+use Rattle.outline.specs.Outline.{outline_result}
+use Rattle.entry_fields.specs.Numbers.{read_result, write_result}
+use Rattle.esds.specs.Calls.{esds_read, esds_write}
+use Rattle.edit_shift.specs.Shift.{shift_result}
+use Rattle.edit_replace.specs.Replace.{replace_result}
+use Rattle.edit_move.specs.Moving.{move_result}
 
 -- what a call that comes to g may answer and leave is one answer and one room
 abbrev pub One : Result → Type 0
@@ -28,47 +28,47 @@ pub one : (g : Result) → One g
 one g out r s a b x y = one_answer g out x y
 
 module _ (file : List ℕ) where
-  pub one-track : (t : ℕ) → One (trackResult file t)
-  one-track t = one _
+  pub one_track : (t : ℕ) → One (track_result file t)
+  one_track t = one _
 
-  pub one-offsets : (t : ℕ) → One (offsetsResult file t)
-  one-offsets t = one _
+  pub one_offsets : (t : ℕ) → One (offsets_result file t)
+  one_offsets t = one _
 
-  pub one-samples : (t : ℕ) → One (samplesResult file t)
-  one-samples t = one _
+  pub one_samples : (t : ℕ) → One (samples_result file t)
+  one_samples t = one _
 
-  pub one-modes : (t : ℕ) → One (modesResult file t)
-  one-modes t = one _
+  pub one_modes : (t : ℕ) → One (modes_result file t)
+  one_modes t = one _
 
-  pub one-esds-read : (i : ℕ) → One (esdsRead file i)
-  one-esds-read i = one _
+  pub one_esds_read : (i : ℕ) → One (esds_read file i)
+  one_esds_read i = one _
 
-  pub one-sheet : One (sheetResult file)
-  one-sheet = one _
+  pub one_sheet : One (sheet_result file)
+  one_sheet = one _
 
-  pub one-listing : One (listingResult file)
-  one-listing = one _
+  pub one_listing : One (listing_result file)
+  one_listing = one _
 
-  pub one-outline : One (outlineResult file)
-  one-outline = one _
+  pub one_outline : One (outline_result file)
+  one_outline = one _
 
-  pub one_shift : (z : ℤ) → One (shiftResult z file)
+  pub one_shift : (z : ℤ) → One (shift_result z file)
   one_shift z = one _
 
-  pub one-replace : (i : ℕ) (new : List ℕ) → One (replaceResult file i new)
-  one-replace i new = one _
+  pub one_replace : (i : ℕ) (new : List ℕ) → One (replace_result file i new)
+  one_replace i new = one _
 
-  pub one-move : One (moveResult file)
-  one-move = one _
+  pub one_move : One (move_result file)
+  one_move = one _
 
-pub one_table : (sheet : List ℕ) (t : ℕ) → One (tableResult sheet t)
+pub one_table : (sheet : List ℕ) (t : ℕ) → One (table_result sheet t)
 one_table sheet t = one _
 
-pub one-read : (release : Release) (entry : List ℕ) → One (readResult release entry)
-one-read release entry = one _
+pub one_read : (release : Release) (entry : List ℕ) → One (read_result release entry)
+one_read release entry = one _
 
-pub one-write : (release : Release) (fields : List ℕ) → One (writeResult release fields)
-one-write release fields = one _
+pub one_write : (release : Release) (fields : List ℕ) → One (write_result release fields)
+one_write release fields = one _
 
-pub one-esds-write : (fields specific : List ℕ) → One (esdsWrite fields specific)
-one-esds-write fields specific = one _
+pub one_esds_write : (fields specific : List ℕ) → One (esds_write fields specific)
+one_esds_write fields specific = one _

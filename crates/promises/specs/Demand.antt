@@ -8,7 +8,7 @@ use Rattle.promise_kept.specs.Follows.{AllFollow}
 use Rattle.promise_kept.specs.Kept.{Kept}
 use Rattle.promise_kept.specs.Edits.{Edit, meaning}
 use Rattle.promise_differs.specs.Differs.{Differs}
-use Rattle.promises.specs.Runs.{Lent, answer_of, goesOn, run}
+use Rattle.promises.specs.Runs.{Lent, answer_of, goes_on, run}
 
 -- an edit e made ys of xs
 pub record Edited (e : Edit) (xs ys : List ℕ) : Type 0 where
@@ -24,7 +24,7 @@ Step (Done n) e xs ys = (n ≡ length ys) × Edited e xs ys
 
 unfoldable pub EveryStep : List Lent → List ℕ → Type 0
 EveryStep [] xs = Unit
-EveryStep (l ∷ ls) xs = Step (answer_of l xs) l.edit xs (goesOn l xs) × EveryStep ls (goesOn l xs)
+EveryStep (l ∷ ls) xs = Step (answer_of l xs) l.edit xs (goes_on l xs) × EveryStep ls (goes_on l xs)
 
 -- of every step, and of the last file against the first
 pub record Demand (ls : List Lent) (xs : List ℕ) : Type 0 where

@@ -3,33 +3,33 @@ use Rattle.std.specs.Prelude.{ℕ, ◌+◌, List, [], ◌∷◌}
 use Rattle.codes.specs.Codes.{MOOV, SAMR, SOUN}
 use Rattle.boxes.specs.declared.walk.Form.{Form}
 use Rattle.boxes.specs.declared.walk.Form.TheVariants.{Plain, Wide, Open}
-use Rattle.boxes.specs.Box.{Box, plainBox, head_of, write}
-use Rattle.promises.specs.Example.{ftypBox, moovBoxes, mdiaBoxes, moovBox, mdatBox, speech}
+use Rattle.boxes.specs.Box.{Box, plain_box, head_of, write}
+use Rattle.promises.specs.Example.{ftyp_box, moov_boxes, mdia_boxes, moov_box, mdat_box, speech}
 
 -- the same box in another form
-abbrev pub formBox : Form → Box → Box
-formBox f x = record { form = f; code = x.code; body = x.body }
+abbrev pub form_box : Form → Box → Box
+form_box f x = record { form = f; code = x.code; body = x.body }
 
 -- a list with its last box open
-abbrev pub openLast : List Box → List Box
-openLast [] = []
-openLast (x ∷ []) = formBox Open x ∷ []
-openLast (x ∷ y ∷ l) = x ∷ openLast (y ∷ l)
+abbrev pub open_last : List Box → List Box
+open_last [] = []
+open_last (x ∷ []) = form_box Open x ∷ []
+open_last (x ∷ y ∷ l) = x ∷ open_last (y ∷ l)
 
 -- `moov` and `mdat` in forms f and g: the payload of `mdat` starts behind both headers and 538 bytes
-abbrev pub fileIn : Form → Form → List ℕ
-fileIn f g = write (ftypBox ∷ formBox f (moovBox 0 SOUN (speech SAMR) (538 + head_of f + head_of g)) ∷ formBox g mdatBox ∷ [])
+abbrev pub file_in : Form → Form → List ℕ
+file_in f g = write (ftyp_box ∷ form_box f (moov_box 0 SOUN (speech SAMR) (538 + head_of f + head_of g)) ∷ form_box g mdat_box ∷ [])
 
 -- `mdat` first, its payload 32 bytes into the file, and `moov` last
-abbrev pub movieLast : Box → List ℕ
-movieLast moov = write (ftypBox ∷ mdatBox ∷ moov ∷ [])
+abbrev pub movie_last : Box → List ℕ
+movie_last moov = write (ftyp_box ∷ mdat_box ∷ moov ∷ [])
 
 -- wide boxes, an open `mdat`, an open `moov`; an open `trak`, which rule 2 refuses
-abbrev pub otherForms : List (List ℕ)
-otherForms =
-    fileIn Wide Plain
-    ∷ fileIn Wide Wide
-    ∷ fileIn Plain Open
-    ∷ movieLast (formBox Open (moovBox 0 SOUN (speech SAMR) 32))
-    ∷ movieLast (plainBox MOOV (write (openLast (moovBoxes 0 (mdiaBoxes SOUN (speech SAMR) 32)))))
+abbrev pub other_forms : List (List ℕ)
+other_forms =
+    file_in Wide Plain
+    ∷ file_in Wide Wide
+    ∷ file_in Plain Open
+    ∷ movie_last (form_box Open (moov_box 0 SOUN (speech SAMR) 32))
+    ∷ movie_last (plain_box MOOV (write (open_last (moov_boxes 0 (mdia_boxes SOUN (speech SAMR) 32)))))
     ∷ []

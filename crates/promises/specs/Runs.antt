@@ -14,16 +14,16 @@ abbrev pub answer_of : Lent → List ℕ → Answer
 answer_of l xs = answer l.edit xs l.out
 
 -- the file that the caller goes on with: as many bytes of the buffer as the edit says, and the old file where it is refused
-abbrev pub goOn : Answer → List ℕ → List ℕ → List ℕ
-goOn (Done n) xs out = take n out
-goOn (Refused n p) xs out = xs
+abbrev pub go_on : Answer → List ℕ → List ℕ → List ℕ
+go_on (Done n) xs out = take n out
+go_on (Refused n p) xs out = xs
 
-abbrev pub goesOn : Lent → List ℕ → List ℕ
-goesOn l xs = goOn (answer_of l xs) xs (left l.edit xs l.out)
+abbrev pub goes_on : Lent → List ℕ → List ℕ
+goes_on l xs = go_on (answer_of l xs) xs (left l.edit xs l.out)
 
 unfoldable pub run : List Lent → List ℕ → List ℕ
 run [] xs = xs
-run (l ∷ ls) xs = run ls (goesOn l xs)
+run (l ∷ ls) xs = run ls (goes_on l xs)
 
 -- what is given to each are bytes
 pub data AllGiven : List Lent → Type 0 where

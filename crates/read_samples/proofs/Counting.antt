@@ -6,29 +6,29 @@ use mathlib.Core.List.{List}
 use lib.ListN.{length}
 use Rattle.wire.specs.Writing.{Wrote}
 use Rattle.codes.specs.Codes.{STSC, STSZ, STCO}
-use Rattle.movie.specs.Movie.{sampleTable}
-use Rattle.sample_tables.specs.Sizes.{sampleCount}
-use Rattle.sample_walk.specs.Samples.{samplesAt}
+use Rattle.movie.specs.Movie.{sample_table}
+use Rattle.sample_tables.specs.Sizes.{sample_count}
+use Rattle.sample_walk.specs.Samples.{samples_at}
 use Rattle.sample_walk.specs.Walks.{Sampled}
-use Rattle.sample_walk.proofs.Walks.{samples-length}
-use Rattle.read_samples.specs.Reads.{trackSamples, places_of}
+use Rattle.sample_walk.proofs.Walks.{samples_length}
+use Rattle.read_samples.specs.Reads.{track_samples, places_of}
 use Rattle.read_samples.proofs.Tables.{Walked}
-use Rattle.read_samples.proofs.Numbers.{numbers-length}
+use Rattle.read_samples.proofs.Numbers.{numbers_length}
 
 -- as many samples as `stsz` counts
-pub samples-count : (stsc stsz stco : List ℕ) → Sampled stsc stsz stco → length (samplesAt stsc stsz stco) ≡ sampleCount stsz
-samples-count stsc stsz stco s = omega (arith, samples-length stsc stsz stco, s.total)
+pub samples_count : (stsc stsz stco : List ℕ) → Sampled stsc stsz stco → length (samples_at stsc stsz stco) ≡ sample_count stsz
+samples_count stsc stsz stco s = omega (arith, samples_length stsc stsz stco, s.total)
 
 -- of the track with payload b
-module _ (b : List ℕ) {stsc stsz stco : List ℕ} (e : stsc ≡ sampleTable STSC b) (g : stsz ≡ sampleTable STSZ b) (h : stco ≡ sampleTable STCO b) where
-  pub found-walked : Walked b → Sampled stsc stsz stco
-  found-walked s = rw (e, g, h) s
+module _ (b : List ℕ) {stsc stsz stco : List ℕ} (e : stsc ≡ sample_table STSC b) (g : stsz ≡ sample_table STSZ b) (h : stco ≡ sample_table STCO b) where
+  pub found_walked : Walked b → Sampled stsc stsz stco
+  found_walked s = rw (e, g, h) s
 
-  pub found-wrote : {out after : List ℕ} {n : ℕ} → Wrote (places_of (samplesAt stsc stsz stco)) out n after → Wrote (places_of (trackSamples b)) out n after
-  found-wrote w = rw (e, g, h) at w
+  pub found_wrote : {out after : List ℕ} {n : ℕ} → Wrote (places_of (samples_at stsc stsz stco)) out n after → Wrote (places_of (track_samples b)) out n after
+  found_wrote w = rw (e, g, h) at w
 
-pub found-count : (b : List ℕ) {stsz : List ℕ} → Walked b → stsz ≡ sampleTable STSZ b → {n : ℕ} → n ≡ sampleCount stsz
-    → 2 * n ≡ length (places_of (trackSamples b))
-found-count b s g e =
+pub found_count : (b : List ℕ) {stsz : List ℕ} → Walked b → stsz ≡ sample_table STSZ b → {n : ℕ} → n ≡ sample_count stsz
+    → 2 * n ≡ length (places_of (track_samples b))
+found_count b s g e =
     let z = rw g at e in
-    omega (arith, samples-count _ _ _ s, numbers-length (trackSamples b))
+    omega (arith, samples_count _ _ _ s, numbers_length (track_samples b))

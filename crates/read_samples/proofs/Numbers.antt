@@ -7,15 +7,15 @@ use mathlib.Core.List.{List, [], ◌∷◌, append_assoc}
 use lib.ListN.{length, take, drop, set, length-set}
 use lib.Seq.{sets-eq, drop-length}
 use Rattle.wire.specs.Writing.{put, Wrote, Put, Rest}
-use Rattle.wire.proofs.Writing.{pen-front}
-use Rattle.wire.proofs.Resting.{rest_all, rest_more, rest-none}
+use Rattle.wire.proofs.Writing.{pen_front}
+use Rattle.wire.proofs.Resting.{rest_all, rest_more, rest_none}
 use Rattle.sample_walk.specs.declared.walk.Sample.{Sample}
 use Rattle.read_samples.specs.Reads.{places_of}
 
-pub numbers-length : (l : List Sample) → length (places_of l) ≡ 2 * length l
+pub numbers_length : (l : List Sample) → length (places_of l) ≡ 2 * length l
 unfolding places_of
-numbers-length [] = refl
-numbers-length (s ∷ l) = omega (arith, numbers-length l)
+numbers_length [] = refl
+numbers_length (s ∷ l) = omega (arith, numbers_length l)
 
 pub put_two : (s : Sample) (out : List ℕ) (at : ℕ) → at + 2 ≤ length out
     → Put (places_of (s ∷ [])) out at (at + 2) (set (set out at s.place) (at + 1) s.bytes)
@@ -33,21 +33,21 @@ pub record Putting (l : List Sample) (n : ℕ) (out₀ out : List ℕ) (at : ℕ
   pub rest : Rest (places_of l) (places_of (drop n l)) out₀ 0 out at
   pub twice : at ≡ 2 * n
 
-pub putting-none : (l : List Sample) (out : List ℕ) → Putting l 0 out out 0
-putting-none l out = record { rest = rest_all (places_of l) out 0; twice = refl }
+pub putting_none : (l : List Sample) (out : List ℕ) → Putting l 0 out out 0
+putting_none l out = record { rest = rest_all (places_of l) out 0; twice = refl }
 
 module _ {l : List Sample} {n : ℕ} {out₀ out : List ℕ} {at : ℕ} (p : Putting l n out₀ out at) where
   -- room for one more
-  pub putting-room : 2 * length l ≤ length out₀ → n < length l → at + 2 ≤ length out
-  putting-room h i = omega (arith, p.twice, p.rest.same)
+  pub putting_room : 2 * length l ≤ length out₀ → n < length l → at + 2 ≤ length out
+  putting_room h i = omega (arith, p.twice, p.rest.same)
 
-  pub putting-more : {s : Sample} {mid : List ℕ} → drop n l ≡ s ∷ drop (n + 1) l → Put (places_of (s ∷ [])) out at (at + 2) mid
+  pub putting_more : {s : Sample} {mid : List ℕ} → drop n l ≡ s ∷ drop (n + 1) l → Put (places_of (s ∷ [])) out at (at + 2) mid
       → Putting l (n + 1) out₀ mid (at + 2)
   unfolding places_of
-  putting-more e q = record { rest = rest_more p.rest (rw e) q; twice = omega (arith, p.twice) }
+  putting_more e q = record { rest = rest_more p.rest (rw e) q; twice = omega (arith, p.twice) }
 
-  pub putting-all : length l ≡ n → 2 * length l ≤ length out₀ → Wrote (places_of l) out₀ at out
+  pub putting_all : length l ≡ n → 2 * length l ≤ length out₀ → Wrote (places_of l) out₀ at out
   unfolding places_of
-  putting-all e h =
+  putting_all e h =
       let z : drop n l ≡ [] = rw (← e) (drop-length l) in
-      pen-front (rest-none p.rest (rw z)) (omega (arith, p.twice))
+      pen_front (rest_none p.rest (rw z)) (omega (arith, p.twice))

@@ -5,37 +5,37 @@ use mathlib.Core.Bool.{false}
 use mathlib.Core.List.{List}
 use lib.ListN.{length}
 use Rattle.wire.specs.Tests.{pick}
-use Rattle.layout.specs.Slots.{slotIn}
+use Rattle.layout.specs.Slots.{slot_in}
 use Rattle.layout.specs.declared.track.Track.{Track}
 use Rattle.rule.specs.declared.Answer.TheVariants as answer
 use Rattle.rule.specs.declared.Answer.TheVariants.{Done}
 use Rattle.judge.specs.Judgement.{judged}
-use Rattle.judge.specs.Calls.{answerOn}
-use Rattle.judge.proofs.Calls.{answer-accepted}
-use Rattle.judge.proofs.Exact.{accepted-meets}
+use Rattle.judge.specs.Calls.{answer_on}
+use Rattle.judge.proofs.Calls.{answer_accepted}
+use Rattle.judge.proofs.Exact.{accepted_meets}
 use Rattle.judge.specs.declared.Judgement.TheVariants.{Accepted}
-use Rattle.read_tracks.specs.Reads.{isTrack}
+use Rattle.read_tracks.specs.Reads.{is_track}
 use Rattle.read_tracks.specs.Tracks.{Numbered}
-use Rattle.read_tracks.proofs.Reading.{laid-offsets}
+use Rattle.read_tracks.proofs.Reading.{laid_offsets}
 use Rattle.sample_walk.specs.declared.walk.Sample.{Sample}
 use Rattle.sample_walk.specs.declared.walk.SampleWalk.{SampleWalk}
-use Rattle.sample_walk.specs.Samples.{samplesAt}
-use Rattle.sample_walk.specs.Walks.{Sampled, Before, Gives, sampleStart}
-use Rattle.sample_walk.proofs.Walks.{start-before}
+use Rattle.sample_walk.specs.Samples.{samples_at}
+use Rattle.sample_walk.specs.Walks.{Sampled, Before, Gives, sample_start}
+use Rattle.sample_walk.proofs.Walks.{start_before}
 use Rattle.read_samples.specs.declared.stand.Stand.{Stand}
-use Rattle.read_samples.specs.Stands.{tableSamples, StandsIn, Starts, Onward}
-use Rattle.read_samples.proofs.Tables.{numbered-walked, laid_runs, laid-sizes}
+use Rattle.read_samples.specs.Stands.{table_samples, StandsIn, Starts, Onward}
+use Rattle.read_samples.proofs.Tables.{numbered_walked, laid_runs, laid_sizes}
 
 -- ---- a step, over the tables as they are read
 
-module _ {xs : List ℕ} {at : Stand} (r : StandsIn xs at) {a b c : List ℕ} (e : a ≡ slotIn xs at.stsc)
-    (f : b ≡ slotIn xs at.stsz) (g : c ≡ slotIn xs at.stco) where
-  pub ready-step : Sampled a b c × Before a b c at.walk
-  ready-step = rw (e, f, g) (r.tables, r.before)
+module _ {xs : List ℕ} {at : Stand} (r : StandsIn xs at) {a b c : List ℕ} (e : a ≡ slot_in xs at.stsc)
+    (f : b ≡ slot_in xs at.stsz) (g : c ≡ slot_in xs at.stco) where
+  pub ready_step : Sampled a b c × Before a b c at.walk
+  ready_step = rw (e, f, g) (r.tables, r.before)
 
-  pub stand-gives : {s : Sample} {w : SampleWalk} → Gives a b c at.walk.number s w
+  pub stand_gives : {s : Sample} {w : SampleWalk} → Gives a b c at.walk.number s w
       → Onward xs at s (record { stsc = at.stsc; stsz = at.stsz; stco = at.stco; walk = w })
-  stand-gives h =
+  stand_gives h =
       let i = rw (e, f, g) at h in
       record {
         is = i.is;
@@ -44,23 +44,23 @@ module _ {xs : List ℕ} {at : Stand} (r : StandsIn xs at) {a b c : List ℕ} (e
         ready = record { stsc = r.stsc; stsz = r.stsz; stco = r.stco; tables = r.tables; before = i.walk };
       }
 
-  pub stand-ends : length (samplesAt a b c) ≡ at.walk.number → length (tableSamples xs at) ≡ at.walk.number
-  stand-ends h = rw (e, f, g) at h
+  pub stand_ends : length (samples_at a b c) ≡ at.walk.number → length (table_samples xs at) ≡ at.walk.number
+  stand_ends h = rw (e, f, g) at h
 
 -- ---- the start, or 20
 
-pub stand-none : (xs : List ℕ) (t : ℕ) → judged xs ≡ Accepted → isTrack xs t ≡ false
-    → answer.Refused 20 0 ≡ answerOn xs (pick (isTrack xs t) (Done 0) (answer.Refused 20 0))
-stand-none xs t j h = answer-accepted xs refl _ j (rw h)
+pub stand_none : (xs : List ℕ) (t : ℕ) → judged xs ≡ Accepted → is_track xs t ≡ false
+    → answer.Refused 20 0 ≡ answer_on xs (pick (is_track xs t) (Done 0) (answer.Refused 20 0))
+stand_none xs t j h = answer_accepted xs refl _ j (rw h)
 
-module _ (xs : List ℕ) (t : ℕ) (j : judged xs ≡ Accepted) {k : Track} (n : Numbered xs t k) {w : SampleWalk} (s : w ≡ sampleStart) where
-  pub stand-starts : Starts xs t (record { stsc = k.stsc; stsz = k.stsz; stco = k.stco; walk = w })
-  stand-starts =
+module _ (xs : List ℕ) (t : ℕ) (j : judged xs ≡ Accepted) {k : Track} (n : Numbered xs t k) {w : SampleWalk} (s : w ≡ sample_start) where
+  pub stand_starts : Starts xs t (record { stsc = k.stsc; stsz = k.stsz; stco = k.stco; walk = w })
+  stand_starts =
       let l = n.laid in
-      let d = numbered-walked xs t (accepted-meets xs j) n in
+      let d = numbered_walked xs t (accepted_meets xs j) n in
       let e = laid_runs l refl in
-      let f = laid-sizes l refl in
-      let g = laid-offsets l refl in
+      let f = laid_sizes l refl in
+      let g = laid_offsets l refl in
       record {
         accepted = j;
         there = n.there;
@@ -70,7 +70,7 @@ module _ (xs : List ℕ) (t : ℕ) (j : judged xs ≡ Accepted) {k : Track} (n :
               stsz = l.stsz.lies;
               stco = l.stco.lies;
               tables = rw (e, f, g) d;
-              before = rw (e, f, g) (start-before _ _ _ d);
+              before = rw (e, f, g) (start_before _ _ _ d);
             });
         first = rw s refl;
         samples = rw (e, f, g);

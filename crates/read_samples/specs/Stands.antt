@@ -1,62 +1,62 @@
 -- "A sample walk holds the lent file and its place in it, and gives the next sample's bytes or the end."
 use Rattle.std.specs.Prelude.{ℕ, ◌+◌, ◌≡◌, true, List, [], ◌∷◌, length, drop}
 use Rattle.wire.specs.Tests.{pick}
-use Rattle.layout.specs.Slots.{slotIn, Lies}
+use Rattle.layout.specs.Slots.{slot_in, Lies}
 use Rattle.rule.specs.declared.Answer.TheVariants as answer
 use Rattle.rule.specs.declared.Answer.TheVariants.{Done}
 use Rattle.judge.specs.Judgement.{judged}
-use Rattle.judge.specs.Calls.{answerOn}
+use Rattle.judge.specs.Calls.{answer_on}
 use Rattle.judge.specs.declared.Judgement.TheVariants.{Accepted}
-use Rattle.read_tracks.specs.Reads.{isTrack, trackBody}
+use Rattle.read_tracks.specs.Reads.{is_track, track_body}
 use Rattle.sample_walk.specs.declared.walk.Sample.{Sample}
-use Rattle.sample_walk.specs.Samples.{samplesAt}
+use Rattle.sample_walk.specs.Samples.{samples_at}
 use Rattle.sample_walk.specs.Walks.{Sampled, Before}
 use Rattle.read_samples.specs.declared.stand.Stand.{Stand}
 use Rattle.read_samples.specs.declared.stand.Stood.{Stood}
 use Rattle.read_samples.specs.declared.stand.Stood.TheVariants.{At, Refused}
 use Rattle.read_samples.specs.declared.stand.Next.{Next}
 use Rattle.read_samples.specs.declared.stand.Next.TheVariants.{Found, End}
-use Rattle.read_samples.specs.Reads.{trackSamples}
+use Rattle.read_samples.specs.Reads.{track_samples}
 
 -- the samples that it walks over, in the file xs
-abbrev pub tableSamples : List ℕ → Stand → List Sample
-tableSamples xs at = samplesAt (slotIn xs at.stsc) (slotIn xs at.stsz) (slotIn xs at.stco)
+abbrev pub table_samples : List ℕ → Stand → List Sample
+table_samples xs at = samples_at (slot_in xs at.stsc) (slot_in xs at.stsz) (slot_in xs at.stco)
 
 -- it stands before the sample of its number, from 0
 pub record StandsIn (xs : List ℕ) (at : Stand) : Type 0 where
   pub stsc : Lies xs at.stsc
   pub stsz : Lies xs at.stsz
   pub stco : Lies xs at.stco
-  pub tables : Sampled (slotIn xs at.stsc) (slotIn xs at.stsz) (slotIn xs at.stco)
-  pub before : Before (slotIn xs at.stsc) (slotIn xs at.stsz) (slotIn xs at.stco) at.walk
+  pub tables : Sampled (slot_in xs at.stsc) (slot_in xs at.stsz) (slot_in xs at.stco)
+  pub before : Before (slot_in xs at.stsc) (slot_in xs at.stsz) (slot_in xs at.stco) at.walk
 
 -- ---- before the first sample of track t
 
 pub record Starts (xs : List ℕ) (t : ℕ) (at : Stand) : Type 0 where
   pub accepted : judged xs ≡ Accepted
-  pub there : isTrack xs t ≡ true
+  pub there : is_track xs t ≡ true
   pub ready : StandsIn xs at
   pub first : at.walk.number ≡ 0
-  pub samples : tableSamples xs at ≡ trackSamples (trackBody xs t)
+  pub samples : table_samples xs at ≡ track_samples (track_body xs t)
 
 -- or 1 to 10, or 20
 unfoldable pub StoodAs : List ℕ → ℕ → Stood → Type 0
 StoodAs xs t (At at) = Starts xs t at
-StoodAs xs t (Refused n p) = answer.Refused n p ≡ answerOn xs (pick (isTrack xs t) (Done 0) (answer.Refused 20 0))
+StoodAs xs t (Refused n p) = answer.Refused n p ≡ answer_on xs (pick (is_track xs t) (Done 0) (answer.Refused 20 0))
 
 -- ---- a step
 
 -- it gives the sample of its number, and stands before the one after it
 pub record Onward (xs : List ℕ) (at : Stand) (s : Sample) (next : Stand) : Type 0 where
-  pub is : drop at.walk.number (tableSamples xs at) ≡ s ∷ drop (at.walk.number + 1) (tableSamples xs at)
-  pub samples : tableSamples xs next ≡ tableSamples xs at
+  pub is : drop at.walk.number (table_samples xs at) ≡ s ∷ drop (at.walk.number + 1) (table_samples xs at)
+  pub samples : table_samples xs next ≡ table_samples xs at
   pub number : next.walk.number ≡ at.walk.number + 1
   pub ready : StandsIn xs next
 
 -- and the end past the last
 unfoldable pub NextAs : List ℕ → Stand → Next → Type 0
 NextAs xs at (Found s next) = Onward xs at s next
-NextAs xs at End = length (tableSamples xs at) ≡ at.walk.number
+NextAs xs at End = length (table_samples xs at) ≡ at.walk.number
 
 -- what a walk gives step by step, up to the end
 pub data Turns (xs : List ℕ) : Stand → List Sample → Type 0 where

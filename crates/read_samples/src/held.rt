@@ -1,6 +1,6 @@
 // The walk that holds the lent file: a thin struct over the core in `stand`.
 ghost use Rattle.std.specs.Prelude.{◌≡◌};
-ghost use Rattle.mdat.specs.Samples.{sampleBytes};
+ghost use Rattle.mdat.specs.Samples.{sample_bytes};
 ghost use Rattle.read_samples.specs.Stands.{StandsIn, NextAs};
 
 use crate::stand;
@@ -38,7 +38,7 @@ pub fn next<'a>(s: Samples<'a>) -> Next
 
 // The bytes of a sample.
 pub fn bytes<'a>(s: Samples<'a>, sample: Sample) -> &'a [u8]
-    ensures { result.now ≡ sampleBytes s.entry.file.now sample }
+    ensures { result.now ≡ sample_bytes s.entry.file.now sample }
 {
     stand::bytes_of(s.file, sample)
 }

@@ -7,10 +7,10 @@ ghost use Rattle.wire.specs.Writing.{Wrote, Put};
 ghost use Rattle.rule.specs.Results.{asked, Exact};
 ghost use Rattle.rule.specs.Results.Result.{gives};
 ghost use Rattle.judge.specs.Acceptance.{Meets};
-ghost use Rattle.read_tracks.specs.Reads.{isTrack, trackBody};
-ghost use Rattle.sample_walk.specs.Samples.{samplesAt};
+ghost use Rattle.read_tracks.specs.Reads.{is_track, track_body};
+ghost use Rattle.sample_walk.specs.Samples.{samples_at};
 ghost use Rattle.sample_walk.specs.Walks.{Sampled};
-ghost use Rattle.read_samples.specs.Reads.{trackSamples, places_of, samplesResult};
+ghost use Rattle.read_samples.specs.Reads.{track_samples, places_of, samples_result};
 
 use judge::Judgement;
 use layout::gather;
@@ -30,8 +30,8 @@ fn put_sample(sample: Sample, out: &mut [u64], at: usize)
 
 // Those of every sample in turn.
 fn put(stsc: &[u8], stsz: &[u8], stco: &[u8], out: &mut [u64]) -> usize
-    requires { Sampled stsc.now stsz.now stco.now × (2 * length (samplesAt stsc.now stsz.now stco.now) ≤ length out.old) }
-    ensures { Wrote (places_of (samplesAt stsc.now stsz.now stco.now)) out.old result out.new }
+    requires { Sampled stsc.now stsz.now stco.now × (2 * length (samples_at stsc.now stsz.now stco.now) ≤ length out.old) }
+    ensures { Wrote (places_of (samples_at stsc.now stsz.now stco.now)) out.old result out.new }
 {
     let mut walk = SampleWalk::start();
     let mut at = 0;
@@ -52,7 +52,7 @@ fn put(stsc: &[u8], stsz: &[u8], stco: &[u8], out: &mut [u64]) -> usize
 // Of a file that is accepted.
 fn samples_in(file: &[u8], track: usize, out: &mut [u64]) -> Answer
     requires { Meets file.now }
-    ensures { Exact (asked ((20, isTrack file.now track) ∷ []) (gives (places_of (trackSamples (trackBody file.now track))))) out.old result out.new }
+    ensures { Exact (asked ((20, is_track file.now track) ∷ []) (gives (places_of (track_samples (track_body file.now track))))) out.old result out.new }
 {
     match read_tracks::numbered_track(file, track) {
         NumberedTrack::At(k) => {
@@ -76,7 +76,7 @@ fn samples_in(file: &[u8], track: usize, out: &mut [u64]) -> Answer
 
 // The place and the length of each sample of a track, in turn.
 pub fn samples(file: &[u8], track: usize, out: &mut [u64]) -> Answer
-    ensures { Exact (samplesResult file.now track) out.old result out.new }
+    ensures { Exact (samples_result file.now track) out.old result out.new }
 {
     match judge::judge(file) {
         Judgement::Accepted => samples_in(file, track, out),

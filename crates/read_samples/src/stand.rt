@@ -2,7 +2,7 @@
 ghost use Rattle.std.specs.Prelude.{◌≡◌};
 ghost use Rattle.judge.specs.Judgement.{judged};
 ghost use Rattle.judge.specs.declared.Judgement.TheVariants.{Accepted};
-ghost use Rattle.mdat.specs.Samples.{sampleBytes};
+ghost use Rattle.mdat.specs.Samples.{sample_bytes};
 ghost use Rattle.read_samples.specs.Stands.{StandsIn, NextAs, StoodAs};
 
 use judge::Judgement;
@@ -95,7 +95,7 @@ pub fn next_at(file: &[u8], at: Stand) -> Next
 
 // The bytes of a sample.
 pub fn bytes_of(file: &[u8], sample: Sample) -> &[u8]
-    ensures { result.now ≡ sampleBytes file.now sample }
+    ensures { result.now ≡ sample_bytes file.now sample }
 {
     lend::front(lend::rest(file, sample.place), sample.bytes)
 }

@@ -3,17 +3,17 @@ mod offset;
 mod said;
 
 ghost use Rattle.std.specs.Prelude.{◌≡◌, [], ◌∷◌};
-ghost use Rattle.wire.specs.Clauses.{oneIf};
+ghost use Rattle.wire.specs.Clauses.{one_if};
 ghost use Rattle.wire.specs.Tests.{pick};
 ghost use Rattle.rule.specs.Results.{asked, Exact};
 ghost use Rattle.rule.specs.Results.Result.{gives};
-ghost use Rattle.movie.specs.Movie.{tracks as tracksOf};
+ghost use Rattle.movie.specs.Movie.{tracks as tracks_of};
 ghost use Rattle.layout.specs.Every.{TracksAt};
 ghost use Rattle.judge.specs.Acceptance.{Meets};
 ghost use Rattle.read_tracks.specs.declared.MediaLength.TheVariants as media;
 ghost use Rattle.read_tracks.specs.declared.MovieLength.TheVariants as movie;
 ghost use Rattle.read_tracks.specs.Tracks.{NumberedAs};
-ghost use Rattle.read_tracks.specs.Reads.{tracksAnswer, isTrack, trackBody, mediaOf, movieOf, mediaLength, movieLength, saidBy, numbersOf, trackResult, offsetsOf, offsetsResult};
+ghost use Rattle.read_tracks.specs.Reads.{tracks_answer, is_track, track_body, media_of, movie_of, media_length, movie_length, said_by, numbers_of, track_result, offsets_of, offsets_result};
 
 use judge::Judgement;
 use layout::every::Tracks;
@@ -25,7 +25,7 @@ use sample_tables::time::MediaTicks;
 
 // How many tracks a file has.
 pub fn tracks(file: &[u8]) -> Answer
-    ensures { result ≡ tracksAnswer file.now }
+    ensures { result ≡ tracks_answer file.now }
 {
     match judge::judge(file) {
         Judgement::Accepted => Answer::Done(movie::tracks(file)),
@@ -35,8 +35,8 @@ pub fn tracks(file: &[u8]) -> Answer
 
 // Whether a file has a track of a number, from 1: 1 or 0.
 fn is_track(file: &[u8], count: usize, track: usize) -> usize
-    requires { count ≡ tracksOf file.now }
-    ensures { result ≡ oneIf (isTrack file.now track) }
+    requires { count ≡ tracks_of file.now }
+    ensures { result ≡ one_if (is_track file.now track) }
 {
     if track < 1 {
         return 0;
@@ -56,7 +56,7 @@ pub enum MediaLength {
 
 fn media_in(file: &[u8], e: Tracks, track: usize) -> MediaLength
     requires { Meets file.now × TracksAt file.now e }
-    ensures { result ≡ pick (isTrack file.now track) (media.Ticks (mediaOf (trackBody file.now track))) (media.Refused 20 0) }
+    ensures { result ≡ pick (is_track file.now track) (media.Ticks (media_of (track_body file.now track))) (media.Refused 20 0) }
 {
     if is_track(file, e.count, track) == 0 {
         return MediaLength::Refused(20, 0);
@@ -67,7 +67,7 @@ fn media_in(file: &[u8], e: Tracks, track: usize) -> MediaLength
 }
 
 pub fn media_ticks(file: &[u8], track: usize) -> MediaLength
-    ensures { result ≡ mediaLength file.now track }
+    ensures { result ≡ media_length file.now track }
 {
     let j = judge::judge_tracks(file);
     let answer = j.answer;
@@ -86,7 +86,7 @@ pub enum MovieLength {
 
 fn movie_in(file: &[u8], e: Tracks, track: usize) -> MovieLength
     requires { Meets file.now × TracksAt file.now e }
-    ensures { result ≡ pick (isTrack file.now track) (movie.Ticks (movieOf (trackBody file.now track))) (movie.Refused 20 0) }
+    ensures { result ≡ pick (is_track file.now track) (movie.Ticks (movie_of (track_body file.now track))) (movie.Refused 20 0) }
 {
     if is_track(file, e.count, track) == 0 {
         return MovieLength::Refused(20, 0);
@@ -97,7 +97,7 @@ fn movie_in(file: &[u8], e: Tracks, track: usize) -> MovieLength
 }
 
 pub fn movie_ticks(file: &[u8], track: usize) -> MovieLength
-    ensures { result ≡ movieLength file.now track }
+    ensures { result ≡ movie_length file.now track }
 {
     let j = judge::judge_tracks(file);
     let answer = j.answer;
@@ -110,7 +110,7 @@ pub fn movie_ticks(file: &[u8], track: usize) -> MovieLength
 // Of a file that is accepted.
 fn track_in(file: &[u8], e: Tracks, track: usize, out: &mut [u64]) -> Answer
     requires { Meets file.now × TracksAt file.now e }
-    ensures { Exact (asked ((20, isTrack file.now track) ∷ []) (gives (numbersOf (saidBy (trackBody file.now track))))) out.old result out.new }
+    ensures { Exact (asked ((20, is_track file.now track) ∷ []) (gives (numbers_of (said_by (track_body file.now track))))) out.old result out.new }
 {
     if is_track(file, e.count, track) == 0 {
         return Answer::Refused(20, 0);
@@ -123,7 +123,7 @@ fn track_in(file: &[u8], e: Tracks, track: usize, out: &mut [u64]) -> Answer
 
 // What a track says: its handler, media ticks, time scale and movie ticks.
 pub fn track(file: &[u8], track: usize, out: &mut [u64]) -> Answer
-    ensures { Exact (trackResult file.now track) out.old result out.new }
+    ensures { Exact (track_result file.now track) out.old result out.new }
 {
     let j = judge::judge_tracks(file);
     let answer = j.answer;
@@ -156,7 +156,7 @@ pub fn numbered_track(file: &[u8], track: usize) -> NumberedTrack
 // Of a file that is accepted.
 fn offsets_in(file: &[u8], track: usize, list: &mut [u32]) -> Answer
     requires { Meets file.now }
-    ensures { Exact (asked ((20, isTrack file.now track) ∷ []) (gives (offsetsOf (trackBody file.now track)))) list.old result list.new }
+    ensures { Exact (asked ((20, is_track file.now track) ∷ []) (gives (offsets_of (track_body file.now track)))) list.old result list.new }
 {
     match numbered_track(file, track) {
         NumberedTrack::At(k) => {
@@ -173,7 +173,7 @@ fn offsets_in(file: &[u8], track: usize, list: &mut [u32]) -> Answer
 
 // The chunk offsets of a track, in order.
 pub fn offsets(file: &[u8], track: usize, list: &mut [u32]) -> Answer
-    ensures { Exact (offsetsResult file.now track) list.old result list.new }
+    ensures { Exact (offsets_result file.now track) list.old result list.new }
 {
     match judge::judge(file) {
         Judgement::Accepted => offsets_in(file, track, list),

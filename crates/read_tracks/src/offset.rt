@@ -2,12 +2,12 @@
 ghost use Rattle.std.specs.Prelude.{◌≤◌, length};
 ghost use Rattle.wire.specs.Writing.{Wrote};
 ghost use Rattle.sample_tables.specs.Tables.{Table, items};
-ghost use Rattle.read_tracks.specs.Reads.{offsetsTo};
+ghost use Rattle.read_tracks.specs.Reads.{offsets_to};
 
 // The numbers of an `stco`.
 pub fn put(stco: &[u8], list: &mut [u32]) -> usize
     requires { Table 4 stco.now × (items stco.now ≤ length list.old) }
-    ensures { Wrote (offsetsTo stco.now (items stco.now)) list.old result list.new }
+    ensures { Wrote (offsets_to stco.now (items stco.now)) list.old result list.new }
 {
     let n = sample_tables::table::items(stco);
     let mut i = 0;

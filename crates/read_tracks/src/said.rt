@@ -3,7 +3,7 @@ ghost use Rattle.std.specs.Prelude.{◌≡◌, ◌≤◌, ◌<◌, length};
 ghost use Rattle.wire.specs.Writing.{Wrote};
 ghost use Rattle.movie.specs.Movie.{track};
 ghost use Rattle.layout.specs.Every.{TracksAt};
-ghost use Rattle.read_tracks.specs.Reads.{saidBy, numbersOf};
+ghost use Rattle.read_tracks.specs.Reads.{said_by, numbers_of};
 ghost use Rattle.read_tracks.specs.Tracks.{Readable};
 
 use layout::every::Tracks;
@@ -23,7 +23,7 @@ pub struct Said {
 // What track t, from 0, of a file says.
 pub fn read(file: &[u8], e: Tracks, t: usize) -> Said
     requires { TracksAt file.now e × (t < 4) × Readable (track file.now t) }
-    ensures { result ≡ saidBy (track file.now t) }
+    ensures { result ≡ said_by (track file.now t) }
 {
     let k = every::track(e, t);
     let stts = k.stts;
@@ -38,7 +38,7 @@ pub fn read(file: &[u8], e: Tracks, t: usize) -> Said
 // The same as numbers.
 pub fn put(said: Said, out: &mut [u64]) -> usize
     requires { 4 ≤ length out.old }
-    ensures { Wrote (numbersOf said) out.old result out.new }
+    ensures { Wrote (numbers_of said) out.old result out.new }
 {
     out[0] = said.handler as u64;
     out[1] = said.media.0;

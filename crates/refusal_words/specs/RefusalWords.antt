@@ -1,7 +1,7 @@
 -- What a refusal says to people: its number, its place, and what the number means.
 use Rattle.std.specs.Prelude.{ℕ, List, [], ◌∷◌, ◌++◌}
 use Prim.Native.String.{String}
-use Rattle.wire.specs.Tests.{ifEq, ifLe}
+use Rattle.wire.specs.Tests.{if_eq, if_le}
 use Rattle.wire.specs.Text.{text}
 use Rattle.decimal.specs.Decimal.{labelled}
 
@@ -47,15 +47,15 @@ meanings =
 -- the words of the first row that has a number
 unfoldable pub words_in : List Meaning → ℕ → List ℕ
 words_in [] n = text "no such refusal"
-words_in (row ∷ rows) n = ifEq n row.number (text row.words) (words_in rows n)
+words_in (row ∷ rows) n = if_eq n row.number (text row.words) (words_in rows n)
 
-unfoldable pub refusalWords : ℕ → List ℕ
-refusalWords n = words_in meanings n
+unfoldable pub refusal_words : ℕ → List ℕ
+refusal_words n = words_in meanings n
 
 -- "Places for 20 and above are 0", and are not told, but for "41 .. with its place"
-unfoldable pub placeWords : ℕ → ℕ → List ℕ
-placeWords n p = ifLe n 10 (labelled (text " at ") p) (ifEq n 41 (labelled (text " at ") p) (text ""))
+unfoldable pub place_words : ℕ → ℕ → List ℕ
+place_words n p = if_le n 10 (labelled (text " at ") p) (if_eq n 41 (labelled (text " at ") p) (text ""))
 
 -- "refused 8 at 412: a chunk lies outside every mdat"
-unfoldable pub refusedText : ℕ → ℕ → List ℕ
-refusedText n p = labelled (text "refused ") n ++ placeWords n p ++ text ": " ++ refusalWords n ++ text "\n"
+unfoldable pub refused_text : ℕ → ℕ → List ℕ
+refused_text n p = labelled (text "refused ") n ++ place_words n p ++ text ": " ++ refusal_words n ++ text "\n"

@@ -1,7 +1,7 @@
 // A refusal in plain words, by total writers.
 ghost use Rattle.std.specs.Prelude.{◌+◌, ◌^◌, ◌≤◌, ◌<◌};
 ghost use Rattle.wire.specs.Writing.{Put};
-ghost use Rattle.refusal_words.specs.RefusalWords.{refusalWords, placeWords, refusedText};
+ghost use Rattle.refusal_words.specs.RefusalWords.{refusal_words, place_words, refused_text};
 
 use decimal::put_labelled;
 use wire::pen::put_part;
@@ -9,7 +9,7 @@ use wire::pen::put_part;
 // What a number means: a table of numbers and words, and others for a number that is none.
 fn put_words(out: &mut [u8], at: usize, n: usize) -> usize
     requires { at < 2 ^ 62 }
-    ensures { Put (refusalWords n) out.old at result out.new × (result ≤ at + 100) }
+    ensures { Put (refusal_words n) out.old at result out.new × (result ≤ at + 100) }
 {
     match n {
         1 => put_part(out, at, b"the length is not 8 to 1,048,576 bytes"),
@@ -100,7 +100,7 @@ fn put_words(out: &mut [u8], at: usize, n: usize) -> usize
 // The place of a rule's refusal, and of a bad frame.
 fn put_place(out: &mut [u8], at: usize, n: usize, p: usize) -> usize
     requires { at < 2 ^ 61 }
-    ensures { Put (placeWords n p) out.old at result out.new × (result ≤ at + 40) }
+    ensures { Put (place_words n p) out.old at result out.new × (result ≤ at + 40) }
 {
     if n <= 10 {
         return put_labelled(out, at, b" at ", p);
@@ -114,7 +114,7 @@ fn put_place(out: &mut [u8], at: usize, n: usize, p: usize) -> usize
 // The line of a refusal with number n at place p.
 pub fn put_refusal(out: &mut [u8], at: usize, n: usize, p: usize) -> usize
     requires { at < 2 ^ 60 }
-    ensures { Put (refusedText n p) out.old at result out.new }
+    ensures { Put (refused_text n p) out.old at result out.new }
 {
     let a = put_labelled(out, at, b"refused ", n);
     let b = put_place(out, a, n, p);

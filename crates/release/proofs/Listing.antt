@@ -6,47 +6,47 @@ use mathlib.Core.Bool.{true, false, not}
 use mathlib.Core.List.{List}
 use lib.ListN.{length}
 use Rattle.wire.specs.Numbers.{word}
-use Rattle.wire.specs.Clauses.{is_eq, oneIf}
-use Rattle.wire.proofs.Clauses.{is-eq, not-eq, is-lt, not-lt, yea, nay, asked-yea, asked-nay}
-use Rattle.wire.proofs.Sums.{sum-none, sum_more, sum_mono}
-use Rattle.release.specs.Compatible.{timesTo, brandListed, brandMissing}
+use Rattle.wire.specs.Clauses.{is_eq, one_if}
+use Rattle.wire.proofs.Clauses.{is_eq_lem, not_eq, is_lt_lem, not_lt, yea, nay, asked_yea, asked_nay}
+use Rattle.wire.proofs.Sums.{sum_none, sum_more, sum_mono}
+use Rattle.release.specs.Compatible.{times_to, brand_listed, brand_missing}
 
 module _ (c : ℕ) (ftyp : List ℕ) where
-  pub times_none : timesTo c ftyp 0 ≡ 0
-  unfolding timesTo
-  times_none = sum-none (λ i. oneIf (is_eq (word 4 ftyp (8 + 4 * i)) c))
+  pub times_none : times_to c ftyp 0 ≡ 0
+  unfolding times_to
+  times_none = sum_none (λ i. one_if (is_eq (word 4 ftyp (8 + 4 * i)) c))
 
-  more : (i : ℕ) → timesTo c ftyp (i + 1) ≡ timesTo c ftyp i + oneIf (is_eq (word 4 ftyp (8 + 4 * i)) c)
-  unfolding timesTo
-  more i = sum_more (λ i. oneIf (is_eq (word 4 ftyp (8 + 4 * i)) c)) i
+  more : (i : ℕ) → times_to c ftyp (i + 1) ≡ times_to c ftyp i + one_if (is_eq (word 4 ftyp (8 + 4 * i)) c)
+  unfolding times_to
+  more i = sum_more (λ i. one_if (is_eq (word 4 ftyp (8 + 4 * i)) c)) i
 
   -- brand i is another
-  pub times-other : (i : ℕ) {w : ℕ} → w ≡ word 4 ftyp (8 + 4 * i) → (w ≡ c → ⊥) → timesTo c ftyp i ≡ 0 → timesTo c ftyp (i + 1) ≡ 0
-  times-other i e n z =
-      let none : 0 ≡ oneIf (is_eq (word 4 ftyp (8 + 4 * i)) c) = nay _ (sym (not-eq _ _ (λ q. n (e ∙ q)))) in
+  pub times_other : (i : ℕ) {w : ℕ} → w ≡ word 4 ftyp (8 + 4 * i) → (w ≡ c → ⊥) → times_to c ftyp i ≡ 0 → times_to c ftyp (i + 1) ≡ 0
+  times_other i e n z =
+      let none : 0 ≡ one_if (is_eq (word 4 ftyp (8 + 4 * i)) c) = nay _ (sym (not_eq _ _ (λ q. n (e ∙ q)))) in
       omega (arith, more i)
 
   -- it is c
-  pub listed_here : (i : ℕ) {w : ℕ} → i < (length ftyp - 8) / 4 → w ≡ word 4 ftyp (8 + 4 * i) → w ≡ c → 1 ≡ oneIf (brandListed c ftyp)
-  unfolding brandListed timesTo
+  pub listed_here : (i : ℕ) {w : ℕ} → i < (length ftyp - 8) / 4 → w ≡ word 4 ftyp (8 + 4 * i) → w ≡ c → 1 ≡ one_if (brand_listed c ftyp)
+  unfolding brand_listed times_to
   listed_here i l e q =
-      let one : 1 ≡ oneIf (is_eq (word 4 ftyp (8 + 4 * i)) c) = yea _ (sym (is-eq _ _ (sym e ∙ q))) in
-      yea _ (sym (is-lt _ _ (omega (arith, more i, sum_mono (λ j. oneIf (is_eq (word 4 ftyp (8 + 4 * j)) c)) (i + 1) ((length ftyp - 8) / 4) (omega arith)))))
+      let one : 1 ≡ one_if (is_eq (word 4 ftyp (8 + 4 * i)) c) = yea _ (sym (is_eq_lem _ _ (sym e ∙ q))) in
+      yea _ (sym (is_lt_lem _ _ (omega (arith, more i, sum_mono (λ j. one_if (is_eq (word 4 ftyp (8 + 4 * j)) c)) (i + 1) ((length ftyp - 8) / 4) (omega arith)))))
 
   -- all of them are others
-  pub listed-none : {n : ℕ} → n ≡ (length ftyp - 8) / 4 → timesTo c ftyp n ≡ 0 → 0 ≡ oneIf (brandListed c ftyp)
-  unfolding brandListed
-  listed-none e z = nay _ (sym (not-lt _ _ (omega (arith, sym (ap (timesTo c ftyp) e) ∙ z))))
+  pub listed_none : {n : ℕ} → n ≡ (length ftyp - 8) / 4 → times_to c ftyp n ≡ 0 → 0 ≡ one_if (brand_listed c ftyp)
+  unfolding brand_listed
+  listed_none e z = nay _ (sym (not_lt _ _ (omega (arith, sym (ap (times_to c ftyp) e) ∙ z))))
 
   -- too short for a list
-  pub listed-short : length ftyp < 8 → 0 ≡ oneIf (brandListed c ftyp)
-  listed-short h = listed-none (omega arith) times_none
+  pub listed_short : length ftyp < 8 → 0 ≡ one_if (brand_listed c ftyp)
+  listed_short h = listed_none (omega arith) times_none
 
   -- a brand that is missing, or isn't
-  pub missing-nay : (oneIf (brandListed c ftyp) ≡ 0 → ⊥) → brandMissing c ftyp ≡ false
-  unfolding brandMissing
-  missing-nay h = ap not (asked-yea _ h)
+  pub missing_nay : (one_if (brand_listed c ftyp) ≡ 0 → ⊥) → brand_missing c ftyp ≡ false
+  unfolding brand_missing
+  missing_nay h = ap not (asked_yea _ h)
 
-  pub missing-yea : oneIf (brandListed c ftyp) ≡ 0 → brandMissing c ftyp ≡ true
-  unfolding brandMissing
-  missing-yea h = ap not (asked-nay _ h)
+  pub missing_yea : one_if (brand_listed c ftyp) ≡ 0 → brand_missing c ftyp ≡ true
+  unfolding brand_missing
+  missing_yea h = ap not (asked_nay _ h)

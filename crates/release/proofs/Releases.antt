@@ -3,10 +3,10 @@ use Prim.Native.Nat.{ℕ, ◌≤◌}
 use native.Mathlib.Omega.{arith}
 use mathlib.Core.Path.{◌≡◌, refl}
 use mathlib.Core.Bool.{Bool, true, false}
-use Rattle.wire.specs.Tests.{pick, ifEq}
+use Rattle.wire.specs.Tests.{pick, if_eq}
 use Rattle.release.specs.declared.Release.{Release}
 use Rattle.release.specs.declared.Release.TheVariants.{Release4, Release6}
-use Rattle.release.specs.Releases.{releaseNumber, releaseNamed, mostFrames}
+use Rattle.release.specs.Releases.{release_number, release_named, most_frames}
 
 -- a list tells Release 4 where a test of it holds, and else Release 6
 pub four : (t : Bool) → true ≡ t → Release4 ≡ pick t Release4 Release6
@@ -16,16 +16,16 @@ pub six : (t : Bool) → false ≡ t → Release6 ≡ pick t Release4 Release6
 six t e = rw (← e)
 
 -- no release takes more frames than Release 4, and none fewer than Release 6
-pub most-wider : (release : Release) → mostFrames release ≤ mostFrames Release4
-most-wider Release4 = omega arith
-most-wider Release6 = omega arith
+pub most_wider : (release : Release) → most_frames release ≤ most_frames Release4
+most_wider Release4 = omega arith
+most_wider Release6 = omega arith
 
-pub most-narrower : (release : Release) → mostFrames Release6 ≤ mostFrames release
-most-narrower Release4 = omega arith
-most-narrower Release6 = omega arith
+pub most_narrower : (release : Release) → most_frames Release6 ≤ most_frames release
+most_narrower Release4 = omega arith
+most_narrower Release6 = omega arith
 
 -- a release is named by its number
-pub named_back : (release : Release) → releaseNamed (releaseNumber release) ≡ release
-unfolding releaseNamed ifEq
+pub named_back : (release : Release) → release_named (release_number release) ≡ release
+unfolding release_named if_eq
 named_back Release4 = refl
 named_back Release6 = refl

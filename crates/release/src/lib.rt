@@ -3,7 +3,7 @@ pub mod compatible;
 
 ghost use Rattle.std.specs.Prelude.{◌≡◌};
 ghost use Rattle.boxes.specs.Boxes.{boxes};
-ghost use Rattle.release.specs.Releases.{mostFrames, releaseNamed, releaseIn, releaseOf};
+ghost use Rattle.release.specs.Releases.{most_frames, release_named, release_in, release_of};
 
 use boxes::seek;
 use compatible::listed;
@@ -16,7 +16,7 @@ pub enum Release {
 
 // The largest frames_per_sample.
 pub fn most_frames(release: Release) -> usize
-    ensures { result ≡ mostFrames release }
+    ensures { result ≡ most_frames release }
 {
     match release {
         Release::Release4 => 255,
@@ -26,7 +26,7 @@ pub fn most_frames(release: Release) -> usize
 
 // The release that a caller names by its number.
 pub fn of_number(n: u64) -> Release
-    ensures { result ≡ releaseNamed n }
+    ensures { result ≡ release_named n }
 {
     if n == 4 {
         return Release::Release4;
@@ -36,7 +36,7 @@ pub fn of_number(n: u64) -> Release
 
 // The release that a compatible list tells.
 pub fn told(ftyp: &[u8]) -> Release
-    ensures { result ≡ releaseIn ftyp.now }
+    ensures { result ≡ release_in ftyp.now }
 {
     if listed(ftyp, codes::GP4) == 0 {
         return Release::Release6;
@@ -55,7 +55,7 @@ pub fn told(ftyp: &[u8]) -> Release
 
 // The release of a file.
 pub fn of_file(file: &[u8]) -> Release
-    ensures { result ≡ releaseOf (boxes file.now) }
+    ensures { result ≡ release_of (boxes file.now) }
 {
     told(seek::payload(file, codes::FTYP, 0))
 }

@@ -5,16 +5,16 @@ use mathlib.Core.Path.{◌≡◌, refl}
 use mathlib.Core.List.{List, [], ◌∷◌, ◌++◌}
 use lib.ListN.{length}
 use Rattle.wire.specs.Writing.{Put}
-use Rattle.wire.proofs.Writing.{pen-front}
+use Rattle.wire.proofs.Writing.{pen_front}
 use Rattle.rule.specs.declared.Answer.TheVariants.{Done, Refused}
 use Rattle.rule.specs.Results.{Exact}
 use Rattle.rule.specs.Results.Result.{gives}
-use Rattle.rule.proofs.Results.{exact-short, exact-wrote}
+use Rattle.rule.proofs.Results.{exact_short, exact_wrote}
 
 -- ---- it certainly has room
 
 pub at_once : (xs out : List ℕ) {left : List ℕ} {r : ℕ} → Put xs out 0 r left → r ≤ length out → Exact (gives xs) out (Done r) left
-at_once xs out p h = exact-wrote xs out (omega (arith, p.next)) (pen-front p h)
+at_once xs out p h = exact_wrote xs out (omega (arith, p.next)) (pen_front p h)
 
 -- ---- or a run into no room tells how long it is
 
@@ -23,8 +23,8 @@ nowhere {after = []} p = refl
 nowhere {after = a ∷ bs} p = absurd (omega (arith, p.same))
 
 module _ (xs out : List ℕ) {mid : List ℕ} {m : ℕ} (p : Put xs [] 0 m mid) where
-  pub told-short : length (mid ++ out) < m → Exact (gives xs) out (Refused 25 0) (mid ++ out)
-  told-short h = rw (nowhere p) (exact-short xs out (omega (arith, p.next, rw (nowhere p) at h)))
+  pub told_short : length (mid ++ out) < m → Exact (gives xs) out (Refused 25 0) (mid ++ out)
+  told_short h = rw (nowhere p) (exact_short xs out (omega (arith, p.next, rw (nowhere p) at h)))
 
   pub told_wrote : {left : List ℕ} {r : ℕ} → Put xs (mid ++ out) 0 r left → m ≤ length (mid ++ out) → Exact (gives xs) out (Done r) left
   told_wrote q h = let z = rw (nowhere p) at q in at_once xs out z (omega (arith, p.next, z.next, rw (nowhere p) at h))

@@ -4,10 +4,10 @@ use Rattle.rule.specs.declared.Answer.{Answer}
 use Rattle.rule.specs.declared.Answer.TheVariants.{Done, Refused}
 
 -- the refusal number of the paper, 0 where there is none; then its place, or what the call gives
-abbrev pub answerNumber : Answer → ℕ
-answerNumber (Done n) = 0
-answerNumber (Refused n p) = n
+abbrev pub answer_number : Answer → ℕ
+answer_number (Done n) = 0
+answer_number (Refused n p) = n
 
-abbrev pub answerValue : Answer → ℕ
-answerValue (Done n) = n
-answerValue (Refused n p) = p
+abbrev pub answer_value : Answer → ℕ
+answer_value (Done n) = n
+answer_value (Refused n p) = p

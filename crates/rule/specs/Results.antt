@@ -1,6 +1,6 @@
 -- A call that writes into a room that it was lent: what it comes to, and what every such call promises.
 use Rattle.std.specs.Prelude.{ℕ, ◌≡◌, Bool, List, [], ◌∷◌, ◌++◌, length, drop}
-use Rattle.wire.specs.Tests.{pick, ifLt}
+use Rattle.wire.specs.Tests.{pick, if_lt}
 use Rattle.wire.specs.Clauses.{is_le, every}
 use Rattle.boxes.specs.Containers.{LONGEST}
 use Rattle.rule.specs.declared.Answer.{Answer}
@@ -17,36 +17,36 @@ asked [] g = g
 asked (t ∷ ts) g = pick t.1 (asked ts g) (refuses t.0 0)
 
 -- 1: "Length is 8 to 1,048,576"
-abbrev pub lengthFine : List ℕ → Bool
-lengthFine xs = every (is_le 8 (length xs) ∷ is_le (length xs) LONGEST ∷ [])
+abbrev pub length_fine : List ℕ → Bool
+length_fine xs = every (is_le 8 (length xs) ∷ is_le (length xs) LONGEST ∷ [])
 
 -- 24: not so where "the result would pass 1,048,576 bytes"
-abbrev pub inLimit : List ℕ → Bool
-inLimit xs = is_le (length xs) LONGEST
+abbrev pub in_limit : List ℕ → Bool
+in_limit xs = is_le (length xs) LONGEST
 
 -- the answer; last of all 25: "the lent output is shorter than the result"
 unfoldable pub answer_in : Result → List ℕ → Answer
-answer_in (gives xs) out = ifLt (length out) (length xs) (Refused 25 0) (Done (length xs))
+answer_in (gives xs) out = if_lt (length out) (length xs) (Refused 25 0) (Done (length xs))
 answer_in (refuses n p) out = Refused n p
 
 -- "A refusal writes nothing. Success writes the result and nothing beyond it."
-unfoldable pub leftIn : Result → List ℕ → List ℕ
-leftIn (gives xs) out = ifLt (length out) (length xs) out (xs ++ drop (length xs) out)
-leftIn (refuses n p) out = out
+unfoldable pub left_in : Result → List ℕ → List ℕ
+left_in (gives xs) out = if_lt (length out) (length xs) out (xs ++ drop (length xs) out)
+left_in (refuses n p) out = out
 
 -- the promise: the answer, and all that the room then holds
 pub record Exact (g : Result) (out : List ℕ) (r : Answer) (left : List ℕ) : Type 0 where
   pub answers : r ≡ answer_in g out
-  pub leaves : left ≡ leftIn g out
+  pub leaves : left ≡ left_in g out
 
 -- ---- a call that is lent a second room, for a report
 
 -- what that room holds then: the numbers of the report where the call is done, and else what it held before
-unfoldable pub toldIn : Answer → List ℕ → List ℕ → List ℕ
-toldIn (Done n) numbers room = numbers ++ drop (length numbers) room
-toldIn (Refused n p) numbers room = room
+unfoldable pub told_in : Answer → List ℕ → List ℕ → List ℕ
+told_in (Done n) numbers room = numbers ++ drop (length numbers) room
+told_in (Refused n p) numbers room = room
 
 -- its promise
 pub record Reports (g : Result) (numbers : List ℕ) (out : List ℕ) (r : Answer) (left : List ℕ) (room after : List ℕ) : Type 0 where
   pub exact : Exact g out r left
-  pub report : after ≡ toldIn (answer_in g out) numbers room
+  pub report : after ≡ told_in (answer_in g out) numbers room

@@ -14,6 +14,6 @@ sooner (Bad p) (Bad q) = Bad (min p q)
 unfoldable pub unless : Bool → ℕ → Verdict
 unless t p = pick t Fine (Bad p)
 
-abbrev pub isFine : Verdict → Bool
-isFine Fine = true
-isFine (Bad p) = false
+abbrev pub is_fine : Verdict → Bool
+is_fine Fine = true
+is_fine (Bad p) = false

@@ -1,6 +1,6 @@
 // The verdict of a rule, and the answer of a call.
 ghost use Rattle.std.specs.Prelude.{◌≡◌};
-ghost use Rattle.rule.specs.Verdict.{sooner as soonerOf};
+ghost use Rattle.rule.specs.Verdict.{sooner as sooner_of};
 
 // A rule holds, or it is broken at a place.
 #[derive(Drop)]
@@ -18,7 +18,7 @@ pub enum Answer {
 
 // Of two verdicts the one with the lower place.
 pub fn sooner(u: Verdict, v: Verdict) -> Verdict
-    ensures { result ≡ soonerOf u v }
+    ensures { result ≡ sooner_of u v }
 {
     match u {
         Verdict::Fine => v,

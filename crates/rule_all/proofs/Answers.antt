@@ -5,43 +5,43 @@ use mathlib.Core.Path.{◌≡◌, sym, ap, ◌∙◌}
 use mathlib.Core.Bool.{Bool, true}
 use mathlib.Core.List.{List}
 use lib.ListN.{drop}
-use Rattle.wire.specs.Clauses.{oneIf}
+use Rattle.wire.specs.Clauses.{one_if}
 use Rattle.wire.proofs.Clauses.{yea, nay, clause}
 use Rattle.boxes.specs.Boxes.{FRONT, boxes}
 use Rattle.layout.specs.declared.track.Track.{Track}
-use Rattle.layout.specs.Slots.{slotIn}
-use Rattle.sample_tables.specs.Rules.{Six, tablesAgree}
-use Rattle.sample_tables.proofs.Tables.{form-is}
+use Rattle.layout.specs.Slots.{slot_in}
+use Rattle.sample_tables.specs.Rules.{Six, tables_agree}
+use Rattle.sample_tables.proofs.Tables.{form_is}
 use Rattle.sample_tables.proofs.Rules.{seven_is}
 use Rattle.mdat.specs.Rules.{Ready}
 use Rattle.release.specs.declared.Release.TheVariants.{Release6}
 use Rattle.rule.specs.declared.Verdict.{Verdict}
 use Rattle.rule.specs.declared.Verdict.TheVariants.{Fine, Bad}
-use Rattle.rule.specs.Verdict.{isFine}
-use Rattle.rule_entries.specs.Ten.{entriesFine}
-use Rattle.rule_all.specs.Track.{headsFine, listsFine, formsFine, tablesFine, aroundIn, AllFine}
+use Rattle.rule.specs.Verdict.{is_fine}
+use Rattle.rule_entries.specs.Ten.{entries_fine}
+use Rattle.rule_all.specs.Track.{heads_fine, lists_fine, forms_fine, tables_fine, around_in, AllFine}
 
 -- a verdict with a place, as a test
-module _ (t : Bool) {v w : Verdict} (e : v ≡ w) (q : isFine w ≡ t) where
-  pub fine-yea : v ≡ Fine → 1 ≡ oneIf t
-  fine-yea f = yea t (ap isFine (sym f ∙ e) ∙ q)
+module _ (t : Bool) {v w : Verdict} (e : v ≡ w) (q : is_fine w ≡ t) where
+  pub fine_yea : v ≡ Fine → 1 ≡ one_if t
+  fine_yea f = yea t (ap is_fine (sym f ∙ e) ∙ q)
 
-  pub bad-nay : (p : ℕ) → v ≡ Bad p → 0 ≡ oneIf t
-  bad-nay p f = nay t (ap isFine (sym f ∙ e) ∙ q)
+  pub bad_nay : (p : ℕ) → v ≡ Bad p → 0 ≡ one_if t
+  bad_nay p f = nay t (ap is_fine (sym f ∙ e) ∙ q)
 
 -- rule 6 of the four tables, as facts
-pub tables-six : (xs : List ℕ) (t : Track) → formsFine xs t ≡ true → Six (slotIn xs t.stts) (slotIn xs t.stsc) (slotIn xs t.stsz) (slotIn xs t.stco)
-unfolding formsFine
-tables-six xs t e = record {
-  times = form-is _ _ (clause 0 _ e);
-  runs = form-is _ _ (clause 1 _ e);
-  sizes = form-is _ _ (clause 2 _ e);
-  offsets = form-is _ _ (clause 3 _ e);
+pub tables_six : (xs : List ℕ) (t : Track) → forms_fine xs t ≡ true → Six (slot_in xs t.stts) (slot_in xs t.stsc) (slot_in xs t.stsz) (slot_in xs t.stco)
+unfolding forms_fine
+tables_six xs t e = record {
+  times = form_is _ _ (clause 0 _ e);
+  runs = form_is _ _ (clause 1 _ e);
+  sizes = form_is _ _ (clause 2 _ e);
+  offsets = form_is _ _ (clause 3 _ e);
 }
 
 -- with rule 7 they are ready for rule 8
-pub tables-ready : (stts stsc stsz stco : List ℕ) (n : ℕ) → Six stts stsc stsz stco → tablesAgree stts stsc stsz stco n ≡ true → Ready stsc stsz stco
-tables-ready stts stsc stsz stco n s e =
+pub tables_ready : (stts stsc stsz stco : List ℕ) (n : ℕ) → Six stts stsc stsz stco → tables_agree stts stsc stsz stco n ≡ true → Ready stsc stsz stco
+tables_ready stts stsc stsz stco n s e =
     let a = seven_is stts stsc stsz stco n s e in
     record { walk = a.walk; sizes = s.sizes; few = a.few; total = a.total }
 
@@ -57,6 +57,6 @@ no_answer xs t =
       entries = λ h. absurd (omega arith);
     }
 
-pub all-answer : (xs : List ℕ) (t : Track) (r : ℕ) → r ≤ 11 → headsFine xs t ≡ true → listsFine xs t ≡ true → formsFine xs t ≡ true
-    → tablesFine (boxes xs) xs t ≡ true → (11 ≤ r → entriesFine (aroundIn xs t) Release6 (drop FRONT (slotIn xs t.stsd)) ≡ true) → AllFine xs t r
-all-answer xs t r m b c d e f = record { most = m; heads = λ h. b; lists = λ h. c; forms = λ h. d; tables = λ h. e; entries = f }
+pub all_answer : (xs : List ℕ) (t : Track) (r : ℕ) → r ≤ 11 → heads_fine xs t ≡ true → lists_fine xs t ≡ true → forms_fine xs t ≡ true
+    → tables_fine (boxes xs) xs t ≡ true → (11 ≤ r → entries_fine (around_in xs t) Release6 (drop FRONT (slot_in xs t.stsd)) ≡ true) → AllFine xs t r
+all_answer xs t r m b c d e f = record { most = m; heads = λ h. b; lists = λ h. c; forms = λ h. d; tables = λ h. e; entries = f }

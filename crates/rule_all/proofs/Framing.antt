@@ -10,25 +10,25 @@ use Rattle.codes.specs.Codes.{FTYP, MOOV, MVHD}
 use Rattle.boxes.specs.Containers.{FILE}
 use Rattle.movie.specs.Movie.{tracks}
 use Rattle.layout.specs.declared.tracks.Movie.{Movie}
-use Rattle.layout.specs.Slots.{slotIn}
+use Rattle.layout.specs.Slots.{slot_in}
 use Rattle.layout.specs.Tracks.{LaidOut}
-use Rattle.rule_shape.proofs.Needs.{shape-tracks}
+use Rattle.rule_shape.proofs.Needs.{shape_tracks}
 use Rattle.rule_headers.specs.Forms.{form}
 use Rattle.rule_all.specs.All.{SureBefore}
 use Rattle.rule_all.specs.Tracks.{Tracked}
-use Rattle.rule_all.proofs.Whole.{file-nine}
-use Rattle.rule_all.proofs.Entries.{file-ten}
+use Rattle.rule_all.proofs.Whole.{file_nine}
+use Rattle.rule_all.proofs.Entries.{file_ten}
 
 module _ {xs : List ℕ} {m : Movie} (l : LaidOut xs m) (e : m.shaped ≡ 1) where
-  pub few-tracks : tracks xs ≤ 4
-  few-tracks = (shape-tracks _ (l.shaped (λ z. omega arith)).moov.three).1
+  pub few_tracks : tracks xs ≤ 4
+  few_tracks = (shape_tracks _ (l.shaped (λ z. omega arith)).moov.three).1
 
-  pub sure-of : every (form FILE FTYP (slotIn xs m.ftyp) ∷ form MOOV MVHD (slotIn xs m.mvhd) ∷ []) ≡ true → {r : ℕ} → Tracked xs r → SureBefore xs r
-  sure-of h t =
+  pub sure_of : every (form FILE FTYP (slot_in xs m.ftyp) ∷ form MOOV MVHD (slot_in xs m.mvhd) ∷ []) ≡ true → {r : ℕ} → Tracked xs r → SureBefore xs r
+  sure_of h t =
       let f = l.shaped (λ z. omega arith) in
       record {
         low = t.low;
         most = t.most;
-        nine = λ z. file-nine _ _ f (rw l.ftyp.is at (clause 0 _ h)) (rw l.mvhd.is at (clause 1 _ h)) (t.each z) (t.differ z) (t.few z);
-        ten = λ z. file-ten _ _ f (t.each (omega arith)) (t.listed z);
+        nine = λ z. file_nine _ _ f (rw l.ftyp.is at (clause 0 _ h)) (rw l.mvhd.is at (clause 1 _ h)) (t.each z) (t.differ z) (t.few z);
+        ten = λ z. file_ten _ _ f (t.each (omega arith)) (t.listed z);
       }

@@ -10,8 +10,8 @@ use Rattle.layout.specs.declared.track.Track.{Track}
 use Rattle.layout.specs.Track.{Laid}
 use Rattle.rule_entries.specs.Ten.{around_of}
 use Rattle.rule_all.specs.declared.TrackSays.{TrackSays}
-use Rattle.rule_all.specs.Track.{Inside, headsFine, listsFine, formsFine, tablesFine, AllFine, Good, EntriesMeet, SaysOf, Judged}
-use Rattle.rule_all.proofs.Containers.{dinf-all, stbl-all, minf-all, mdia-all, trak-all}
+use Rattle.rule_all.specs.Track.{Inside, heads_fine, lists_fine, forms_fine, tables_fine, AllFine, Good, EntriesMeet, SaysOf, Judged}
+use Rattle.rule_all.proofs.Containers.{dinf_all, stbl_all, minf_all, mdia_all, trak_all}
 
 module _ {xs b : List ℕ} {t : Track} (h : Laid xs b t) where
   pub inside : Inside xs t
@@ -30,7 +30,7 @@ module _ {xs b : List ℕ} {t : Track} (h : Laid xs b t) where
 
   module _ (n : t.shaped ≡ 0 → ⊥) {r : ℕ} (f : AllFine xs t r) where
     pub good : 10 ≤ r → Good (boxes xs) b
-    unfolding headsFine listsFine formsFine tablesFine follow
+    unfolding heads_fine lists_fine forms_fine tables_fine follow
     good z =
         let s = h.shaped n in
         let head = f.heads z in
@@ -38,11 +38,11 @@ module _ {xs b : List ℕ} {t : Track} (h : Laid xs b t) where
         let refs = rw h.dref.is at (clause 0 _ list) in
         let table = f.forms z in
         let both = f.tables z in
-        trak-all (boxes xs) 3 s.trak (rw h.tkhd.is at (clause 0 _ head))
-        (mdia-all (boxes xs) 2 s.mdia (rw h.mdhd.is at (clause 1 _ head)) (rw h.hdlr.is at (clause 2 _ head))
-        (minf-all (boxes xs) 1 s.minf
-        (dinf-all (boxes xs) 0 s.dinf (clause 0 _ refs) (clause 1 _ refs))
-        (stbl-all (boxes xs) 0 s.stbl (rw h.stsd.is at (clause 1 _ list)) (rw h.stts.is at (clause 0 _ table))
+        trak_all (boxes xs) 3 s.trak (rw h.tkhd.is at (clause 0 _ head))
+        (mdia_all (boxes xs) 2 s.mdia (rw h.mdhd.is at (clause 1 _ head)) (rw h.hdlr.is at (clause 2 _ head))
+        (minf_all (boxes xs) 1 s.minf
+        (dinf_all (boxes xs) 0 s.dinf (clause 0 _ refs) (clause 1 _ refs))
+        (stbl_all (boxes xs) 0 s.stbl (rw h.stsd.is at (clause 1 _ list)) (rw h.stts.is at (clause 0 _ table))
         (rw h.stsc.is at (clause 1 _ table))
         (rw h.stsz.is at (clause 2 _ table)) (rw h.stco.is at (clause 3 _ table))
         (rw (h.stts.is, h.stsc.is, h.stsz.is, h.stco.is, h.stsd.is) at (clause 0 _ both)) (rw (h.stsc.is, h.stsz.is, h.stco.is) at

@@ -5,10 +5,10 @@ use mathlib.Core.Path.{◌≡◌, refl, sym, ap, subst, ◌∙◌}
 use mathlib.Core.Bool.{Bool, true, not}
 use mathlib.Core.List.{List}
 use Rattle.wire.specs.Clauses.{is_eq}
-use Rattle.wire.specs.Sums.{sum_to, allTo}
-use Rattle.wire.proofs.Tests.{eq-or}
-use Rattle.wire.proofs.Clauses.{not-eq}
-use Rattle.wire.proofs.Sums.{sum-none, sum_more, all_none, all_more, all_of}
+use Rattle.wire.specs.Sums.{sum_to, all_to}
+use Rattle.wire.proofs.Tests.{eq_or}
+use Rattle.wire.proofs.Clauses.{not_eq}
+use Rattle.wire.proofs.Sums.{sum_none, sum_more, all_none, all_more, all_of}
 use Rattle.boxes.specs.Boxes.{boxes}
 use Rattle.movie.specs.Movie.{movie, tracks, track}
 use Rattle.rule_headers.specs.Identities.{identity, fresh, different}
@@ -16,7 +16,7 @@ use Rattle.rule_lists.specs.Five.{MOST}
 use Rattle.rule_all.specs.declared.SoFar.{SoFar}
 use Rattle.rule_all.specs.declared.TrackSays.{TrackSays}
 use Rattle.rule_all.specs.Track.{Good, EntriesMeet, Judged}
-use Rattle.rule_all.specs.Tracks.{entriesOn, SureWith, Joined, Tracked}
+use Rattle.rule_all.specs.Tracks.{entries_on, SureWith, Joined, Tracked}
 
 -- the first i are good, their IDs differ, and the last three of those are at hand; at 11 their entries are fine too
 pub record Run (xs : List ℕ) (i : ℕ) (p : SoFar) : Type 0 where
@@ -25,8 +25,8 @@ pub record Run (xs : List ℕ) (i : ℕ) (p : SoFar) : Type 0 where
   pub under : p.sure ≤ 11
   pub listed : 11 ≤ p.sure → (j : ℕ) → j < i → EntriesMeet (track xs j)
   pub each : (j : ℕ) → j < i → Good (boxes xs) (track xs j)
-  pub fresh : allTo (λ j. fresh (movie xs) j j) i ≡ true
-  pub sum : p.total ≡ sum_to (entriesOn xs) i
+  pub fresh : all_to (λ j. fresh (movie xs) j j) i ≡ true
+  pub sum : p.total ≡ sum_to (entries_on xs) i
   pub few : p.total ≤ MOST
   pub first : 1 ≤ i → p.one ≡ identity (movie xs) (i - 1)
   pub second : 2 ≤ i → p.two ≡ identity (movie xs) (i - 2)
@@ -41,7 +41,7 @@ run_none xs =
       listed = λ z j h. absurd (omega arith);
       each = λ j h. absurd (omega arith);
       fresh = all_none _;
-      sum = sym (sum-none _);
+      sum = sym (sum_none _);
       few = omega arith;
       first = λ h. absurd (omega arith);
       second = λ h. absurd (omega arith);
@@ -49,7 +49,7 @@ run_none xs =
     }
 
 apart : (m n : ℕ) → (m ≡ n → ⊥) → not (is_eq m n) ≡ true
-apart m n h = rw (not-eq m n h)
+apart m n h = rw (not_eq m n h)
 
 module _ {xs : List ℕ} {i : ℕ} {p : SoFar} (k : Run xs i p) where
   module _ (h : i < tracks xs) (four : tracks xs ≤ 4) {t : TrackSays} (j : Judged (boxes xs) (track xs i) t) where
@@ -61,8 +61,8 @@ module _ {xs : List ℕ} {i : ℕ} {p : SoFar} (k : Run xs i p) where
     unfolding fresh
     new a q =
         all_of _ i (λ n l. apart _ _ (λ e.
-        eq-or n (i - 1) (λ d. a.first q (omega arith) (own ∙ sym e ∙ ap (identity (movie xs)) d ∙ sym (k.first (omega arith))))
-        (λ d. eq-or n (i - 2) (λ f. a.second q (omega arith) (own ∙ sym e ∙ ap (identity (movie xs)) f ∙ sym (k.second (omega arith))))
+        eq_or n (i - 1) (λ d. a.first q (omega arith) (own ∙ sym e ∙ ap (identity (movie xs)) d ∙ sym (k.first (omega arith))))
+        (λ d. eq_or n (i - 2) (λ f. a.second q (omega arith) (own ∙ sym e ∙ ap (identity (movie xs)) f ∙ sym (k.second (omega arith))))
         (λ f. a.third q (omega arith) (own ∙ sym e ∙ ap (identity (movie xs)) (omega arith) ∙ sym (k.third (omega arith)))))))
 
     pub run_more : {r : SoFar} → Joined p i t r → 10 ≤ r.sure → Run xs (i + 1) r
@@ -76,10 +76,10 @@ module _ {xs : List ℕ} {i : ℕ} {p : SoFar} (k : Run xs i p) where
           most = omega arith;
           over = q;
           under = omega (arith, k.under);
-          listed = λ y n l. eq-or n i (λ e. rw e (j.listed (omega arith))) (λ e. k.listed (omega arith) n (omega arith));
-          each = λ n l. eq-or n i (λ e. rw e (j.good z)) (λ e. k.each n (omega arith));
+          listed = λ y n l. eq_or n i (λ e. rw e (j.listed (omega arith))) (λ e. k.listed (omega arith) n (omega arith));
+          each = λ n l. eq_or n i (λ e. rw e (j.good z)) (λ e. k.each n (omega arith));
           fresh = all_more _ i k.fresh (new a.sure q);
-          sum = omega (arith, k.sum, sum_more (entriesOn xs) i, j.entries, a.total);
+          sum = omega (arith, k.sum, sum_more (entries_on xs) i, j.entries, a.total);
           few = omega (arith, a.total, a.sure.few q);
           first = λ y. a.one ∙ rw l own;
           second = λ y. a.two ∙ rw s (k.first (omega arith));
@@ -95,12 +95,12 @@ module _ {xs : List ℕ} {i : ℕ} {p : SoFar} (k : Run xs i p) where
         most = k.under;
         listed = λ z n l. k.listed z n (omega arith);
         each = λ z n l. k.each n (omega arith);
-        differ = λ z. subst (λ (n : ℕ). allTo (λ j. fresh (movie xs) j j) n ≡ true) e k.fresh;
-        few = λ z. subst (λ (n : ℕ). sum_to (entriesOn xs) n ≤ MOST) e (omega (arith, k.sum, k.few));
+        differ = λ z. subst (λ (n : ℕ). all_to (λ j. fresh (movie xs) j j) n ≡ true) e k.fresh;
+        few = λ z. subst (λ (n : ℕ). sum_to (entries_on xs) n ≤ MOST) e (omega (arith, k.sum, k.few));
       }
 
-pub run-broken : (xs : List ℕ) → Tracked xs 2
-run-broken xs =
+pub run_broken : (xs : List ℕ) → Tracked xs 2
+run_broken xs =
     record {
       low = λ z. refl;
       most = omega arith;

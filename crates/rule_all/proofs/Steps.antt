@@ -9,32 +9,32 @@ use Rattle.layout.specs.declared.gather.Slot.{Slot}
 use Rattle.layout.specs.declared.track.Track.{Track}
 use Rattle.layout.specs.declared.tracks.Movie.{Movie}
 use Rattle.layout.specs.declared.every.ReadTrack.{ReadTrack}
-use Rattle.layout.specs.Slots.{slotIn, Lies}
+use Rattle.layout.specs.Slots.{slot_in, Lies}
 use Rattle.layout.specs.Track.{Laid, StsdPlaced}
-use Rattle.layout.specs.Tracks.{trackSlot, LaidOut, Spread}
-use Rattle.layout.specs.Every.{toldIn, TrackAt}
+use Rattle.layout.specs.Tracks.{track_slot, LaidOut, Spread}
+use Rattle.layout.specs.Every.{told_in, TrackAt}
 use Rattle.layout.proofs.LayingOut.{slot_at}
-use Rattle.layout.proofs.Everything.{trak-at, told_at, track-read}
+use Rattle.layout.proofs.Everything.{trak_at, told_at, track_read}
 use Rattle.rule_all.specs.declared.SoFar.{SoFar}
 use Rattle.rule_all.specs.declared.SureTracks.{SureTracks}
 use Rattle.rule_all.specs.declared.TrackSays.{TrackSays}
 use Rattle.rule_all.specs.All.{SureBefore}
 use Rattle.rule_all.specs.Track.{SaysOf}
 use Rattle.rule_all.specs.Tracks.{SureWith, Joined, Tracked, TracksTold}
-use Rattle.rule_all.proofs.All.{sure-before-none}
+use Rattle.rule_all.proofs.All.{sure_before_none}
 use Rattle.rule_all.proofs.Judging.{judged}
-use Rattle.rule_all.proofs.Running.{Run, run_more, run-broken}
+use Rattle.rule_all.proofs.Running.{Run, run_more, run_broken}
 
-module _ {xs : List ℕ} {m : Movie} (l : LaidOut xs m) {i : ℕ} (h : i < 4) {s : Slot} (e : s ≡ trackSlot m i) where
-  pub track-lies : Lies xs s
-  track-lies = rw e (slot_at l i h).lies
+module _ {xs : List ℕ} {m : Movie} (l : LaidOut xs m) {i : ℕ} (h : i < 4) {s : Slot} (e : s ≡ track_slot m i) where
+  pub track_lies : Lies xs s
+  track_lies = rw e (slot_at l i h).lies
 
-  module _ (n : i < tracks xs) {k : Track} (a : Laid xs (slotIn xs s) k) where
+  module _ (n : i < tracks xs) {k : Track} (a : Laid xs (slot_in xs s) k) where
     pub step : (k.shaped ≡ 0 → ⊥) → tracks xs ≤ 4 → {p : SoFar} → Run xs i p → {t : TrackSays} → SaysOf xs k t → {r : SoFar} → Joined p i t r → 10 ≤ r.sure → Run xs (i + 1) r
     step z four g u j q = run_more g n four (rw (e, (slot_at l i h).is) at (judged a z u)) j q
 
-    pub step-told : Spread xs m → StsdPlaced xs s k → {v : ReadTrack} → v ≡ toldIn xs k → TrackAt xs i v
-    step-told w b q = rw q (track-read (trak-at l w i h) n (rw e at (told_at a b)))
+    pub step_told : Spread xs m → StsdPlaced xs s k → {v : ReadTrack} → v ≡ told_in xs k → TrackAt xs i v
+    step_told w b q = rw q (track_read (trak_at l w i h) n (rw e at (told_at a b)))
 
 -- an answer of 2 says nothing of a step
 pub no_step : (p : SoFar) (i : ℕ) (t : TrackSays) → SureWith p i t 2
@@ -50,11 +50,11 @@ no_step p i t =
 
 -- nor of a file
 module _ {xs : List ℕ} {r : SureTracks} (e : r.sure ≡ 2) where
-  no-tracks : TracksTold xs r
-  no-tracks = record { tracks = λ h. absurd (omega arith) }
+  no_tracks : TracksTold xs r
+  no_tracks = record { tracks = λ h. absurd (omega arith) }
 
   pub untold : Tracked xs r.sure × TracksTold xs r
-  untold = (rw e (run-broken xs), no-tracks)
+  untold = (rw e (run_broken xs), no_tracks)
 
   pub unsure : SureBefore xs r.sure × TracksTold xs r
-  unsure = (rw e (sure-before-none xs), no-tracks)
+  unsure = (rw e (sure_before_none xs), no_tracks)

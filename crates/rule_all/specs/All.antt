@@ -4,17 +4,17 @@ use Rattle.wire.specs.Tests.{pick}
 use Rattle.boxes.specs.Box.{Box}
 use Rattle.boxes.specs.Boxes.{boxes}
 use Rattle.boxes.specs.Containers.{FILE, DEPTH}
-use Rattle.release.specs.Releases.{releaseOf}
-use Rattle.rule.specs.Rule.{Rule, allIn}
-use Rattle.rule_shape.specs.Two.{twoRule}
-use Rattle.rule_shape.specs.Three.{threeRule}
-use Rattle.rule_lists.specs.Five.{fiveRule}
-use Rattle.rule_lists.specs.Nine.{nineRule}
-use Rattle.rule_headers.specs.Four.{fourRule}
-use Rattle.rule_tracks.specs.Six.{sixRule}
-use Rattle.rule_tracks.specs.Seven.{sevenRule}
-use Rattle.rule_tracks.specs.Eight.{eightRule}
-use Rattle.rule_entries.specs.Ten.{tenRule}
+use Rattle.release.specs.Releases.{release_of}
+use Rattle.rule.specs.Rule.{Rule, all_in}
+use Rattle.rule_shape.specs.Two.{two_rule}
+use Rattle.rule_shape.specs.Three.{three_rule}
+use Rattle.rule_lists.specs.Five.{five_rule}
+use Rattle.rule_lists.specs.Nine.{nine_rule}
+use Rattle.rule_headers.specs.Four.{four_rule}
+use Rattle.rule_tracks.specs.Six.{six_rule}
+use Rattle.rule_tracks.specs.Seven.{seven_rule}
+use Rattle.rule_tracks.specs.Eight.{eight_rule}
+use Rattle.rule_entries.specs.Ten.{ten_rule}
 
 -- two rules as one
 abbrev pub also : Rule → Rule → Rule
@@ -26,12 +26,12 @@ also r s =
     }
 
 -- rules 2 to 9 as one, rule 8 in a file with the boxes l
-abbrev pub rulesToNine : List Box → Rule
-rulesToNine l = also twoRule (also threeRule (also fourRule (also fiveRule (also sixRule (also sevenRule (also (eightRule l) nineRule))))))
+abbrev pub rules_to_nine : List Box → Rule
+rules_to_nine l = also two_rule (also three_rule (also four_rule (also five_rule (also six_rule (also seven_rule (also (eight_rule l) nine_rule))))))
 
 -- and with rule 10
-abbrev pub allRules : List Box → Rule
-allRules l = also (rulesToNine l) (tenRule (releaseOf l))
+abbrev pub all_rules : List Box → Rule
+all_rules l = also (rules_to_nine l) (ten_rule (release_of l))
 
 -- an answer other than 0 says that a test holds
 pub record Sure (r : ℕ) (t : Bool) : Type 0 where
@@ -41,5 +41,5 @@ pub record Sure (r : ℕ) (t : Bool) : Type 0 where
 pub record SureBefore (xs : List ℕ) (r : ℕ) : Type 0 where
   pub low : r < 10 → r ≡ 2
   pub most : r ≤ 11
-  pub nine : 10 ≤ r → allIn (rulesToNine (boxes xs)) DEPTH FILE xs ≡ true
-  pub ten : 11 ≤ r → allIn (tenRule (releaseOf (boxes xs))) DEPTH FILE xs ≡ true
+  pub nine : 10 ≤ r → all_in (rules_to_nine (boxes xs)) DEPTH FILE xs ≡ true
+  pub ten : 11 ≤ r → all_in (ten_rule (release_of (boxes xs))) DEPTH FILE xs ≡ true

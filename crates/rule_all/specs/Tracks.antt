@@ -2,8 +2,8 @@
 use Rattle.std.specs.Prelude.{ℕ, ◌+◌, ◌≤◌, ◌<◌, min, ◌≡◌, true, List}
 use Rattle.wire.specs.Sums.{sum_to}
 use Rattle.boxes.specs.Boxes.{boxes}
-use Rattle.movie.specs.Ways.{toStsd, follow}
-use Rattle.movie.specs.Movie.{movie, tracks, track, storedCount}
+use Rattle.movie.specs.Ways.{to_stsd, follow}
+use Rattle.movie.specs.Movie.{movie, tracks, track, stored_count}
 use Rattle.rule_headers.specs.Identities.{different}
 use Rattle.rule_lists.specs.Five.{MOST}
 use Rattle.layout.specs.Every.{TracksAt}
@@ -13,8 +13,8 @@ use Rattle.rule_all.specs.declared.TrackSays.{TrackSays}
 use Rattle.rule_all.specs.Track.{Good, EntriesMeet}
 
 -- how many sample entries the `stsd` of track i, from 0, counts
-abbrev pub entriesOn : List ℕ → ℕ → ℕ
-entriesOn xs i = storedCount (follow toStsd (track xs i))
+abbrev pub entries_on : List ℕ → ℕ → ℕ
+entries_on xs i = stored_count (follow to_stsd (track xs i))
 
 -- an answer of 0 says that an ID is none of the last three, as many as there are after i tracks
 pub record Again (r identity i one two three : ℕ) : Type 0 where
@@ -45,7 +45,7 @@ pub record Tracked (xs : List ℕ) (r : ℕ) : Type 0 where
   pub most : r ≤ 11
   pub each : 10 ≤ r → (i : ℕ) → i < tracks xs → Good (boxes xs) (track xs i)
   pub differ : 10 ≤ r → different (movie xs) ≡ true
-  pub few : 10 ≤ r → sum_to (entriesOn xs) (tracks xs) ≤ MOST
+  pub few : 10 ≤ r → sum_to (entries_on xs) (tracks xs) ≤ MOST
   pub listed : 11 ≤ r → (i : ℕ) → i < tracks xs → EntriesMeet (track xs i)
 
 -- an answer of 10 or 11 comes with what each track says

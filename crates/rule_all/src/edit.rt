@@ -1,9 +1,9 @@
 // Refusal 23 by one walk over each container, those in `moov` where their boxes are plain. An answer other than 0 says that an edit takes it.
 ghost use Rattle.codes.specs.Codes.{MOOV, TRAK, MDIA, STBL};
 ghost use Rattle.boxes.specs.Containers.{FILE, DEPTH};
-ghost use Rattle.layout.specs.Slots.{slotIn, Lies};
-ghost use Rattle.rule.specs.Rule.{allIn};
-ghost use Rattle.rule_shape.specs.TwentyThree.{editableRule};
+ghost use Rattle.layout.specs.Slots.{slot_in, Lies};
+ghost use Rattle.rule.specs.Rule.{all_in};
+ghost use Rattle.rule_shape.specs.TwentyThree.{editable_rule};
 ghost use Rattle.rule_all.specs.All.{Sure};
 
 use layout::gather::Slot;
@@ -12,7 +12,7 @@ use layout::{gather, moov, plain, tracks};
 // An `stbl` that is a slot of the file.
 fn stbl_edits(file: &[u8], stbl: Slot) -> usize
     requires { Lies file.now stbl }
-    ensures { Sure result (allIn editableRule 1 STBL (slotIn file.now stbl)) }
+    ensures { Sure result (all_in editable_rule 1 STBL (slot_in file.now stbl)) }
 {
     let g = plain::two(file, stbl, codes::CO64, codes::SAIO);
     if g.tiled == 0 {
@@ -30,7 +30,7 @@ fn stbl_edits(file: &[u8], stbl: Slot) -> usize
 // An `mdia`, with the first `minf` and `stbl` where there is no other.
 fn mdia_edits(file: &[u8], mdia: Slot) -> usize
     requires { Lies file.now mdia }
-    ensures { Sure result (allIn editableRule 3 MDIA (slotIn file.now mdia)) }
+    ensures { Sure result (all_in editable_rule 3 MDIA (slot_in file.now mdia)) }
 {
     let g = plain::one(file, mdia, codes::MINF);
     if g.tiled == 0 {
@@ -52,7 +52,7 @@ fn mdia_edits(file: &[u8], mdia: Slot) -> usize
 // A `trak`; without an `mdia` it holds no container.
 fn trak_edits(file: &[u8], trak: Slot) -> usize
     requires { Lies file.now trak }
-    ensures { Sure result (allIn editableRule 4 TRAK (slotIn file.now trak)) }
+    ensures { Sure result (all_in editable_rule 4 TRAK (slot_in file.now trak)) }
 {
     let g = plain::two(file, trak, codes::MDIA, codes::META);
     if g.tiled == 0 {
@@ -73,7 +73,7 @@ fn trak_edits(file: &[u8], trak: Slot) -> usize
 // A `moov` of at most four tracks; one that isn't there is empty.
 fn moov_edits(file: &[u8], moov: Slot) -> usize
     requires { Lies file.now moov }
-    ensures { Sure result (allIn editableRule 5 MOOV (slotIn file.now moov)) }
+    ensures { Sure result (all_in editable_rule 5 MOOV (slot_in file.now moov)) }
 {
     let g = moov::with_tracks(file, moov, codes::META);
     if g.tiled == 0 {
@@ -99,7 +99,7 @@ fn moov_edits(file: &[u8], moov: Slot) -> usize
 
 // The file.
 pub fn edits_hold(file: &[u8]) -> usize
-    ensures { Sure result (allIn editableRule DEPTH FILE file.now) }
+    ensures { Sure result (all_in editable_rule DEPTH FILE file.now) }
 {
     let g = gather::wanted(
         file,

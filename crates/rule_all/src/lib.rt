@@ -3,11 +3,11 @@ pub mod edit;
 mod track;
 
 ghost use Rattle.std.specs.Prelude.{◌≡◌, [], ◌∷◌, ◌^◌, ◌≤◌, ◌<◌, length};
-ghost use Rattle.wire.specs.Clauses.{every, oneIf};
+ghost use Rattle.wire.specs.Clauses.{every, one_if};
 ghost use Rattle.codes.specs.Codes.{FTYP, MOOV, MVHD};
 ghost use Rattle.boxes.specs.Containers.{FILE, LONGEST};
 ghost use Rattle.movie.specs.Movie.{tracks};
-ghost use Rattle.layout.specs.Slots.{slotIn, Lies};
+ghost use Rattle.layout.specs.Slots.{slot_in, Lies};
 ghost use Rattle.layout.specs.Tracks.{LaidOut, Spread};
 ghost use Rattle.rule_headers.specs.Forms.{form};
 ghost use Rattle.rule_lists.specs.Five.{MOST};
@@ -60,7 +60,7 @@ fn doubted() -> SureTracks
 // Whether `ftyp` and `mvhd` are as rule 4 wants them: 1 or 0.
 fn heads_fine(file: &[u8], m: Movie) -> usize
     requires { Lies file.now m.ftyp × Lies file.now m.mvhd }
-    ensures { result ≡ oneIf (every (form FILE FTYP (slotIn file.now m.ftyp) ∷ form MOOV MVHD (slotIn file.now m.mvhd) ∷ [])) }
+    ensures { result ≡ one_if (every (form FILE FTYP (slot_in file.now m.ftyp) ∷ form MOOV MVHD (slot_in file.now m.mvhd) ∷ [])) }
 {
     let ftyp = m.ftyp;
     if forms::form(containers::FILE, codes::FTYP, gather::bytes(file, ftyp)) == 0 {

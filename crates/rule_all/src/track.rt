@@ -1,13 +1,13 @@
 // The rules of one track.
 ghost use Rattle.std.specs.Prelude.{◌≡◌, true, ◌≤◌, length, drop};
-ghost use Rattle.wire.specs.Clauses.{oneIf};
+ghost use Rattle.wire.specs.Clauses.{one_if};
 ghost use Rattle.boxes.specs.Boxes.{FRONT, boxes};
 ghost use Rattle.boxes.specs.Containers.{LONGEST};
-ghost use Rattle.layout.specs.Slots.{slotIn};
+ghost use Rattle.layout.specs.Slots.{slot_in};
 ghost use Rattle.layout.specs.Tracks.{FirstMdat};
 ghost use Rattle.release.specs.declared.Release.TheVariants.{Release6};
-ghost use Rattle.rule_entries.specs.Ten.{entriesFine};
-ghost use Rattle.rule_all.specs.Track.{Inside, headsFine, listsFine, formsFine, tablesFine, aroundIn, AllFine, SaysOf};
+ghost use Rattle.rule_entries.specs.Ten.{entries_fine};
+ghost use Rattle.rule_all.specs.Track.{Inside, heads_fine, lists_fine, forms_fine, tables_fine, around_in, AllFine, SaysOf};
 
 use crate::TrackSays;
 use boxes::walk;
@@ -26,7 +26,7 @@ use wire::{lend, number};
 // Rule 4: 1 or 0.
 fn heads_fine(file: &[u8], t: Track) -> usize
     requires { Inside file.now t }
-    ensures { result ≡ oneIf (headsFine file.now t) }
+    ensures { result ≡ one_if (heads_fine file.now t) }
 {
     let tkhd = t.tkhd;
     if forms::form(codes::TRAK, codes::TKHD, gather::bytes(file, tkhd)) == 0 {
@@ -43,7 +43,7 @@ fn heads_fine(file: &[u8], t: Track) -> usize
 // Rules 5 and 9: 1 or 0.
 fn lists_fine(file: &[u8], t: Track) -> usize
     requires { Inside file.now t }
-    ensures { result ≡ oneIf (listsFine file.now t) }
+    ensures { result ≡ one_if (lists_fine file.now t) }
 {
     let dref = t.dref;
     if url::url_list(gather::bytes(file, dref)) == 0 {
@@ -56,7 +56,7 @@ fn lists_fine(file: &[u8], t: Track) -> usize
 // Rule 6: 1 or 0.
 fn forms_fine(file: &[u8], t: Track) -> usize
     requires { Inside file.now t }
-    ensures { result ≡ oneIf (formsFine file.now t) }
+    ensures { result ≡ one_if (forms_fine file.now t) }
 {
     let stts = t.stts;
     if table::table_form(gather::bytes(file, stts), 8) == 0 {
@@ -76,8 +76,8 @@ fn forms_fine(file: &[u8], t: Track) -> usize
 
 // Rules 7 and 8 where rule 6 holds: 1 or 0.
 fn tables_fine(file: &[u8], t: Track, mdat: Slot) -> usize
-    requires { Inside file.now t × (formsFine file.now t ≡ true) × FirstMdat file.now mdat }
-    ensures { result ≡ oneIf (tablesFine (boxes file.now) file.now t) }
+    requires { Inside file.now t × (forms_fine file.now t ≡ true) × FirstMdat file.now mdat }
+    ensures { result ≡ one_if (tables_fine (boxes file.now) file.now t) }
 {
     let stts = t.stts;
     let stsc = t.stsc;
@@ -103,7 +103,7 @@ fn tables_fine(file: &[u8], t: Track, mdat: Slot) -> usize
 // Rule 10 in the narrower release, which is asked first since few files need the wider: 1 or 0.
 fn entries_fine(file: &[u8], t: Track) -> usize
     requires { Inside file.now t × (length file.now ≤ LONGEST) }
-    ensures { result ≡ oneIf (entriesFine (aroundIn file.now t) Release6 (drop FRONT (slotIn file.now t.stsd))) }
+    ensures { result ≡ one_if (entries_fine (around_in file.now t) Release6 (drop FRONT (slot_in file.now t.stsd))) }
 {
     let mdhd = t.mdhd;
     let hdlr = t.hdlr;

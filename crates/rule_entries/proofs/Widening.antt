@@ -7,20 +7,20 @@ use Rattle.wire.proofs.Tests.{both}
 use Rattle.boxes.specs.Box.{Box, header}
 use Rattle.boxes.specs.Boxes.{boxes}
 use Rattle.release.specs.declared.Release.{Release}
-use Rattle.release.specs.Releases.{mostFrames}
+use Rattle.release.specs.Releases.{most_frames}
 use Rattle.entry_rules.specs.declared.entry.Around.{Around}
-use Rattle.entry_rules.proofs.Widening.{entry-wider}
-use Rattle.rule.specs.Rule.{allList}
-use Rattle.rule_entries.specs.Ten.{entryFine, entriesFine}
+use Rattle.entry_rules.proofs.Widening.{entry_wider}
+use Rattle.rule.specs.Rule.{all_list}
+use Rattle.rule_entries.specs.Ten.{entry_fine, entries_fine}
 
-module _ (release wider : Release) (more : mostFrames release ≤ mostFrames wider) (a : Around) where
-  all-wider : (l : List Box) → allList (entryFine a release) true l ≡ true → allList (entryFine a wider) true l ≡ true
-  unfolding allList
-  all-wider [] q = refl
-  all-wider (x ∷ l) q =
-      let b = both (entryFine a release x) (allList (entryFine a release) true l) q in
-      rw (entry-wider release wider more a (header x ++ x.body) b.0) (all-wider l b.1)
+module _ (release wider : Release) (more : most_frames release ≤ most_frames wider) (a : Around) where
+  all_wider : (l : List Box) → all_list (entry_fine a release) true l ≡ true → all_list (entry_fine a wider) true l ≡ true
+  unfolding all_list
+  all_wider [] q = refl
+  all_wider (x ∷ l) q =
+      let b = both (entry_fine a release x) (all_list (entry_fine a release) true l) q in
+      rw (entry_wider release wider more a (header x ++ x.body) b.0) (all_wider l b.1)
 
-  pub entries-wider : (xs : List ℕ) → entriesFine a release xs ≡ true → entriesFine a wider xs ≡ true
-  unfolding entriesFine
-  entries-wider xs q = all-wider (boxes xs) q
+  pub entries_wider : (xs : List ℕ) → entries_fine a release xs ≡ true → entries_fine a wider xs ≡ true
+  unfolding entries_fine
+  entries_wider xs q = all_wider (boxes xs) q

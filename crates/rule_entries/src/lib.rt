@@ -1,15 +1,15 @@
 // Rule 10 of a release: the sample entries of a file, each judged with what its track says.
 ghost use Rattle.std.specs.Prelude.{◌≡◌, ◌+◌, ◌^◌, ◌<◌, ◌≤◌, [], ◌∷◌, length};
-ghost use Rattle.wire.specs.Clauses.{oneIf};
+ghost use Rattle.wire.specs.Clauses.{one_if};
 ghost use Rattle.boxes.specs.Box.{head_of};
 ghost use Rattle.boxes.specs.Boxes.{FRONT, boxes};
-ghost use Rattle.boxes.specs.Walk.{boxAt};
-ghost use Rattle.movie.specs.Ways.{toStsd, startAlong};
-ghost use Rattle.movie.specs.Stsds.{stsdsFrom};
-ghost use Rattle.movie.specs.Named.{listIn};
-ghost use Rattle.release.specs.Releases.{releaseOf};
-ghost use Rattle.entry_rules.specs.Entries.{entryRule};
-ghost use Rattle.rule_entries.specs.Ten.{around_of, bytes_of, entriesJudged, stsdsJudged, tenAt};
+ghost use Rattle.boxes.specs.Walk.{box_at};
+ghost use Rattle.movie.specs.Ways.{to_stsd, start_along};
+ghost use Rattle.movie.specs.Stsds.{stsds_from};
+ghost use Rattle.movie.specs.Named.{list_in};
+ghost use Rattle.release.specs.Releases.{release_of};
+ghost use Rattle.entry_rules.specs.Entries.{entry_rule};
+ghost use Rattle.rule_entries.specs.Ten.{around_of, bytes_of, entries_judged, stsds_judged, ten_at};
 
 use boxes::walk;
 use boxes::walk::{BoxAt, Step, Walk};
@@ -32,7 +32,7 @@ fn around_of(track: &[u8]) -> Around
 // Whether one entry of a list meets its rule: 1 or 0.
 fn entry_meets(list: &[u8], b: BoxAt, around: Around, release: Release) -> usize
     requires { (b.head ≤ b.span) × (b.at + b.span ≤ length list.now) }
-    ensures { result ≡ oneIf (entryRule around release (bytes_of list.now b)) }
+    ensures { result ≡ one_if (entry_rule around release (bytes_of list.now b)) }
 {
     let from = b.at;
     let to = b.at + b.span;
@@ -42,7 +42,7 @@ fn entry_meets(list: &[u8], b: BoxAt, around: Around, release: Release) -> usize
 // The first entry of a list that starts at base which breaks its rule.
 pub fn entries_from(list: &[u8], base: usize, around: Around, release: Release) -> Verdict
     requires { base + length list.now < 2 ^ 63 }
-    ensures { result ≡ entriesJudged around release list.now base }
+    ensures { result ≡ entries_judged around release list.now base }
 {
     let mut w = Walk { at: 0 };
     loop {
@@ -66,7 +66,7 @@ pub fn entries_from(list: &[u8], base: usize, around: Around, release: Release) 
 // The entries of a track whose payload starts at base.
 fn track_entries(track: &[u8], base: usize, release: Release) -> Verdict
     requires { base + length track.now < 2 ^ 60 }
-    ensures { result ≡ entriesJudged (around_of track.now) release (listIn track.now) (base + startAlong toStsd track.now + FRONT) }
+    ensures { result ≡ entries_judged (around_of track.now) release (list_in track.now) (base + start_along to_stsd track.now + FRONT) }
 {
     let around = around_of(track);
     let start = base + movie::stsd_start(track);
@@ -81,7 +81,7 @@ fn track_entries(track: &[u8], base: usize, release: Release) -> Verdict
 // Those of a box of a `moov` that starts at base: none where it is no `trak`.
 fn box_entries(part: &[u8], b: BoxAt, base: usize, release: Release) -> Verdict
     requires { (b.head ≡ head_of b.form) × (b.head ≤ b.span) × (b.at + b.span ≤ length part.now) × (base + length part.now < 2 ^ 60) }
-    ensures { result ≡ stsdsJudged release (stsdsFrom 0 (boxAt part.now b ∷ []) (base + b.at)) }
+    ensures { result ≡ stsds_judged release (stsds_from 0 (box_at part.now b ∷ []) (base + b.at)) }
 {
     if b.code != codes::TRAK {
         return Verdict::Fine;
@@ -92,7 +92,7 @@ fn box_entries(part: &[u8], b: BoxAt, base: usize, release: Release) -> Verdict
 // Those of a `moov` that starts at base.
 fn movie_entries(part: &[u8], base: usize, release: Release) -> Verdict
     requires { base + length part.now < 2 ^ 60 }
-    ensures { result ≡ stsdsJudged release (stsdsFrom 0 (boxes part.now) base) }
+    ensures { result ≡ stsds_judged release (stsds_from 0 (boxes part.now) base) }
 {
     let mut found = Verdict::Fine;
     let mut w = Walk { at: 0 };
@@ -115,7 +115,7 @@ fn movie_entries(part: &[u8], base: usize, release: Release) -> Verdict
 // Rule 10 of a container of kind k in a file, its payload at base: only `moov` is asked.
 pub fn ten_at(file: &[u8], k: usize, part: &[u8], base: usize) -> Verdict
     requires { base + length part.now < 2 ^ 60 }
-    ensures { result ≡ tenAt (releaseOf (boxes file.now)) k part.now base }
+    ensures { result ≡ ten_at (release_of (boxes file.now)) k part.now base }
 {
     if k != codes::MOOV {
         return Verdict::Fine;

@@ -5,66 +5,66 @@ use mathlib.Core.Path.{◌≡◌, refl, sym, ap, ◌∙◌}
 use mathlib.Core.Bool.{Bool, true, false, not}
 use mathlib.Core.List.{List}
 use Rattle.wire.specs.Numbers.{word}
-use Rattle.wire.specs.Clauses.{is_eq, oneIf}
-use Rattle.wire.specs.Sums.{allTo}
+use Rattle.wire.specs.Clauses.{is_eq, one_if}
+use Rattle.wire.specs.Sums.{all_to}
 use Rattle.codes.specs.Codes.{TRAK, TKHD}
-use Rattle.wire.proofs.Clauses.{is-eq, not-eq, was-nay, was-yea}
-use Rattle.wire.proofs.Sums.{all_none, all_more, all-fails}
+use Rattle.wire.proofs.Clauses.{is_eq_lem, not_eq, was_nay, was_yea}
+use Rattle.wire.proofs.Sums.{all_none, all_more, all_fails}
 use Rattle.boxes.specs.Box.{Box}
 use Rattle.boxes.specs.Boxes.{boxes}
 use Rattle.boxes.specs.Seek.{count, nth, find, place_in, start_in}
 use Rattle.rule.specs.declared.Verdict.{Verdict}
 use Rattle.rule.specs.declared.Verdict.TheVariants.{Fine, Bad}
-use Rattle.rule.specs.Verdict.{sooner, unless, isFine}
-use Rattle.rule.proofs.Places.{sooner-fine, unless-fine, unless-yea, unless-nay}
-use Rattle.rule_headers.specs.Identities.{identity, fresh, tkhdPlace, freshTo, different}
+use Rattle.rule.specs.Verdict.{sooner, unless, is_fine}
+use Rattle.rule.proofs.Places.{sooner_fine, unless_fine, unless_yea, unless_nay}
+use Rattle.rule_headers.specs.Identities.{identity, fresh, tkhd_place, fresh_to, different}
 
 module _ (l : List Box) where
-  pub identity-is : (i : ℕ) {trak tkhd : List ℕ} {r : ℕ} → trak ≡ nth TRAK i l → tkhd ≡ find TKHD (boxes trak) → r ≡ word 4 tkhd 12 → r ≡ identity l i
+  pub identity_is : (i : ℕ) {trak tkhd : List ℕ} {r : ℕ} → trak ≡ nth TRAK i l → tkhd ≡ find TKHD (boxes trak) → r ≡ word 4 tkhd 12 → r ≡ identity l i
   unfolding identity
-  identity-is i e f q = q ∙ rw (f, e)
+  identity_is i e f q = q ∙ rw (f, e)
 
-  pub place_is : (p i : ℕ) {trak : List ℕ} {s t : ℕ} → trak ≡ nth TRAK i l → s ≡ start_in TRAK i l → t ≡ place_in TKHD 0 (boxes trak) → p + s + t ≡ tkhdPlace l p i
-  unfolding tkhdPlace
+  pub place_is : (p i : ℕ) {trak : List ℕ} {s t : ℕ} → trak ≡ nth TRAK i l → s ≡ start_in TRAK i l → t ≡ place_in TKHD 0 (boxes trak) → p + s + t ≡ tkhd_place l p i
+  unfolding tkhd_place
   place_is p i e f q = rw (f, q, e)
 
   -- ---- the tracks before one
 
-  pub fresh-none : (i : ℕ) → fresh l i 0 ≡ true
+  pub fresh_none : (i : ℕ) → fresh l i 0 ≡ true
   unfolding fresh
-  fresh-none i = all_none (λ j. not (is_eq (identity l j) (identity l i)))
+  fresh_none i = all_none (λ j. not (is_eq (identity l j) (identity l i)))
 
-  pub fresh-more : (i j : ℕ) → fresh l i j ≡ true → (identity l j ≡ identity l i → ⊥) → fresh l i (j + 1) ≡ true
+  pub fresh_more : (i j : ℕ) → fresh l i j ≡ true → (identity l j ≡ identity l i → ⊥) → fresh l i (j + 1) ≡ true
   unfolding fresh
-  fresh-more i j h n = all_more (λ j. not (is_eq (identity l j) (identity l i))) j h (ap not (not-eq (identity l j) (identity l i) n))
+  fresh_more i j h n = all_more (λ j. not (is_eq (identity l j) (identity l i))) j h (ap not (not_eq (identity l j) (identity l i) n))
 
-  pub fresh-again : (i j n : ℕ) → j < n → identity l j ≡ identity l i → fresh l i n ≡ false
+  pub fresh_again : (i j n : ℕ) → j < n → identity l j ≡ identity l i → fresh l i n ≡ false
   unfolding fresh
-  fresh-again i j n h e = all-fails (λ j. not (is_eq (identity l j) (identity l i))) n j h (ap not (is-eq (identity l j) (identity l i) e))
+  fresh_again i j n h e = all_fails (λ j. not (is_eq (identity l j) (identity l i))) n j h (ap not (is_eq_lem (identity l j) (identity l i) e))
 
   -- ---- all tracks
 
-  pub fresh_start : (p : ℕ) → Fine ≡ freshTo l p 0
-  unfolding freshTo
+  pub fresh_start : (p : ℕ) → Fine ≡ fresh_to l p 0
+  unfolding fresh_to
   fresh_start p = refl
 
-  pub fresh-next : (p n : ℕ) {u v : Verdict} → u ≡ freshTo l p n → v ≡ sooner u (unless (fresh l n n) (tkhdPlace l p n)) → v ≡ freshTo l p (n + 1)
-  unfolding freshTo
-  fresh-next p n e q = rw add-one (q ∙ ap (λ (u : Verdict). sooner u (unless (fresh l n n) (tkhdPlace l p n))) e)
+  pub fresh_next : (p n : ℕ) {u v : Verdict} → u ≡ fresh_to l p n → v ≡ sooner u (unless (fresh l n n) (tkhd_place l p n)) → v ≡ fresh_to l p (n + 1)
+  unfolding fresh_to
+  fresh_next p n e q = rw add-one (q ∙ ap (λ (u : Verdict). sooner u (unless (fresh l n n) (tkhd_place l p n))) e)
 
-  fresh-fine : (p n : ℕ) → isFine (freshTo l p n) ≡ allTo (λ i. fresh l i i) n
-  unfolding freshTo allTo
-  fresh-fine p zero = refl
-  fresh-fine p (suc n) = sooner-fine (freshTo l p n) (unless (fresh l n n) (tkhdPlace l p n)) ∙ rw (fresh-fine p n, unless-fine (fresh l n n) (tkhdPlace l p n))
+  fresh_fine : (p n : ℕ) → is_fine (fresh_to l p n) ≡ all_to (λ i. fresh l i i) n
+  unfolding fresh_to all_to
+  fresh_fine p zero = refl
+  fresh_fine p (suc n) = sooner_fine (fresh_to l p n) (unless (fresh l n n) (tkhd_place l p n)) ∙ rw (fresh_fine p n, unless_fine (fresh l n n) (tkhd_place l p n))
 
-  pub different-fine : (p : ℕ) → isFine (freshTo l p (count TRAK l)) ≡ different l
+  pub different_fine : (p : ℕ) → is_fine (fresh_to l p (count TRAK l)) ≡ different l
   unfolding different
-  different-fine p = fresh-fine p (count TRAK l)
+  different_fine p = fresh_fine p (count TRAK l)
 
 -- ---- a verdict from an answer
 
-pub unless-by : (t : Bool) (p r : ℕ) → r ≡ oneIf t → (r ≡ 0 → ⊥) → Fine ≡ unless t p
-unless-by t p r e z = unless-yea t p (sym (was-yea t r z e))
+pub unless_by : (t : Bool) (p r : ℕ) → r ≡ one_if t → (r ≡ 0 → ⊥) → Fine ≡ unless t p
+unless_by t p r e z = unless_yea t p (sym (was_yea t r z e))
 
-pub unless_not : (t : Bool) (p r q : ℕ) → r ≡ oneIf t → r ≡ 0 → q ≡ p → Bad q ≡ unless t p
-unless_not t p r q e z h = ap Bad h ∙ unless-nay t p (sym (was-nay t r z e))
+pub unless_not : (t : Bool) (p r q : ℕ) → r ≡ one_if t → r ≡ 0 → q ≡ p → Bad q ≡ unless t p
+unless_not t p r q e z h = ap Bad h ∙ unless_nay t p (sym (was_nay t r z e))

@@ -2,7 +2,7 @@
 use Rattle.std.specs.Prelude.{ℕ, zero, suc, ◌+◌, Bool, not, List}
 use Rattle.wire.specs.Numbers.{word}
 use Rattle.wire.specs.Clauses.{is_eq}
-use Rattle.wire.specs.Sums.{allTo}
+use Rattle.wire.specs.Sums.{all_to}
 use Rattle.codes.specs.Codes.{TRAK, TKHD}
 use Rattle.boxes.specs.Box.{Box}
 use Rattle.boxes.specs.Boxes.{boxes}
@@ -17,16 +17,16 @@ identity l i = word 4 (find TKHD (boxes (nth TRAK i l))) 12
 
 -- no track before it has the same
 unfoldable pub fresh : List Box → ℕ → ℕ → Bool
-fresh l i n = allTo (λ j. not (is_eq (identity l j) (identity l i))) n
+fresh l i n = all_to (λ j. not (is_eq (identity l j) (identity l i))) n
 
 -- the place of its `tkhd`
-unfoldable pub tkhdPlace : List Box → ℕ → ℕ → ℕ
-tkhdPlace l p i = p + start_in TRAK i l + place_in TKHD 0 (boxes (nth TRAK i l))
+unfoldable pub tkhd_place : List Box → ℕ → ℕ → ℕ
+tkhd_place l p i = p + start_in TRAK i l + place_in TKHD 0 (boxes (nth TRAK i l))
 
 -- of the first n tracks, with places and without
-unfoldable pub freshTo : List Box → ℕ → ℕ → Verdict
-freshTo l p zero = Fine
-freshTo l p (suc n) = sooner (freshTo l p n) (unless (fresh l n n) (tkhdPlace l p n))
+unfoldable pub fresh_to : List Box → ℕ → ℕ → Verdict
+fresh_to l p zero = Fine
+fresh_to l p (suc n) = sooner (fresh_to l p n) (unless (fresh l n n) (tkhd_place l p n))
 
 unfoldable pub different : List Box → Bool
-different l = allTo (λ i. fresh l i i) (count TRAK l)
+different l = all_to (λ i. fresh l i i) (count TRAK l)

@@ -1,14 +1,14 @@
 // Rule 4 of one box: each answer is 1 or 0.
 ghost use Rattle.std.specs.Prelude.{◌≡◌};
-ghost use Rattle.wire.specs.Clauses.{oneIf};
-ghost use Rattle.rule_headers.specs.Forms.{brandsForm, headForm, handlerForm, form as form_of};
+ghost use Rattle.wire.specs.Clauses.{one_if};
+ghost use Rattle.rule_headers.specs.Forms.{brands_form, head_form, handler_form, form as form_of};
 
 use boxes::containers::FILE;
 use wire::number;
 
 // Whether an `ftyp` has its two numbers and 1 to 16 brands.
 fn brands_form(body: &[u8]) -> usize
-    ensures { result ≡ oneIf (brandsForm body.now) }
+    ensures { result ≡ one_if (brands_form body.now) }
 {
     let n = body.len();
     if n % 4 != 0 {
@@ -25,7 +25,7 @@ fn brands_form(body: &[u8]) -> usize
 
 // Whether a header has its payload, version 0, and a number at 12 that is not 0.
 fn head_form(n: usize, body: &[u8]) -> usize
-    ensures { result ≡ oneIf (headForm n body.now) }
+    ensures { result ≡ one_if (head_form n body.now) }
 {
     if body.len() != n {
         return 0;
@@ -41,7 +41,7 @@ fn head_form(n: usize, body: &[u8]) -> usize
 
 // Whether an `hdlr` has its type.
 fn handler_form(body: &[u8]) -> usize
-    ensures { result ≡ oneIf (handlerForm body.now) }
+    ensures { result ≡ one_if (handler_form body.now) }
 {
     if body.len() < 24 {
         return 0;
@@ -51,7 +51,7 @@ fn handler_form(body: &[u8]) -> usize
 
 // Whether a box of a container of kind k is as rule 4 wants it.
 pub fn form(k: usize, c: usize, body: &[u8]) -> usize
-    ensures { result ≡ oneIf (form_of k c body.now) }
+    ensures { result ≡ one_if (form_of k c body.now) }
 {
     if k == FILE {
         if c == codes::FTYP {

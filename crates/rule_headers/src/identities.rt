@@ -1,12 +1,12 @@
 // Rule 4 of many boxes: track IDs are different.
 ghost use Rattle.std.specs.Prelude.{◌≡◌, ◌+◌, ◌^◌, ◌<◌, length};
-ghost use Rattle.wire.specs.Clauses.{oneIf};
+ghost use Rattle.wire.specs.Clauses.{one_if};
 ghost use Rattle.codes.specs.Codes.{TRAK};
 ghost use Rattle.boxes.specs.Boxes.{boxes};
 ghost use Rattle.boxes.specs.Seek.{count};
 ghost use Rattle.rule.specs.Verdict.{unless};
-ghost use Rattle.rule_headers.specs.Identities.{identity as identityOf, fresh as fresh_of, freshTo, tkhdPlace};
-ghost use Rattle.rule_headers.specs.Four.{tracksIn};
+ghost use Rattle.rule_headers.specs.Identities.{identity as identity_of, fresh as fresh_of, fresh_to, tkhd_place};
+ghost use Rattle.rule_headers.specs.Four.{tracks_in};
 
 use boxes::seek;
 use rule::Verdict;
@@ -14,7 +14,7 @@ use wire::number;
 
 // The ID of track i.
 fn identity(moov: &[u8], i: usize) -> usize
-    ensures { result ≡ identityOf (boxes moov.now) i }
+    ensures { result ≡ identity_of (boxes moov.now) i }
 {
     let trak = seek::payload(moov, codes::TRAK, i);
     number::word32(seek::payload(trak, codes::TKHD, 0), 12)
@@ -22,7 +22,7 @@ fn identity(moov: &[u8], i: usize) -> usize
 
 // Whether no track before track i has its ID: 1 or 0.
 fn fresh(moov: &[u8], i: usize) -> usize
-    ensures { result ≡ oneIf (fresh_of (boxes moov.now) i i) }
+    ensures { result ≡ one_if (fresh_of (boxes moov.now) i i) }
 {
     let own = identity(moov, i);
     let mut j = 0;
@@ -38,7 +38,7 @@ fn fresh(moov: &[u8], i: usize) -> usize
 // The place of the `tkhd` of track i.
 fn tkhd_place(moov: &[u8], base: usize, i: usize) -> usize
     requires { base + length moov.now < 2 ^ 62 }
-    ensures { result ≡ tkhdPlace (boxes moov.now) base i }
+    ensures { result ≡ tkhd_place (boxes moov.now) base i }
 {
     let trak = seek::payload(moov, codes::TRAK, i);
     base + seek::start(moov, codes::TRAK, i) + seek::place(trak, codes::TKHD, 0)
@@ -46,7 +46,7 @@ fn tkhd_place(moov: &[u8], base: usize, i: usize) -> usize
 
 fn unless_fresh(moov: &[u8], base: usize, i: usize) -> Verdict
     requires { base + length moov.now < 2 ^ 62 }
-    ensures { result ≡ unless (fresh_of (boxes moov.now) i i) (tkhdPlace (boxes moov.now) base i) }
+    ensures { result ≡ unless (fresh_of (boxes moov.now) i i) (tkhd_place (boxes moov.now) base i) }
 {
     if fresh(moov, i) == 0 {
         return Verdict::Bad(tkhd_place(moov, base, i));
@@ -57,7 +57,7 @@ fn unless_fresh(moov: &[u8], base: usize, i: usize) -> Verdict
 // The first `tkhd` in file order whose ID an earlier one has.
 fn first_again(moov: &[u8], base: usize) -> Verdict
     requires { base + length moov.now < 2 ^ 62 }
-    ensures { result ≡ freshTo (boxes moov.now) base (count TRAK (boxes moov.now)) }
+    ensures { result ≡ fresh_to (boxes moov.now) base (count TRAK (boxes moov.now)) }
 {
     let n = seek::count(moov, codes::TRAK);
     let mut found = Verdict::Fine;
@@ -72,7 +72,7 @@ fn first_again(moov: &[u8], base: usize) -> Verdict
 // The IDs of a file's tracks, asked of its `moov`.
 pub fn tracks_in(k: usize, part: &[u8], base: usize) -> Verdict
     requires { base + length part.now < 2 ^ 62 }
-    ensures { result ≡ tracksIn k part.now base }
+    ensures { result ≡ tracks_in k part.now base }
 {
     if k == codes::MOOV {
         return first_again(part, base);

@@ -1,7 +1,7 @@
 // Rule 5 of one `stsd` or `dref`.
 ghost use Rattle.std.specs.Prelude.{◌≡◌};
-ghost use Rattle.wire.specs.Clauses.{oneIf};
-ghost use Rattle.rule_lists.specs.Five.{listForm, listed as listedBy, listFormIn};
+ghost use Rattle.wire.specs.Clauses.{one_if};
+ghost use Rattle.rule_lists.specs.Five.{list_form, listed as listed_by, list_form_in};
 
 use boxes::seek;
 use boxes::walk::FRONT;
@@ -9,7 +9,7 @@ use wire::{lend, number};
 
 // How many boxes a payload says that it lists, and 0 where it doesn't start as rule 5 wants it.
 pub fn listed(body: &[u8]) -> usize
-    ensures { result ≡ listedBy body.now }
+    ensures { result ≡ listed_by body.now }
 {
     if body.len() < FRONT {
         return 0;
@@ -22,7 +22,7 @@ pub fn listed(body: &[u8]) -> usize
 
 // Whether a payload has the form of rule 5: 1 or 0.
 pub fn list_form(body: &[u8]) -> usize
-    ensures { result ≡ oneIf (listForm body.now) }
+    ensures { result ≡ one_if (list_form body.now) }
 {
     let n = listed(body);
     if n == 0 {
@@ -36,7 +36,7 @@ pub fn list_form(body: &[u8]) -> usize
 
 // The same of a box in a container of kind k, where it is an `stsd` or a `dref`: 1 or 0.
 pub fn form_in(k: usize, c: usize, body: &[u8]) -> usize
-    ensures { result ≡ oneIf (listFormIn k c body.now) }
+    ensures { result ≡ one_if (list_form_in k c body.now) }
 {
     if k == codes::STBL {
         if c == codes::STSD {

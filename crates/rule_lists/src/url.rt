@@ -1,8 +1,8 @@
 // Rule 9: what a `dref` lists.
 ghost use Rattle.std.specs.Prelude.{◌≡◌, ◌+◌, ◌^◌, ◌<◌, length};
-ghost use Rattle.wire.specs.Clauses.{oneIf};
+ghost use Rattle.wire.specs.Clauses.{one_if};
 ghost use Rattle.boxes.specs.Boxes.{boxes};
-ghost use Rattle.rule_lists.specs.Nine.{isUrl, urlsFrom, urlsIn, urlsTiling, urlList};
+ghost use Rattle.rule_lists.specs.Nine.{is_url, urls_from, urls_in, urls_tiling, url_list};
 
 use crate::form;
 use boxes::walk;
@@ -12,7 +12,7 @@ use wire::{lend, number};
 
 // Whether a box is a `url ` of this file: 1 or 0.
 fn is_url(code: usize, body: &[u8]) -> usize
-    ensures { result ≡ oneIf (isUrl code body.now) }
+    ensures { result ≡ one_if (is_url code body.now) }
 {
     if code != codes::URL {
         return 0;
@@ -29,7 +29,7 @@ fn is_url(code: usize, body: &[u8]) -> usize
 // The first box of a part that starts at place base which is none.
 fn urls_from(part: &[u8], base: usize) -> Verdict
     requires { base + length part.now < 2 ^ 64 }
-    ensures { result ≡ urlsFrom (boxes part.now) base }
+    ensures { result ≡ urls_from (boxes part.now) base }
 {
     let mut w = Walk { at: 0 };
     loop {
@@ -52,7 +52,7 @@ fn urls_from(part: &[u8], base: usize) -> Verdict
 
 // How many boxes tile a part where each is plain and a `url ` of this file; else 0.
 fn tally(part: &[u8]) -> usize
-    ensures { result ≡ urlsTiling part.now }
+    ensures { result ≡ urls_tiling part.now }
 {
     let mut w = Walk { at: 0 };
     let mut n = 0;
@@ -77,7 +77,7 @@ fn tally(part: &[u8]) -> usize
 
 // Rules 5 and 9 of a `dref`, by one walk: 1 or 0.
 pub fn url_list(dref: &[u8]) -> usize
-    ensures { result ≡ oneIf (urlList dref.now) }
+    ensures { result ≡ one_if (url_list dref.now) }
 {
     let n = form::listed(dref);
     if n == 0 {
@@ -92,7 +92,7 @@ pub fn url_list(dref: &[u8]) -> usize
 // Rule 9 of a box of code c in a container of kind k, whose payload starts at place q.
 pub fn urls_in(k: usize, c: usize, body: &[u8], q: usize) -> Verdict
     requires { q + length body.now < 2 ^ 63 }
-    ensures { result ≡ urlsIn k c body.now q }
+    ensures { result ≡ urls_in k c body.now q }
 {
     if k != codes::DINF {
         return Verdict::Fine;

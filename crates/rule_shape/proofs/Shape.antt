@@ -7,10 +7,10 @@ use mathlib.Core.Bool.{true, false}
 use mathlib.Core.List.{List, []}
 use lib.ListN.{length, get_or, drop}
 use lib.Seq.{drop-cons, drop-length}
-use Rattle.wire.specs.Clauses.{oneIf}
+use Rattle.wire.specs.Clauses.{one_if}
 use Rattle.codes.specs.Codes.{MOOV, TRAK, MDIA, MINF, DINF, STBL}
-use Rattle.wire.proofs.Tests.{eq-nay}
-use Rattle.wire.proofs.Clauses.{is-eq, not-eq}
+use Rattle.wire.proofs.Tests.{eq_nay}
+use Rattle.wire.proofs.Clauses.{is_eq_lem, not_eq}
 use Rattle.boxes.specs.declared.walk.Walk.{Walk}
 use Rattle.boxes.specs.declared.walk.BoxAt.{BoxAt}
 use Rattle.boxes.specs.Box.{Box}
@@ -26,21 +26,21 @@ pub record Asked (n : ℕ) (cs : List ℕ) (l : List Box) (i : ℕ) : Type 0 whe
   pub is : exactly n cs l ≡ exactly n (drop i cs) l
   pub inside : i ≤ length cs
 
-pub asked-none : (n : ℕ) (cs : List ℕ) (l : List Box) → Asked n cs l 0
-asked-none n cs l = record { is = refl; inside = omega arith }
+pub asked_none : (n : ℕ) (cs : List ℕ) (l : List Box) → Asked n cs l 0
+asked_none n cs l = record { is = refl; inside = omega arith }
 
 module _ {n : ℕ} {cs : List ℕ} {l : List Box} {i : ℕ} (a : Asked n cs l i) where
-  pub asked-more : i < length cs → count (get_or cs i 0) l ≡ n → Asked n cs l (i + 1)
+  pub asked_more : i < length cs → count (get_or cs i 0) l ≡ n → Asked n cs l (i + 1)
   unfolding exactly
-  asked-more h e = record { is = a.is ∙ rw (add-one, drop-cons cs i 0 h, is-eq (count (get_or cs i 0) l) n e); inside = omega arith }
+  asked_more h e = record { is = a.is ∙ rw (add-one, drop-cons cs i 0 h, is_eq_lem (count (get_or cs i 0) l) n e); inside = omega arith }
 
-  pub asked-bad : i < length cs → (count (get_or cs i 0) l ≡ n → ⊥) → false ≡ exactly n cs l
+  pub asked_bad : i < length cs → (count (get_or cs i 0) l ≡ n → ⊥) → false ≡ exactly n cs l
   unfolding exactly
-  asked-bad h e = sym (a.is ∙ rw (drop-cons cs i 0 h, not-eq (count (get_or cs i 0) l) n e))
+  asked_bad h e = sym (a.is ∙ rw (drop-cons cs i 0 h, not_eq (count (get_or cs i 0) l) n e))
 
-  pub asked-all : length cs ≤ i → true ≡ exactly n cs l
+  pub asked_all : length cs ≤ i → true ≡ exactly n cs l
   unfolding exactly
-  asked-all h =
+  asked_all h =
       let e : i ≡ length cs = omega (arith, a.inside) in
       sym (a.is ∙ rw (e, drop-length cs))
 
@@ -50,29 +50,29 @@ pub first_found : (xs : List ℕ) {b : BoxAt} {w : Walk} → Ran xs 0 b w → b.
 unfolding first
 first_found xs s = rw s.list
 
-pub first-none : (xs : List ℕ) → Over xs 0 → 0 ≡ first (boxes xs)
+pub first_none : (xs : List ℕ) → Over xs 0 → 0 ≡ first (boxes xs)
 unfolding first
-first-none xs o = rw o.list
+first_none xs o = rw o.list
 
 -- ---- the codes that a kind needs
 
-pub ones-at : (k c : ℕ) (l : List Box) {r : ℕ} → k ≡ c → r ≡ oneIf (exactly 1 (needed c) l) → r ≡ oneIf (exactly 1 (needed k) l)
-ones-at k c l e q = rw e q
+pub ones_at : (k c : ℕ) (l : List Box) {r : ℕ} → k ≡ c → r ≡ one_if (exactly 1 (needed c) l) → r ≡ one_if (exactly 1 (needed k) l)
+ones_at k c l e q = rw e q
 
 -- a kind that is no container's needs none
 pub ones_none : (k : ℕ) (l : List Box) → (k ≡ FILE → ⊥) → (k ≡ MOOV → ⊥) → (k ≡ TRAK → ⊥) → (k ≡ MDIA → ⊥) → (k ≡ MINF → ⊥) → (k ≡ DINF → ⊥) → (k ≡ STBL → ⊥) → true ≡ exactly 1 (needed k) l
 unfolding exactly needed
 ones_none k l a b c d e f g =
-    let n : [] ≡ needed k = eq-nay _ _ _ _ _ a (eq-nay _ _ _ _ _ b (eq-nay _ _ _ _ _ c (eq-nay _ _ _ _ _ d (eq-nay _ _ _ _ _ e (eq-nay _ _ _ _ _ f (eq-nay _ _ _ _ _ g refl)))))) in
+    let n : [] ≡ needed k = eq_nay _ _ _ _ _ a (eq_nay _ _ _ _ _ b (eq_nay _ _ _ _ _ c (eq_nay _ _ _ _ _ d (eq_nay _ _ _ _ _ e (eq_nay _ _ _ _ _ f (eq_nay _ _ _ _ _ g refl)))))) in
     rw (← n)
 
 -- ---- refusal 23
 
-pub barred-at : (k c : ℕ) (l : List Box) {r : ℕ} → k ≡ c → r ≡ oneIf (exactly 0 (barred c) l) → r ≡ oneIf (exactly 0 (barred k) l)
-barred-at k c l e q = rw e q
+pub barred_at : (k c : ℕ) (l : List Box) {r : ℕ} → k ≡ c → r ≡ one_if (exactly 0 (barred c) l) → r ≡ one_if (exactly 0 (barred k) l)
+barred_at k c l e q = rw e q
 
-pub barred-none : (k : ℕ) (l : List Box) → (k ≡ FILE → ⊥) → (k ≡ MOOV → ⊥) → (k ≡ TRAK → ⊥) → (k ≡ STBL → ⊥) → true ≡ exactly 0 (barred k) l
+pub barred_none : (k : ℕ) (l : List Box) → (k ≡ FILE → ⊥) → (k ≡ MOOV → ⊥) → (k ≡ TRAK → ⊥) → (k ≡ STBL → ⊥) → true ≡ exactly 0 (barred k) l
 unfolding exactly barred
-barred-none k l a b c d =
-    let n : [] ≡ barred k = eq-nay _ _ _ _ _ a (eq-nay _ _ _ _ _ b (eq-nay _ _ _ _ _ c (eq-nay _ _ _ _ _ d refl))) in
+barred_none k l a b c d =
+    let n : [] ≡ barred k = eq_nay _ _ _ _ _ a (eq_nay _ _ _ _ _ b (eq_nay _ _ _ _ _ c (eq_nay _ _ _ _ _ d refl))) in
     rw (← n)

@@ -1,6 +1,6 @@
 -- Rule 3: which boxes each container has to have, and how many.
 use Rattle.std.specs.Prelude.{ℕ, Bool, true, false, List, [], ◌∷◌}
-use Rattle.wire.specs.Tests.{pick, ifEq}
+use Rattle.wire.specs.Tests.{pick, if_eq}
 use Rattle.wire.specs.Clauses.{is_eq, is_le, every}
 use Rattle.codes.specs.Codes.{FTYP, MOOV, MVHD, TRAK, TKHD, MDIA, MDHD, HDLR, MINF, DINF, DREF, STBL, STSD, STTS, STSC, STSZ, STCO}
 use Rattle.boxes.specs.Box.{Box}
@@ -13,13 +13,13 @@ use Rattle.rule.specs.Rule.{Rule, placed}
 -- the codes of which a container of kind k has exactly one
 unfoldable pub needed : ℕ → List ℕ
 needed k =
-    ifEq k FILE (FTYP ∷ MOOV ∷ [])
-    (ifEq k MOOV (MVHD ∷ [])
-    (ifEq k TRAK (TKHD ∷ MDIA ∷ [])
-    (ifEq k MDIA (MDHD ∷ HDLR ∷ MINF ∷ [])
-    (ifEq k MINF (DINF ∷ STBL ∷ [])
-    (ifEq k DINF (DREF ∷ [])
-    (ifEq k STBL (STSD ∷ STTS ∷ STSC ∷ STSZ ∷ STCO ∷ []) []))))))
+    if_eq k FILE (FTYP ∷ MOOV ∷ [])
+    (if_eq k MOOV (MVHD ∷ [])
+    (if_eq k TRAK (TKHD ∷ MDIA ∷ [])
+    (if_eq k MDIA (MDHD ∷ HDLR ∷ MINF ∷ [])
+    (if_eq k MINF (DINF ∷ STBL ∷ [])
+    (if_eq k DINF (DREF ∷ [])
+    (if_eq k STBL (STSD ∷ STTS ∷ STSC ∷ STSZ ∷ STCO ∷ []) []))))))
 
 -- exactly n boxes of each code
 unfoldable pub exactly : ℕ → List ℕ → List Box → Bool
@@ -34,15 +34,15 @@ first (x ∷ l) = x.code
 -- besides: in the file `ftyp` first, in `moov` 1 to 4 `trak`
 unfoldable pub besides : ℕ → List Box → Bool
 besides k l =
-    ifEq k FILE (is_eq (first l) FTYP)
-    (ifEq k MOOV (every (is_le 1 (count TRAK l) ∷ is_le (count TRAK l) 4 ∷ [])) true)
+    if_eq k FILE (is_eq (first l) FTYP)
+    (if_eq k MOOV (every (is_le 1 (count TRAK l) ∷ is_le (count TRAK l) 4 ∷ [])) true)
 
 -- the boxes l of a container of kind k are those of rule 3
 unfoldable pub shape : ℕ → List Box → Bool
 shape k l = every (exactly 1 (needed k) l ∷ besides k l ∷ [])
 
-abbrev pub threeRule : Rule
-threeRule = record { leaf = λ k c b. true; node = λ k xs. shape k (boxes xs); end = λ xs. true }
+abbrev pub three_rule : Rule
+three_rule = record { leaf = λ k c b. true; node = λ k xs. shape k (boxes xs); end = λ xs. true }
 
 abbrev pub three : Judge
-three = placed threeRule
+three = placed three_rule

@@ -1,11 +1,11 @@
 // Rules 2 and 3 and refusal 23 of one container: which boxes it has to have, or may not have, and which form they may have.
 ghost use Rattle.std.specs.Prelude.{◌≡◌, ◌≤◌, ◌<◌};
-ghost use Rattle.wire.specs.Clauses.{oneIf};
+ghost use Rattle.wire.specs.Clauses.{one_if};
 ghost use Rattle.boxes.specs.Boxes.{boxes};
 ghost use Rattle.boxes.specs.Seek.{count};
-ghost use Rattle.rule_shape.specs.Three.{exactly as exactlyOf, needed, first, besides as besidesOf, shape};
+ghost use Rattle.rule_shape.specs.Three.{exactly as exactly_of, needed, first, besides as besides_of, shape};
 ghost use Rattle.rule_shape.specs.TwentyThree.{barred};
-ghost use Rattle.rule_shape.specs.Two.{mayHave};
+ghost use Rattle.rule_shape.specs.Two.{may_have};
 
 use boxes::containers::FILE;
 use boxes::seek::Seen;
@@ -14,7 +14,7 @@ use boxes::{seek, walk};
 
 // Whether a box may have a form in a container of kind k, as rule 2 asks: 1 or 0.
 pub fn may_have(k: usize, form: Form) -> usize
-    ensures { result ≡ oneIf (mayHave k form) }
+    ensures { result ≡ one_if (may_have k form) }
 {
     if k == FILE {
         return 1;
@@ -27,7 +27,7 @@ pub fn may_have(k: usize, form: Form) -> usize
 
 // Whether a part has exactly n boxes of each code: 1 or 0.
 fn exactly(n: usize, part: &[u8], list: &[usize]) -> usize
-    ensures { result ≡ oneIf (exactlyOf n list.now (boxes part.now)) }
+    ensures { result ≡ one_if (exactly_of n list.now (boxes part.now)) }
 {
     let mut i = 0;
     while i < list.len() {
@@ -41,7 +41,7 @@ fn exactly(n: usize, part: &[u8], list: &[usize]) -> usize
 
 // Whether a container of kind k has exactly one of each box that it needs: 1 or 0.
 fn one_each(k: usize, part: &[u8]) -> usize
-    ensures { result ≡ oneIf (exactlyOf 1 (needed k) (boxes part.now)) }
+    ensures { result ≡ one_if (exactly_of 1 (needed k) (boxes part.now)) }
 {
     if k == FILE {
         return exactly(1, part, &[codes::FTYP, codes::MOOV]);
@@ -101,7 +101,7 @@ fn more_than(n: usize, part: &[u8], c: usize) -> usize
 
 // Whether the file starts with `ftyp`, and `moov` has 1 to 4 `trak`: 1 or 0.
 fn besides(k: usize, part: &[u8]) -> usize
-    ensures { result ≡ oneIf (besidesOf k (boxes part.now)) }
+    ensures { result ≡ one_if (besides_of k (boxes part.now)) }
 {
     if k == FILE {
         if first_code(part) != codes::FTYP {
@@ -123,7 +123,7 @@ fn besides(k: usize, part: &[u8]) -> usize
 
 // Whether a container of kind k has the boxes of rule 3: 1 or 0. What looks at few of them is asked first.
 pub fn shape_of(k: usize, part: &[u8]) -> usize
-    ensures { result ≡ oneIf (shape k (boxes part.now)) }
+    ensures { result ≡ one_if (shape k (boxes part.now)) }
 {
     if besides(k, part) == 0 {
         return 0;
@@ -136,7 +136,7 @@ pub fn shape_of(k: usize, part: &[u8]) -> usize
 
 // Whether a container of kind k has none of the boxes that no edit takes: 1 or 0.
 pub fn editable_of(k: usize, part: &[u8]) -> usize
-    ensures { result ≡ oneIf (exactlyOf 0 (barred k) (boxes part.now)) }
+    ensures { result ≡ one_if (exactly_of 0 (barred k) (boxes part.now)) }
 {
     if k == FILE {
         return exactly(

@@ -4,15 +4,15 @@ use mathlib.Core.List.{List}
 use Rattle.codes.specs.Codes.{STBL, STCO}
 use Rattle.boxes.specs.Box.{Box}
 use Rattle.boxes.specs.Boxes.{boxes}
-use Rattle.boxes.proofs.Placing.{total-is, place-most}
-use Rattle.rule.proofs.Bounds.{Bounded, unless-most, if-most}
-use Rattle.rule_tracks.specs.Eight.{eightHolds, eightAt, eight}
+use Rattle.boxes.proofs.Placing.{total_is, place_most}
+use Rattle.rule.proofs.Bounds.{Bounded, unless_most, if_most}
+use Rattle.rule_tracks.specs.Eight.{eight_holds, eight_at, eight}
 
-pub eight-bounded : (l : List Box) → Bounded (eight l)
-unfolding eightAt
-eight-bounded l =
+pub eight_bounded : (l : List Box) → Bounded (eight l)
+unfolding eight_at
+eight_bounded l =
     record {
       leaf = λ k c b p q h. omega arith;
-      node = λ k xs home p h. if-most _ k STBL _ (unless-most _ (eightHolds l (boxes xs)) _ (omega (arith, place-most STCO 0 (boxes xs), total-is xs)));
+      node = λ k xs home p h. if_most _ k STBL _ (unless_most _ (eight_holds l (boxes xs)) _ (omega (arith, place_most STCO 0 (boxes xs), total_is xs)));
       end = λ xs p. omega arith;
     }

@@ -3,58 +3,58 @@ use Prim.Native.Nat.{ℕ, ◌+◌}
 use mathlib.Core.Path.{◌≡◌, refl, sym, ap, ◌∙◌}
 use mathlib.Core.Bool.{true, false}
 use mathlib.Core.List.{List}
-use Rattle.wire.specs.Clauses.{oneIf}
+use Rattle.wire.specs.Clauses.{one_if}
 use Rattle.codes.specs.Codes.{STBL, STSC, STSZ, STCO}
-use Rattle.wire.proofs.Clauses.{yea, was-nay, was-yea}
-use Rattle.wire.proofs.Tests.{eq-yea, eq-nay}
+use Rattle.wire.proofs.Clauses.{yea, was_nay, was_yea}
+use Rattle.wire.proofs.Tests.{eq_yea, eq_nay}
 use Rattle.boxes.specs.Box.{Box}
 use Rattle.boxes.specs.Boxes.{boxes}
 use Rattle.boxes.specs.Seek.{find, place_in}
 use Rattle.sample_tables.proofs.Rules.{seven_is}
-use Rattle.mdat.specs.Rules.{chunksLie, Ready}
+use Rattle.mdat.specs.Rules.{chunks_lie, Ready}
 use Rattle.rule.specs.declared.Verdict.TheVariants.{Fine, Bad}
-use Rattle.rule.proofs.Places.{unless-yea, unless-nay}
-use Rattle.rule_tracks.specs.Seven.{sevenHolds}
-use Rattle.rule_tracks.specs.Eight.{eightHolds}
-use Rattle.rule_tracks.specs.Asked.{sixHolds, sevenAsked, eightAsked, eightAskedAt}
-use Rattle.rule_tracks.proofs.Answers.{six-is}
+use Rattle.rule.proofs.Places.{unless_yea, unless_nay}
+use Rattle.rule_tracks.specs.Seven.{seven_holds}
+use Rattle.rule_tracks.specs.Eight.{eight_holds}
+use Rattle.rule_tracks.specs.Asked.{six_holds, seven_asked, eight_asked, eight_asked_at}
+use Rattle.rule_tracks.proofs.Answers.{six_is}
 
-module _ (m : List Box) (s : sixHolds m ≡ true) where
-  asked_is : sevenAsked m ≡ sevenHolds m
-  unfolding sevenAsked
+module _ (m : List Box) (s : six_holds m ≡ true) where
+  asked_is : seven_asked m ≡ seven_holds m
+  unfolding seven_asked
   asked_is = rw s
 
   -- rules 6 and 7 give what the walk over the chunks asks
-  pub ready : sevenAsked m ≡ true → Ready (find STSC m) (find STSZ m) (find STCO m)
-  unfolding sevenHolds
+  pub ready : seven_asked m ≡ true → Ready (find STSC m) (find STSZ m) (find STCO m)
+  unfolding seven_holds
   ready e =
-      let six = six-is m s in
+      let six = six_is m s in
       let t = seven_is _ _ _ _ _ six (sym asked_is ∙ e) in
       record { walk = t.walk; sizes = six.sizes; few = t.few; total = t.total }
 
 module _ (l m : List Box) where
-  pub eight-open : {r : ℕ} → sixHolds m ≡ true → sevenAsked m ≡ true
-      → r ≡ oneIf (chunksLie l (find STSC m) (find STSZ m) (find STCO m)) → r ≡ oneIf (eightAsked l m)
-  unfolding eightAsked eightHolds
-  eight-open s e q = rw (s, sym (asked_is m s) ∙ e) q
+  pub eight_open : {r : ℕ} → six_holds m ≡ true → seven_asked m ≡ true
+      → r ≡ one_if (chunks_lie l (find STSC m) (find STSZ m) (find STCO m)) → r ≡ one_if (eight_asked l m)
+  unfolding eight_asked eight_holds
+  eight_open s e q = rw (s, sym (asked_is m s) ∙ e) q
 
-  pub eight-six : sixHolds m ≡ false → 1 ≡ oneIf (eightAsked l m)
-  unfolding eightAsked
-  eight-six s = rw s (yea true refl)
+  pub eight_six : six_holds m ≡ false → 1 ≡ one_if (eight_asked l m)
+  unfolding eight_asked
+  eight_six s = rw s (yea true refl)
 
-  pub eight-seven : sixHolds m ≡ true → sevenAsked m ≡ false → 1 ≡ oneIf (eightAsked l m)
-  unfolding eightAsked
-  eight-seven s e = rw (s, sym (asked_is m s) ∙ e) (yea true refl)
+  pub eight_seven : six_holds m ≡ true → seven_asked m ≡ false → 1 ≡ one_if (eight_asked l m)
+  unfolding eight_asked
+  eight_seven s e = rw (s, sym (asked_is m s) ∙ e) (yea true refl)
 
 module _ (l : List Box) (k : ℕ) (xs : List ℕ) (p : ℕ) where
-  pub at-bad : {r q : ℕ} → k ≡ STBL → r ≡ oneIf (eightAsked l (boxes xs)) → r ≡ 0 → q ≡ place_in STCO 0 (boxes xs) → Bad (p + q) ≡ eightAskedAt l k xs p
-  unfolding eightAskedAt
-  at-bad {r} h e z q = eq-yea _ _ _ _ _ h (ap (λ (n : ℕ). Bad (p + n)) q ∙ unless-nay _ _ (sym (was-nay _ r z e)))
+  pub at_bad : {r q : ℕ} → k ≡ STBL → r ≡ one_if (eight_asked l (boxes xs)) → r ≡ 0 → q ≡ place_in STCO 0 (boxes xs) → Bad (p + q) ≡ eight_asked_at l k xs p
+  unfolding eight_asked_at
+  at_bad {r} h e z q = eq_yea _ _ _ _ _ h (ap (λ (n : ℕ). Bad (p + n)) q ∙ unless_nay _ _ (sym (was_nay _ r z e)))
 
-  pub at-fine : {r : ℕ} → k ≡ STBL → r ≡ oneIf (eightAsked l (boxes xs)) → (r ≡ 0 → ⊥) → Fine ≡ eightAskedAt l k xs p
-  unfolding eightAskedAt
-  at-fine {r} h e z = eq-yea _ _ _ _ _ h (unless-yea _ _ (sym (was-yea _ r z e)))
+  pub at_fine : {r : ℕ} → k ≡ STBL → r ≡ one_if (eight_asked l (boxes xs)) → (r ≡ 0 → ⊥) → Fine ≡ eight_asked_at l k xs p
+  unfolding eight_asked_at
+  at_fine {r} h e z = eq_yea _ _ _ _ _ h (unless_yea _ _ (sym (was_yea _ r z e)))
 
-  pub at_other : (k ≡ STBL → ⊥) → Fine ≡ eightAskedAt l k xs p
-  unfolding eightAskedAt
-  at_other h = eq-nay _ _ _ _ _ h refl
+  pub at_other : (k ≡ STBL → ⊥) → Fine ≡ eight_asked_at l k xs p
+  unfolding eight_asked_at
+  at_other h = eq_nay _ _ _ _ _ h refl

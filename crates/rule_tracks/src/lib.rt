@@ -1,9 +1,9 @@
 // Rules 6 to 8: the sample tables of a track. Each answer is 1 or 0.
 ghost use Rattle.std.specs.Prelude.{◌≡◌, ◌+◌, ◌^◌, ◌<◌, length};
-ghost use Rattle.wire.specs.Clauses.{oneIf};
+ghost use Rattle.wire.specs.Clauses.{one_if};
 ghost use Rattle.boxes.specs.Boxes.{boxes};
-ghost use Rattle.rule_tracks.specs.Six.{tableFine, tableIn};
-ghost use Rattle.rule_tracks.specs.Asked.{sixHolds, sevenAsked, sevenAskedIn, eightAsked, eightAskedAt};
+ghost use Rattle.rule_tracks.specs.Six.{table_fine, table_in};
+ghost use Rattle.rule_tracks.specs.Asked.{six_holds, seven_asked, seven_asked_in, eight_asked, eight_asked_at};
 
 use boxes::seek;
 use mdat::{chunks, payload};
@@ -13,7 +13,7 @@ use wire::number;
 
 // Whether a table has its length.
 fn table_of(c: usize, body: &[u8]) -> usize
-    ensures { result ≡ oneIf (tableFine c body.now) }
+    ensures { result ≡ one_if (table_fine c body.now) }
 {
     if c == codes::STTS {
         return table::table_form(body, 8);
@@ -32,7 +32,7 @@ fn table_of(c: usize, body: &[u8]) -> usize
 
 // Rule 6 of a box of a container of kind k.
 pub fn table_in(k: usize, c: usize, body: &[u8]) -> usize
-    ensures { result ≡ oneIf (tableIn k c body.now) }
+    ensures { result ≡ one_if (table_in k c body.now) }
 {
     if k == codes::STBL {
         return table_of(c, body);
@@ -42,7 +42,7 @@ pub fn table_in(k: usize, c: usize, body: &[u8]) -> usize
 
 // Whether rule 6 holds of the tables of an `stbl`.
 fn six_holds(stbl: &[u8]) -> usize
-    ensures { result ≡ oneIf (sixHolds (boxes stbl.now)) }
+    ensures { result ≡ one_if (six_holds (boxes stbl.now)) }
 {
     if table::table_form(seek::payload(stbl, codes::STTS, 0), 8) == 0 {
         return 0;
@@ -61,7 +61,7 @@ fn six_holds(stbl: &[u8]) -> usize
 
 // Whether the tables of an `stbl` agree, where they have their lengths.
 fn seven_holds(stbl: &[u8]) -> usize
-    ensures { result ≡ oneIf (sevenAsked (boxes stbl.now)) }
+    ensures { result ≡ one_if (seven_asked (boxes stbl.now)) }
 {
     if six_holds(stbl) == 0 {
         return 1;
@@ -77,7 +77,7 @@ fn seven_holds(stbl: &[u8]) -> usize
 
 // Rule 7 of a container of kind k.
 pub fn seven_in(k: usize, part: &[u8]) -> usize
-    ensures { result ≡ oneIf (sevenAskedIn k part.now) }
+    ensures { result ≡ one_if (seven_asked_in k part.now) }
 {
     if k == codes::STBL {
         return seven_holds(part);
@@ -87,7 +87,7 @@ pub fn seven_in(k: usize, part: &[u8]) -> usize
 
 // Whether the chunks of an `stbl` lie in the file's payloads, where its tables agree.
 fn eight_holds(file: &[u8], stbl: &[u8]) -> usize
-    ensures { result ≡ oneIf (eightAsked (boxes file.now) (boxes stbl.now)) }
+    ensures { result ≡ one_if (eight_asked (boxes file.now) (boxes stbl.now)) }
 {
     if six_holds(stbl) == 0 {
         return 1;
@@ -107,7 +107,7 @@ fn eight_holds(file: &[u8], stbl: &[u8]) -> usize
 // Rule 8 of a container of kind k whose payload starts at base.
 pub fn eight_at(file: &[u8], k: usize, part: &[u8], base: usize) -> Verdict
     requires { base + length part.now < 2 ^ 62 }
-    ensures { result ≡ eightAskedAt (boxes file.now) k part.now base }
+    ensures { result ≡ eight_asked_at (boxes file.now) k part.now base }
 {
     if k == codes::STBL {
         if eight_holds(file, part) == 0 {

@@ -1,10 +1,10 @@
 // Flat battery: what is saved of a recording whose recorder died.
 ghost use Rattle.std.specs.Prelude.{◌≡◌, [], ◌∷◌, ◌+◌, ◌≤◌, length};
 ghost use Rattle.wire.specs.Tests.{pick};
-ghost use Rattle.wire.specs.Clauses.{oneIf};
+ghost use Rattle.wire.specs.Clauses.{one_if};
 ghost use Rattle.wire.specs.Writing.{Wrote};
 ghost use Rattle.boxes.specs.Boxes.{HEAD};
-ghost use Rattle.salvage.specs.Unfinished.{sizeField, endless as endlessIn, unfinished};
+ghost use Rattle.salvage.specs.Unfinished.{size_field, endless as endless_in, unfinished};
 ghost use Rattle.salvage.specs.Salvage.{Salvages};
 ghost use Rattle.salvage.specs.Found.{Found};
 
@@ -19,7 +19,7 @@ use wire::number;
 
 // Whether an `mdat` stands at the front whose end isn't there: 1 or 0.
 fn endless(part: &[u8]) -> usize
-    ensures { result ≡ oneIf (endlessIn part.now) }
+    ensures { result ≡ one_if (endless_in part.now) }
 {
     if number::word32(part, 4) != codes::MDAT {
         return 0;
@@ -36,7 +36,7 @@ fn endless(part: &[u8]) -> usize
 
 // Where the payload of a file that wasn't finished starts; 0 where it is another file.
 fn payload_at(file: &[u8]) -> usize
-    ensures { (result ≡ pick (unfinished file.now) (sizeField file.now + HEAD) 0) × (result ≤ length file.now) }
+    ensures { (result ≡ pick (unfinished file.now) (size_field file.now + HEAD) 0) × (result ≤ length file.now) }
 {
     if number::word32(file, 4) != codes::FTYP {
         return 0;

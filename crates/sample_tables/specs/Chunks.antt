@@ -1,10 +1,10 @@
 -- The chunks of a track, by number from 0: chunk k here is chunk k + 1 of the paper.
 use Rattle.std.specs.Prelude.{ℕ, ◌+◌, ◌≤◌, ◌<◌, ◌≡◌, List}
-use Rattle.wire.specs.Tests.{ifLt}
+use Rattle.wire.specs.Tests.{if_lt}
 use Rattle.wire.specs.Sums.{sum_to}
 use Rattle.sample_tables.specs.Tables.{items, field, Table}
-use Rattle.sample_tables.specs.Sizes.{bytesFrom}
-use Rattle.sample_tables.specs.Runs.{perChunk, description, run_of, Rising}
+use Rattle.sample_tables.specs.Sizes.{bytes_from}
+use Rattle.sample_tables.specs.Runs.{per_chunk, description, run_of, Rising}
 use Rattle.sample_tables.specs.declared.chunk.Chunk.{Chunk}
 use Rattle.sample_tables.specs.declared.chunk.Extent.{Extent}
 use Rattle.sample_tables.specs.declared.chunk.ChunkWalk.{ChunkWalk}
@@ -12,49 +12,49 @@ use Rattle.sample_tables.specs.declared.chunk.ChunkStep.{ChunkStep}
 use Rattle.sample_tables.specs.declared.chunk.ChunkStep.TheVariants.{Found, End}
 
 -- what a chunk has of its run
-unfoldable pub samplesIn : List ℕ → ℕ → ℕ
-samplesIn stsc k = perChunk stsc (run_of stsc k)
+unfoldable pub samples_in : List ℕ → ℕ → ℕ
+samples_in stsc k = per_chunk stsc (run_of stsc k)
 
-unfoldable pub descriptionOf : List ℕ → ℕ → ℕ
-descriptionOf stsc k = description stsc (run_of stsc k)
+unfoldable pub description_of : List ℕ → ℕ → ℕ
+description_of stsc k = description stsc (run_of stsc k)
 
 -- the number of its first sample, from 0: the samples of all chunks before it
-unfoldable pub firstSample : List ℕ → ℕ → ℕ
-firstSample stsc k = sum_to (samplesIn stsc) k
+unfoldable pub first_sample : List ℕ → ℕ → ℕ
+first_sample stsc k = sum_to (samples_in stsc) k
 
 -- "samples over all chunks"
-abbrev pub samplesOver : List ℕ → ℕ → ℕ
-samplesOver stsc chunks = firstSample stsc chunks
+abbrev pub samples_over : List ℕ → ℕ → ℕ
+samples_over stsc chunks = first_sample stsc chunks
 
-abbrev pub offsetAt : List ℕ → ℕ → ℕ
-offsetAt stco k = field 4 0 stco k
+abbrev pub offset_at : List ℕ → ℕ → ℕ
+offset_at stco k = field 4 0 stco k
 
-unfoldable pub chunkAt : List ℕ → List ℕ → ℕ → Chunk
-chunkAt stsc stco k =
+unfoldable pub chunk_at : List ℕ → List ℕ → ℕ → Chunk
+chunk_at stsc stco k =
     record {
       nth = k;
-      offset = offsetAt stco k;
-      first = firstSample stsc k;
-      samples = samplesIn stsc k;
-      description = descriptionOf stsc k;
+      offset = offset_at stco k;
+      first = first_sample stsc k;
+      samples = samples_in stsc k;
+      description = description_of stsc k;
     }
 
 -- where a chunk lies in the file: its samples laid end to end from its offset
-unfoldable pub extentOf : List ℕ → Chunk → Extent
-extentOf stsz c = record { offset = c.offset; bytes = bytesFrom stsz c.first c.samples }
+unfoldable pub extent_of : List ℕ → Chunk → Extent
+extent_of stsz c = record { offset = c.offset; bytes = bytes_from stsz c.first c.samples }
 
-abbrev pub extentAt : (stsc stsz stco : List ℕ) → ℕ → Extent
-extentAt stsc stsz stco k = extentOf stsz (chunkAt stsc stco k)
+abbrev pub extent_at : (stsc stsz stco : List ℕ) → ℕ → Extent
+extent_at stsc stsz stco k = extent_of stsz (chunk_at stsc stco k)
 
 -- the walk at its start, before chunk k, and its step
-abbrev pub walkStart : ChunkWalk
-walkStart = record { chunk = 0; run = 0; sample = 0 }
+abbrev pub walk_start : ChunkWalk
+walk_start = record { chunk = 0; run = 0; sample = 0 }
 
-unfoldable pub walkAt : List ℕ → ℕ → ChunkWalk
-walkAt stsc k = record { chunk = k; run = run_of stsc k; sample = firstSample stsc k }
+unfoldable pub walk_at : List ℕ → ℕ → ChunkWalk
+walk_at stsc k = record { chunk = k; run = run_of stsc k; sample = first_sample stsc k }
 
 unfoldable pub step_of : List ℕ → List ℕ → ℕ → ChunkStep
-step_of stsc stco k = ifLt k (items stco) (Found (chunkAt stsc stco k) (walkAt stsc (k + 1))) End
+step_of stsc stco k = if_lt k (items stco) (Found (chunk_at stsc stco k) (walk_at stsc (k + 1))) End
 
 -- what the walk asks of its tables
 pub record Walkable (stsc stco : List ℕ) : Type 0 where

@@ -10,28 +10,28 @@ abbrev pub delta : List ℕ → ℕ → ℕ
 delta stts i = field 8 4 stts i
 
 -- the samples and the ticks of the first n items
-unfoldable pub timedTo : List ℕ → ℕ → ℕ
-timedTo stts n = sum_to (counted stts) n
+unfoldable pub timed_to : List ℕ → ℕ → ℕ
+timed_to stts n = sum_to (counted stts) n
 
-unfoldable pub ticksTo : List ℕ → ℕ → ℕ
-ticksTo stts n = sum_to (λ i. counted stts i * delta stts i) n
+unfoldable pub ticks_to : List ℕ → ℕ → ℕ
+ticks_to stts n = sum_to (λ i. counted stts i * delta stts i) n
 
 -- the samples that it counts
 abbrev pub timed : List ℕ → ℕ
-timed stts = timedTo stts (items stts)
+timed stts = timed_to stts (items stts)
 
 -- a track's length: "sum of stts count times delta"
-abbrev pub mediaTicks : List ℕ → ℕ
-mediaTicks stts = ticksTo stts (items stts)
+abbrev pub media_ticks : List ℕ → ℕ
+media_ticks stts = ticks_to stts (items stts)
 
 -- how many of the first s samples item i counts
-abbrev pub countedOf : List ℕ → ℕ → ℕ → ℕ
-countedOf stts s i = min (counted stts i) (s - timedTo stts i)
+abbrev pub counted_of : List ℕ → ℕ → ℕ → ℕ
+counted_of stts s i = min (counted stts i) (s - timed_to stts i)
 
 -- the ticks of those that the first n items count
-unfoldable pub ticksOf : List ℕ → ℕ → ℕ → ℕ
-ticksOf stts s n = sum_to (λ i. countedOf stts s i * delta stts i) n
+unfoldable pub ticks_of : List ℕ → ℕ → ℕ → ℕ
+ticks_of stts s n = sum_to (λ i. counted_of stts s i * delta stts i) n
 
 -- the tick at which sample s starts, from 0: the deltas of all samples before it
-abbrev pub tickAt : List ℕ → ℕ → ℕ
-tickAt stts s = ticksOf stts s (items stts)
+abbrev pub tick_at : List ℕ → ℕ → ℕ
+tick_at stts s = ticks_of stts s (items stts)

@@ -1,7 +1,7 @@
 // The walk by chunk.
 ghost use Rattle.std.specs.Prelude.{◌≡◌, ◌+◌, ◌^◌, ◌≤◌, ◌<◌};
 ghost use Rattle.sample_tables.specs.Tables.{Table, items};
-ghost use Rattle.sample_tables.specs.Chunks.{offsetAt, extentOf, samplesOver, walkStart, walkAt, step_of, Walkable};
+ghost use Rattle.sample_tables.specs.Chunks.{offset_at, extent_of, samples_over, walk_start, walk_at, step_of, Walkable};
 
 use crate::{run, size, table};
 
@@ -39,7 +39,7 @@ pub enum ChunkStep {
 // The offset of chunk k.
 pub fn offset_at(stco: &[u8], k: usize) -> usize
     requires { Table 4 stco.now × (k < items stco.now) }
-    ensures { (result ≡ offsetAt stco.now k) × (result < 2 ^ 32) }
+    ensures { (result ≡ offset_at stco.now k) × (result < 2 ^ 32) }
 {
     table::field(stco, 4, 0, k)
 }
@@ -47,7 +47,7 @@ pub fn offset_at(stco: &[u8], k: usize) -> usize
 impl ChunkWalk {
     // Before the first chunk.
     pub fn start() -> Self
-        ensures { result ≡ walkStart }
+        ensures { result ≡ walk_start }
     {
         ChunkWalk {
             chunk: 0,
@@ -58,7 +58,7 @@ impl ChunkWalk {
 
     // The chunk and the walk after it, by a constant number of reads.
     pub fn step(self, stsc: &[u8], stco: &[u8]) -> ChunkStep
-        requires { Walkable stsc.now stco.now × (self ≡ walkAt stsc.now self.chunk) }
+        requires { Walkable stsc.now stco.now × (self ≡ walk_at stsc.now self.chunk) }
         ensures { result ≡ step_of stsc.now stco.now self.chunk }
     {
         let nth = self.chunk;
@@ -86,7 +86,7 @@ impl ChunkWalk {
 // The samples over all chunks, run by run.
 pub fn samples_over(stsc: &[u8], stco: &[u8]) -> usize
     requires { Walkable stsc.now stco.now }
-    ensures { result ≡ samplesOver stsc.now (items stco.now) }
+    ensures { result ≡ samples_over stsc.now (items stco.now) }
 {
     let n = table::items(stsc);
     let chunks = table::items(stco);
@@ -105,7 +105,7 @@ pub fn samples_over(stsc: &[u8], stco: &[u8]) -> usize
 // Where a chunk lies.
 pub fn extent_of(stsz: &[u8], chunk: Chunk) -> Extent
     requires { chunk.first + chunk.samples ≤ 65536 }
-    ensures { result ≡ extentOf stsz.now chunk }
+    ensures { result ≡ extent_of stsz.now chunk }
 {
     let first = chunk.first;
     let samples = chunk.samples;

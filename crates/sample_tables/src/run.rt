@@ -1,9 +1,9 @@
 // `stsc`: runs of chunks.
 ghost use Rattle.std.specs.Prelude.{◌≡◌, ◌+◌, ◌^◌, ◌<◌};
-ghost use Rattle.wire.specs.Clauses.{oneIf};
+ghost use Rattle.wire.specs.Clauses.{one_if};
 ghost use Rattle.sample_tables.specs.Tables.{Table, items};
-ghost use Rattle.sample_tables.specs.Runs.{firstChunk, perChunk, description as descriptionIn};
-ghost use Rattle.sample_tables.specs.Runs.{rises as risesOf, runFine, runsFine, run_of, runStart, Rising};
+ghost use Rattle.sample_tables.specs.Runs.{first_chunk, per_chunk, description as description_in};
+ghost use Rattle.sample_tables.specs.Runs.{rises as rises_of, run_fine, runs_fine, run_of, run_start, Rising};
 
 use crate::table;
 use wire::number;
@@ -11,7 +11,7 @@ use wire::number;
 // The number of run i's first chunk, from 1.
 fn start_of(stsc: &[u8], i: usize) -> usize
     requires { Table 12 stsc.now × (i < items stsc.now) }
-    ensures { (result ≡ firstChunk stsc.now i) × (result < 2 ^ 32) }
+    ensures { (result ≡ first_chunk stsc.now i) × (result < 2 ^ 32) }
 {
     table::field(stsc, 12, 0, i)
 }
@@ -19,7 +19,7 @@ fn start_of(stsc: &[u8], i: usize) -> usize
 // The samples in each of its chunks.
 pub fn per_chunk(stsc: &[u8], i: usize) -> usize
     requires { Table 12 stsc.now × (i < items stsc.now) }
-    ensures { (result ≡ perChunk stsc.now i) × (result < 2 ^ 32) }
+    ensures { (result ≡ per_chunk stsc.now i) × (result < 2 ^ 32) }
 {
     table::field(stsc, 12, 4, i)
 }
@@ -27,7 +27,7 @@ pub fn per_chunk(stsc: &[u8], i: usize) -> usize
 // Its description index.
 pub fn description(stsc: &[u8], i: usize) -> usize
     requires { Table 12 stsc.now × (i < items stsc.now) }
-    ensures { (result ≡ descriptionIn stsc.now i) × (result < 2 ^ 32) }
+    ensures { (result ≡ description_in stsc.now i) × (result < 2 ^ 32) }
 {
     table::field(stsc, 12, 8, i)
 }
@@ -35,7 +35,7 @@ pub fn description(stsc: &[u8], i: usize) -> usize
 // Whether run i starts at chunk 1 or, after the first, past the one before it: 1 or 0.
 fn rises(stsc: &[u8], i: usize) -> usize
     requires { Table 12 stsc.now × (i < items stsc.now) }
-    ensures { result ≡ oneIf (risesOf stsc.now i) }
+    ensures { result ≡ one_if (rises_of stsc.now i) }
 {
     if i == 0 {
         if start_of(stsc, i) == 1 {
@@ -52,7 +52,7 @@ fn rises(stsc: &[u8], i: usize) -> usize
 // Whether run i is as rule 7 wants it: 1 or 0.
 fn run_fine(stsc: &[u8], chunks: usize, descriptions: usize, i: usize) -> usize
     requires { Table 12 stsc.now × (i < items stsc.now) }
-    ensures { result ≡ oneIf (runFine stsc.now chunks descriptions i) }
+    ensures { result ≡ one_if (run_fine stsc.now chunks descriptions i) }
 {
     if rises(stsc, i) == 0 {
         return 0;
@@ -76,7 +76,7 @@ fn run_fine(stsc: &[u8], chunks: usize, descriptions: usize, i: usize) -> usize
 // Whether every run is: 1 or 0.
 pub fn runs_fine(stsc: &[u8], chunks: usize, descriptions: usize) -> usize
     requires { Table 12 stsc.now }
-    ensures { result ≡ oneIf (runsFine stsc.now chunks descriptions (items stsc.now)) }
+    ensures { result ≡ one_if (runs_fine stsc.now chunks descriptions (items stsc.now)) }
 {
     let n = table::items(stsc);
     let mut i = 0;
@@ -106,7 +106,7 @@ pub fn run_after(stsc: &[u8], k: usize, run: usize) -> usize
 // How many of so many chunks stand before the end of run i.
 pub fn run_end(stsc: &[u8], chunks: usize, i: usize) -> usize
     requires { Table 12 stsc.now × Rising stsc.now × (i < items stsc.now) }
-    ensures { result ≡ runStart stsc.now chunks (i + 1) }
+    ensures { result ≡ run_start stsc.now chunks (i + 1) }
 {
     if i + 1 < table::items(stsc) {
         return number::least(start_of(stsc, i + 1) - 1, chunks);

@@ -1,14 +1,14 @@
 // `stsz`: the sizes of samples.
 ghost use Rattle.std.specs.Prelude.{◌≡◌, ◌+◌, ◌-◌, ◌*◌, ◌/◌, ◌^◌, ◌≤◌, ◌<◌, min, length};
-ghost use Rattle.wire.specs.Clauses.{oneIf};
-ghost use Rattle.sample_tables.specs.Sizes.{common, fourAt, sizesForm, sizesListed, sampleCount, size_at, bytesFrom, Held};
+ghost use Rattle.wire.specs.Clauses.{one_if};
+ghost use Rattle.sample_tables.specs.Sizes.{common, four_at, sizes_form, sizes_listed, sample_count, size_at, bytes_from, Held};
 
 use crate::table;
 use wire::number;
 
 // The sizes that the table holds: none beside a common size.
 fn listed(stsz: &[u8]) -> usize
-    ensures { (result ≡ sizesListed stsz.now) × (result < 2 ^ 32) }
+    ensures { (result ≡ sizes_listed stsz.now) × (result < 2 ^ 32) }
 {
     if number::word32(stsz, 4) == 0 {
         return number::word32(stsz, 8);
@@ -18,14 +18,14 @@ fn listed(stsz: &[u8]) -> usize
 
 // Whether a payload has rule 6's form: 1 or 0.
 pub fn sizes_form(stsz: &[u8]) -> usize
-    ensures { result ≡ oneIf (sizesForm stsz.now) }
+    ensures { result ≡ one_if (sizes_form stsz.now) }
 {
     table::has_form(stsz, 12 + 4 * listed(stsz))
 }
 
 // The sample count.
 pub fn samples(stsz: &[u8]) -> usize
-    ensures { (result ≡ sampleCount stsz.now) × (result < 2 ^ 32) }
+    ensures { (result ≡ sample_count stsz.now) × (result < 2 ^ 32) }
 {
     number::word32(stsz, 8)
 }
@@ -45,7 +45,7 @@ pub fn size_at(stsz: &[u8], j: usize) -> usize
 // The sum of four sizes.
 fn four(stsz: &[u8], at: usize) -> usize
     requires { at + 16 ≤ length stsz.now }
-    ensures { (result ≡ fourAt stsz.now at) × (result ≤ 4 * 4294967295) }
+    ensures { (result ≡ four_at stsz.now at) × (result ≤ 4 * 4294967295) }
 {
     number::word32_in(stsz, at)
         + number::word32_in(stsz, at + 4)
@@ -56,7 +56,7 @@ fn four(stsz: &[u8], at: usize) -> usize
 // The sum of n listed sizes from the given one on, one at a time.
 fn few_from(stsz: &[u8], first: usize, n: usize) -> usize
     requires { (common stsz.now ≡ 0) × (first + n ≤ 65536) × (n ≤ (length stsz.now - (12 + 4 * first)) / 4) }
-    ensures { (result ≡ bytesFrom stsz.now first n) × (result ≤ n * 4294967295) }
+    ensures { (result ≡ bytes_from stsz.now first n) × (result ≤ n * 4294967295) }
 {
     let mut i = 0;
     let mut sum = 0;
@@ -70,7 +70,7 @@ fn few_from(stsz: &[u8], first: usize, n: usize) -> usize
 // The same, four at a time.
 fn many_from(stsz: &[u8], first: usize, n: usize) -> usize
     requires { (common stsz.now ≡ 0) × (first + n ≤ 65536) × (n ≤ (length stsz.now - (12 + 4 * first)) / 4) }
-    ensures { (result ≡ bytesFrom stsz.now first n) × (result ≤ n * 4294967295) }
+    ensures { (result ≡ bytes_from stsz.now first n) × (result ≤ n * 4294967295) }
 {
     let mut i = 0;
     let mut sum = 0;
@@ -84,7 +84,7 @@ fn many_from(stsz: &[u8], first: usize, n: usize) -> usize
 // The bytes of n samples from the given one on, where their sizes are there.
 pub fn bytes_in(stsz: &[u8], first: usize, n: usize) -> usize
     requires { Held stsz.now first n }
-    ensures { (result ≡ bytesFrom stsz.now first n) × (result ≤ n * 4294967295) }
+    ensures { (result ≡ bytes_from stsz.now first n) × (result ≤ n * 4294967295) }
 {
     let one = number::word32(stsz, 4);
     if one != 0 {
@@ -111,7 +111,7 @@ fn inside(stsz: &[u8], first: usize, n: usize) -> usize
 // The bytes of n samples from the given one on.
 pub fn bytes_from(stsz: &[u8], first: usize, n: usize) -> usize
     requires { first + n ≤ 65536 }
-    ensures { (result ≡ bytesFrom stsz.now first n) × (result ≤ n * 4294967295) }
+    ensures { (result ≡ bytes_from stsz.now first n) × (result ≤ n * 4294967295) }
 {
     if number::word32(stsz, 4) == 0 {
         return bytes_in(stsz, first, inside(stsz, first, n));

@@ -1,13 +1,13 @@
 // Tables: a stored count, and items of one width.
 ghost use Rattle.std.specs.Prelude.{◌≡◌, ◌+◌, ◌^◌, ◌≤◌, ◌<◌};
-ghost use Rattle.wire.specs.Clauses.{oneIf};
-ghost use Rattle.sample_tables.specs.Tables.{Table, hasForm, tableForm, items as items_of, field as field_of};
+ghost use Rattle.wire.specs.Clauses.{one_if};
+ghost use Rattle.sample_tables.specs.Tables.{Table, has_form, table_form, items as items_of, field as field_of};
 
 use wire::number;
 
 // Whether a payload has version byte 0 and the given length: 1 or 0.
 pub fn has_form(part: &[u8], long: usize) -> usize
-    ensures { result ≡ oneIf (hasForm long part.now) }
+    ensures { result ≡ one_if (has_form long part.now) }
 {
     if number::byte(part, 0) != 0 {
         return 0;
@@ -28,7 +28,7 @@ pub fn items(part: &[u8]) -> usize
 // Whether a table has rule 6's form: 1 or 0. No item is read for it.
 pub fn table_form(part: &[u8], width: usize) -> usize
     requires { width ≤ 12 }
-    ensures { result ≡ oneIf (tableForm width part.now) }
+    ensures { result ≡ one_if (table_form width part.now) }
 {
     has_form(part, 8 + width * items(part))
 }

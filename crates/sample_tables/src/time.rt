@@ -1,7 +1,7 @@
 // `stts`: how many samples it counts, and how long they last.
 ghost use Rattle.std.specs.Prelude.{◌≡◌, ◌≤◌};
 ghost use Rattle.sample_tables.specs.Tables.{Table};
-ghost use Rattle.sample_tables.specs.Times.{timed as timedOf, mediaTicks, tickAt};
+ghost use Rattle.sample_tables.specs.Times.{timed as timed_of, media_ticks, tick_at};
 
 use crate::table;
 use wire::number;
@@ -13,7 +13,7 @@ pub struct MediaTicks(pub u64);
 // The samples that `stts` counts.
 pub fn timed(stts: &[u8]) -> usize
     requires { Table 8 stts.now }
-    ensures { result ≡ timedOf stts.now }
+    ensures { result ≡ timed_of stts.now }
 {
     let n = table::items(stts);
     let mut i = 0;
@@ -27,8 +27,8 @@ pub fn timed(stts: &[u8]) -> usize
 
 // A track's length: with at most 65,536 samples it stays below 2^48.
 pub fn media_ticks(stts: &[u8]) -> MediaTicks
-    requires { Table 8 stts.now × (timedOf stts.now ≤ 65536) }
-    ensures { result.0 ≡ mediaTicks stts.now }
+    requires { Table 8 stts.now × (timed_of stts.now ≤ 65536) }
+    ensures { result.0 ≡ media_ticks stts.now }
 {
     let n = table::items(stts);
     let mut i = 0;
@@ -45,7 +45,7 @@ pub fn media_ticks(stts: &[u8]) -> MediaTicks
 // The tick at which a sample starts: the deltas of all samples before it.
 pub fn tick_at(stts: &[u8], sample: usize) -> MediaTicks
     requires { Table 8 stts.now × (sample ≤ 65536) }
-    ensures { result.0 ≡ tickAt stts.now sample }
+    ensures { result.0 ≡ tick_at stts.now sample }
 {
     let n = table::items(stts);
     let mut i = 0;

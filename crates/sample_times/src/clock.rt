@@ -1,8 +1,8 @@
 // The clock over `stts`.
 ghost use Rattle.std.specs.Prelude.{◌≡◌, ◌≤◌};
 ghost use Rattle.sample_tables.specs.Tables.{items};
-ghost use Rattle.sample_tables.specs.Times.{timedTo, timed};
-ghost use Rattle.sample_times.specs.Clocks.{clockStart, clockAt, turn_of, Clocked};
+ghost use Rattle.sample_tables.specs.Times.{timed_to, timed};
+ghost use Rattle.sample_times.specs.Clocks.{clock_start, clock_at, turn_of, Clocked};
 
 use sample_tables::table;
 use sample_tables::time::MediaTicks;
@@ -25,7 +25,7 @@ pub enum Turned {
 impl Clock {
     // Before the first item.
     pub fn start() -> Self
-        ensures { result ≡ clockStart }
+        ensures { result ≡ clock_start }
     {
         Clock {
             item: 0,
@@ -36,7 +36,7 @@ impl Clock {
 
     // Asks for a sample that isn't before the clock, by a constant number of reads.
     pub fn turn(self, stts: &[u8], sample: usize) -> Turned
-        requires { Clocked stts.now × (self ≡ clockAt stts.now self.item) × (self.item ≤ items stts.now) × (timedTo stts.now self.item ≤ sample) × (sample ≤ timed stts.now) }
+        requires { Clocked stts.now × (self ≡ clock_at stts.now self.item) × (self.item ≤ items stts.now) × (timed_to stts.now self.item ≤ sample) × (sample ≤ timed stts.now) }
         ensures { result ≡ turn_of stts.now self.item sample }
     {
         let item = self.item;

@@ -1,9 +1,9 @@
 // The walk by chunk, with the tick at which each chunk starts.
 ghost use Rattle.std.specs.Prelude.{◌≡◌, ◌<◌};
 ghost use Rattle.sample_tables.specs.Tables.{items};
-ghost use Rattle.sample_tables.specs.Times.{tickAt};
-ghost use Rattle.sample_tables.specs.Chunks.{firstSample};
-ghost use Rattle.sample_times.specs.Walks.{timedStart, timedStep, Timed, Playable};
+ghost use Rattle.sample_tables.specs.Times.{tick_at};
+ghost use Rattle.sample_tables.specs.Chunks.{first_sample};
+ghost use Rattle.sample_times.specs.Walks.{timed_start, timed_step, Timed, Playable};
 
 use crate::clock::{Clock, Turned};
 use sample_tables::chunk::{Chunk, ChunkStep, ChunkWalk};
@@ -27,7 +27,7 @@ pub enum TimedStep {
 impl TimedWalk {
     // Before the first chunk.
     pub fn start() -> Self
-        ensures { result ≡ timedStart }
+        ensures { result ≡ timed_start }
     {
         TimedWalk {
             walk: ChunkWalk::start(),
@@ -38,7 +38,7 @@ impl TimedWalk {
     // One step, by a constant number of reads.
     pub fn step(self, stts: &[u8], stsc: &[u8], stco: &[u8]) -> TimedStep
         requires { Playable stts.now stsc.now stco.now × Timed stts.now stsc.now self }
-        ensures { result ≡ timedStep stts.now stsc.now stco.now self.clock.item self.walk.chunk }
+        ensures { result ≡ timed_step stts.now stsc.now stco.now self.clock.item self.walk.chunk }
     {
         let walk = self.walk;
         let clock = self.clock;
@@ -55,7 +55,7 @@ impl TimedWalk {
 // The tick at which chunk k starts.
 pub fn chunk_tick(stts: &[u8], stsc: &[u8], stco: &[u8], k: usize) -> MediaTicks
     requires { Playable stts.now stsc.now stco.now × (k < items stco.now) }
-    ensures { result.0 ≡ tickAt stts.now (firstSample stsc.now k) }
+    ensures { result.0 ≡ tick_at stts.now (first_sample stsc.now k) }
 {
     let mut walk = TimedWalk::start();
     loop {

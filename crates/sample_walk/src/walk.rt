@@ -1,7 +1,7 @@
 // Where the samples of a track lie, from one to the next.
 ghost use Rattle.std.specs.Prelude.{◌≡◌, ◌<◌};
-ghost use Rattle.sample_tables.specs.Chunks.{firstSample};
-ghost use Rattle.sample_walk.specs.Walks.{sampleStart, Sampled, Before, StepAs};
+ghost use Rattle.sample_tables.specs.Chunks.{first_sample};
+ghost use Rattle.sample_walk.specs.Walks.{sample_start, Sampled, Before, StepAs};
 
 use sample_tables::chunk::{ChunkStep, ChunkWalk};
 use sample_tables::size;
@@ -32,7 +32,7 @@ pub enum SampleStep {
 
 // The sample that a walk inside a chunk stands before, and the walk after it.
 fn found(w: SampleWalk, stsc: &[u8], stsz: &[u8], stco: &[u8]) -> SampleStep
-    requires { Sampled stsc.now stsz.now stco.now × Before stsc.now stsz.now stco.now w × (w.number < firstSample stsc.now w.chunks.chunk) }
+    requires { Sampled stsc.now stsz.now stco.now × Before stsc.now stsz.now stco.now w × (w.number < first_sample stsc.now w.chunks.chunk) }
     ensures { StepAs stsc.now stsz.now stco.now w.number result }
 {
     let number = w.number;
@@ -58,7 +58,7 @@ fn found(w: SampleWalk, stsc: &[u8], stsz: &[u8], stco: &[u8]) -> SampleStep
 impl SampleWalk {
     // Before the first sample.
     pub fn start() -> Self
-        ensures { result ≡ sampleStart }
+        ensures { result ≡ sample_start }
     {
         SampleWalk {
             number: 0,

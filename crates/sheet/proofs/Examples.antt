@@ -1,8 +1,8 @@
 -- The two editions, by computation.
 use mathlib.Core.Path.{◌≡◌, refl}
-use Rattle.wire.specs.Tests.{ifLe}
-use Rattle.sheet.specs.Sheet.{First, Second, editionFor, bodiesAt}
+use Rattle.wire.specs.Tests.{if_le}
+use Rattle.sheet.specs.Sheet.{First, Second, edition_for, bodies_at}
 
-editions : (editionFor 8 ≡ First) × (bodiesAt First ≡ 100) × (editionFor 9 ≡ Second) × (bodiesAt Second ≡ 388)
-unfolding ifLe editionFor
+editions : (edition_for 8 ≡ First) × (bodies_at First ≡ 100) × (edition_for 9 ≡ Second) × (bodies_at Second ≡ 388)
+unfolding if_le edition_for
 editions = (refl, refl, refl, refl)

@@ -2,12 +2,12 @@
 use Rattle.std.specs.Prelude.{ℕ, List, []}
 use Rattle.movie.specs.Entries.{entries}
 use Rattle.rule.specs.Results.{Result}
-use Rattle.judge.specs.Calls.{resultOn}
+use Rattle.judge.specs.Calls.{result_on}
 use Rattle.sheet.specs.Sheet.{sheet}
 
-unfoldable pub sheetOf : List ℕ → List ℕ
-sheetOf xs = sheet (entries xs)
+unfoldable pub sheet_of : List ℕ → List ℕ
+sheet_of xs = sheet (entries xs)
 
 -- "1 to 10, then 25"
-unfoldable pub sheetResult : List ℕ → Result
-sheetResult xs = resultOn xs [] (sheetOf xs)
+unfoldable pub sheet_result : List ℕ → Result
+sheet_result xs = result_on xs [] (sheet_of xs)

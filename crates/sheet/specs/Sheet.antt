@@ -1,6 +1,6 @@
 -- The sheet: what it says of a list of entries, in the edition that their count asks for.
 use Rattle.std.specs.Prelude.{ℕ, ◌+◌, ◌-◌, ◌*◌, List, [], ◌∷◌, ◌++◌, length, replicate}
-use Rattle.wire.specs.Tests.{ifLe}
+use Rattle.wire.specs.Tests.{if_le}
 use Rattle.wire.specs.Numbers.{bytes, word}
 use Rattle.movie.specs.Entries.{Entry}
 use Rattle.entry_heads.specs.Kinds.{kind_of}
@@ -20,16 +20,16 @@ abbrev pub Second : Edition
 Second = record { number = 2; slots = SLOTS }
 
 -- K6: "edition 2 only for files with more than 8": the one of a sheet of n entries
-unfoldable pub editionFor : ℕ → Edition
-editionFor n = ifLe n First.slots First Second
+unfoldable pub edition_for : ℕ → Edition
+edition_for n = if_le n First.slots First Second
 
 -- slots "of 12 bytes"
 abbrev pub SLOT : ℕ
 SLOT = 12
 
 -- where the bodies start: byte 100 of the first edition, "byte 388" of the second
-abbrev pub bodiesAt : Edition → ℕ
-bodiesAt e = 4 + SLOT * e.slots
+abbrev pub bodies_at : Edition → ℕ
+bodies_at e = 4 + SLOT * e.slots
 
 -- ---- its parts
 
@@ -56,4 +56,4 @@ front edition es = (edition.number ∷ length es ∷ 0 ∷ 0 ∷ []) ++ slots es
 -- ---- the whole
 
 unfoldable pub sheet : List Entry → List ℕ
-sheet es = front (editionFor (length es)) es ++ bodies es
+sheet es = front (edition_for (length es)) es ++ bodies es

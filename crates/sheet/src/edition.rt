@@ -1,6 +1,6 @@
 // The editions of the sheet.
 ghost use Rattle.std.specs.Prelude.{◌≡◌, ◌≤◌};
-ghost use Rattle.sheet.specs.Sheet.{Second, editionFor, bodiesAt};
+ghost use Rattle.sheet.specs.Sheet.{Second, edition_for, bodies_at};
 
 // What byte 0 is, and how many slots there are.
 #[derive(Drop)]
@@ -21,7 +21,7 @@ pub const BODIES: usize = FRONT + SLOT * SLOTS;
 
 // The edition of a sheet of n entries.
 pub fn of_count(n: usize) -> Edition
-    ensures { result ≡ editionFor n }
+    ensures { result ≡ edition_for n }
 {
     if n <= 8 {
         return Edition {
@@ -37,7 +37,7 @@ pub fn of_count(n: usize) -> Edition
 
 // Where the bodies of a sheet of n entries start.
 pub fn bodies_at(n: usize) -> usize
-    ensures { (result ≡ bodiesAt (editionFor n)) × (result ≤ bodiesAt Second) }
+    ensures { (result ≡ bodies_at (edition_for n)) × (result ≤ bodies_at Second) }
 {
     let e = of_count(n);
     FRONT + SLOT * e.slots

@@ -9,10 +9,10 @@ ghost use Rattle.rule.specs.Results.Result.{gives};
 ghost use Rattle.movie.specs.Entries.{entries};
 ghost use Rattle.layout.specs.Every.{TracksAt};
 ghost use Rattle.layout.specs.Entries.{ListsAt};
-ghost use Rattle.movie.specs.Named.{entryAs};
-ghost use Rattle.sheet.specs.Sheet.{SLOTS, SLOT, slot as slotText, slot_of, slots as slotsText, bodies as bodiesText};
+ghost use Rattle.movie.specs.Named.{entry_as};
+ghost use Rattle.sheet.specs.Sheet.{SLOTS, SLOT, slot as slot_text, slot_of, slots as slots_text, bodies as bodies_text};
 ghost use Rattle.sheet.specs.Fits.{SheetFits};
-ghost use Rattle.sheet.specs.Reader.{sheetOf, sheetResult};
+ghost use Rattle.sheet.specs.Reader.{sheet_of, sheet_result};
 
 use crate::edition::{SLOT, SLOTS};
 use entry_heads::kind;
@@ -55,7 +55,7 @@ pub fn put_slot(
     span: usize,
 ) -> usize
     requires { (at < 60000) × (kind < 256) × (track < 256) }
-    ensures { Put (slotText kind track place span) out.old at result out.new × (result ≡ at + 12) }
+    ensures { Put (slot_text kind track place span) out.old at result out.new × (result ≡ at + 12) }
 {
     let a = put_two(out, at, kind, track);
     let b = put_word(out, a, place);
@@ -65,7 +65,7 @@ pub fn put_slot(
 // Writes the slot of an entry that was looked up.
 fn put_slot_of(out: &mut [u8], at: usize, file: &[u8], e: EntryAt) -> usize
     requires { (at < 60000) × (e.track < 256) × (e.place + e.span ≤ length file.now) }
-    ensures { Put (slot_of (entryAs file.now e)) out.old at result out.new × (result ≡ at + 12) }
+    ensures { Put (slot_of (entry_as file.now e)) out.old at result out.new × (result ≡ at + 12) }
 {
     let from = e.place;
     let to = e.place + e.span;
@@ -77,7 +77,7 @@ fn put_slot_of(out: &mut [u8], at: usize, file: &[u8], e: EntryAt) -> usize
 // Writes the slot of entry i, where there is one.
 fn put_slot_at(out: &mut [u8], at: usize, file: &[u8], l: Lists, i: usize) -> usize
     requires { (at < 60000) × SheetFits file.now × ListsAt file.now l }
-    ensures { Put (slotsText (take 1 (drop i (entries file.now)))) out.old at result out.new × (result ≤ at + 12) }
+    ensures { Put (slots_text (take 1 (drop i (entries file.now)))) out.old at result out.new × (result ≤ at + 12) }
 {
     match entries::entry(file, l, i) {
         Named::At(e) => put_slot_of(out, at, file, e),
@@ -88,7 +88,7 @@ fn put_slot_at(out: &mut [u8], at: usize, file: &[u8], l: Lists, i: usize) -> us
 // Writes the slots of the first n entries.
 fn put_slots(out: &mut [u8], from: usize, file: &[u8], l: Lists, n: usize) -> usize
     requires { (from + 12 * n < 60000) × SheetFits file.now × ListsAt file.now l }
-    ensures { Put (slotsText (take n (entries file.now))) out.old from result out.new × (result ≤ from + 12 * n) }
+    ensures { Put (slots_text (take n (entries file.now))) out.old from result out.new × (result ≤ from + 12 * n) }
 {
     let mut at = from;
     let mut i = 0;
@@ -112,7 +112,7 @@ fn put_unused(out: &mut [u8], at: usize, n: usize) -> usize
 // Writes the entries: those of a track are its list, since boxes tile it.
 fn put_bodies(out: &mut [u8], from: usize, file: &[u8], l: Lists) -> usize
     requires { (from < 2 ^ 61) × SheetFits file.now × ListsAt file.now l }
-    ensures { Put (bodiesText (entries file.now)) out.old from result out.new }
+    ensures { Put (bodies_text (entries file.now)) out.old from result out.new }
 {
     let n = l.tracks;
     let mut at = from;
@@ -128,7 +128,7 @@ fn put_bodies(out: &mut [u8], from: usize, file: &[u8], l: Lists) -> usize
 // Writes the sheet of a file that has n entries.
 fn put_sheet(out: &mut [u8], file: &[u8], l: Lists, n: usize) -> usize
     requires { SheetFits file.now × ListsAt file.now l × (n ≡ length (entries file.now)) }
-    ensures { Put (sheetOf file.now) out.old 0 result out.new }
+    ensures { Put (sheet_of file.now) out.old 0 result out.new }
 {
     let e = edition::of_count(n);
     let a = put_two(out, 0, e.number, n);
@@ -140,7 +140,7 @@ fn put_sheet(out: &mut [u8], file: &[u8], l: Lists, n: usize) -> usize
 // The same of an accepted file, where there is room for it: the bodies, written into no room, tell how long it is.
 fn sheet_of(file: &[u8], e: Tracks, out: &mut [u8]) -> Answer
     requires { SheetFits file.now × TracksAt file.now e }
-    ensures { Exact (gives (sheetOf file.now)) out.old result out.new }
+    ensures { Exact (gives (sheet_of file.now)) out.old result out.new }
 {
     let l = entries::lay(file, e);
     let n = entries::count(file, l);
@@ -154,7 +154,7 @@ fn sheet_of(file: &[u8], e: Tracks, out: &mut [u8]) -> Answer
 
 // The sheet of a file, with its length.
 pub fn sheet(file: &[u8], out: &mut [u8]) -> Answer
-    ensures { Exact (sheetResult file.now) out.old result out.new }
+    ensures { Exact (sheet_result file.now) out.old result out.new }
 {
     let j = judge::judge_tracks(file);
     let answer = j.answer;

@@ -4,40 +4,40 @@ use mathlib.Core.Path.{◌≡◌, ◌∙◌}
 use mathlib.Core.List.{List}
 use lib.ListN.{take, get_or}
 use Rattle.wire.specs.Numbers.{word}
-use Rattle.wire.specs.Clauses.{oneIf}
-use Rattle.wire.proofs.Clauses.{was-nay, was-yea}
+use Rattle.wire.specs.Clauses.{one_if}
+use Rattle.wire.proofs.Clauses.{was_nay, was_yea}
 use Rattle.release.specs.declared.Release.TheVariants.{Release4}
 use Rattle.entry_rules.specs.declared.entry.Around.TheVariants.{Alone}
-use Rattle.entry_rules.specs.Entries.{entryRule}
-use Rattle.sheet_table.specs.Form.{read, follows, steps, allMeet}
+use Rattle.entry_rules.specs.Entries.{entry_rule}
+use Rattle.sheet_table.specs.Form.{read, follows, steps, all_meet}
 use Rattle.sheet_table.proofs.Reading.{Past, past_is, read_none, read_more}
 
 -- ---- the tracks
 
-pub steps-none : (n last : ℕ) (xs ys : List ℕ) → n ≡ 0 → 1 ≡ oneIf (steps last (read n xs ys))
-unfolding steps oneIf
-steps-none n last xs ys e = rw (read_none n xs ys e)
+pub steps_none : (n last : ℕ) (xs ys : List ℕ) → n ≡ 0 → 1 ≡ one_if (steps last (read n xs ys))
+unfolding steps one_if
+steps_none n last xs ys e = rw (read_none n xs ys e)
 
-module _ (last track : ℕ) {n f : ℕ} (xs ys : List ℕ) (h : n ≡ 0 → ⊥) (t : track ≡ get_or xs 1 0) (e : f ≡ oneIf (follows last track)) where
-  pub steps-bad : f ≡ 0 → 0 ≡ oneIf (steps last (read n xs ys))
-  unfolding steps oneIf
-  steps-bad z = rw (read_more h (past_is xs ys), ← t, was-nay (follows last track) f z e)
+module _ (last track : ℕ) {n f : ℕ} (xs ys : List ℕ) (h : n ≡ 0 → ⊥) (t : track ≡ get_or xs 1 0) (e : f ≡ one_if (follows last track)) where
+  pub steps_bad : f ≡ 0 → 0 ≡ one_if (steps last (read n xs ys))
+  unfolding steps one_if
+  steps_bad z = rw (read_more h (past_is xs ys), ← t, was_nay (follows last track) f z e)
 
-  pub steps-more : {r : ℕ} {rest past : List ℕ} → Past xs ys rest past → (f ≡ 0 → ⊥) → r ≡ oneIf (steps track (read (n - 1) rest past)) → r ≡ oneIf (steps last (read n xs ys))
+  pub steps_more : {r : ℕ} {rest past : List ℕ} → Past xs ys rest past → (f ≡ 0 → ⊥) → r ≡ one_if (steps track (read (n - 1) rest past)) → r ≡ one_if (steps last (read n xs ys))
   unfolding steps
-  steps-more p z g = g ∙ rw (read_more h p, ← t, was-yea (follows last track) f z e)
+  steps_more p z g = g ∙ rw (read_more h p, ← t, was_yea (follows last track) f z e)
 
 -- ---- the bodies
 
-pub meet-none : (n : ℕ) (xs ys : List ℕ) → n ≡ 0 → 1 ≡ oneIf (allMeet (read n xs ys))
-unfolding allMeet oneIf
-meet-none n xs ys e = rw (read_none n xs ys e)
+pub meet_none : (n : ℕ) (xs ys : List ℕ) → n ≡ 0 → 1 ≡ one_if (all_meet (read n xs ys))
+unfolding all_meet one_if
+meet_none n xs ys e = rw (read_none n xs ys e)
 
-module _ {n f : ℕ} (xs ys : List ℕ) {first : List ℕ} (h : n ≡ 0 → ⊥) (b : first ≡ take (word 4 xs 8) ys) (e : f ≡ oneIf (entryRule Alone Release4 first)) where
-  pub meet-bad : f ≡ 0 → 0 ≡ oneIf (allMeet (read n xs ys))
-  unfolding allMeet oneIf
-  meet-bad z = rw (read_more h (past_is xs ys), ← b, was-nay (entryRule Alone Release4 first) f z e)
+module _ {n f : ℕ} (xs ys : List ℕ) {first : List ℕ} (h : n ≡ 0 → ⊥) (b : first ≡ take (word 4 xs 8) ys) (e : f ≡ one_if (entry_rule Alone Release4 first)) where
+  pub meet_bad : f ≡ 0 → 0 ≡ one_if (all_meet (read n xs ys))
+  unfolding all_meet one_if
+  meet_bad z = rw (read_more h (past_is xs ys), ← b, was_nay (entry_rule Alone Release4 first) f z e)
 
-  pub meet-more : {r : ℕ} {rest past : List ℕ} → Past xs ys rest past → (f ≡ 0 → ⊥) → r ≡ oneIf (allMeet (read (n - 1) rest past)) → r ≡ oneIf (allMeet (read n xs ys))
-  unfolding allMeet
-  meet-more p z g = g ∙ rw (read_more h p, ← b, was-yea (entryRule Alone Release4 first) f z e)
+  pub meet_more : {r : ℕ} {rest past : List ℕ} → Past xs ys rest past → (f ≡ 0 → ⊥) → r ≡ one_if (all_meet (read (n - 1) rest past)) → r ≡ one_if (all_meet (read n xs ys))
+  unfolding all_meet
+  meet_more p z g = g ∙ rw (read_more h p, ← b, was_yea (entry_rule Alone Release4 first) f z e)

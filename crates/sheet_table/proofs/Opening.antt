@@ -4,56 +4,56 @@ use native.Mathlib.Omega.{arith}
 use mathlib.Core.Path.{◌≡◌, refl, sym, ◌∙◌}
 use mathlib.Core.List.{List, [], ◌∷◌, ◌++◌}
 use lib.ListN.{length, take, drop, get_or, replicate, length-drop}
-use Rattle.wire.specs.Tests.{ifEq}
+use Rattle.wire.specs.Tests.{if_eq}
 use Rattle.wire.specs.Same.{same}
 use Rattle.wire.specs.Writing.{Put}
-use Rattle.wire.proofs.Comparing.{same-bad, same_good}
-use Rattle.sheet.specs.Sheet.{SLOTS, editionFor, Second, bodiesAt, slots, bodies, front, sheet}
+use Rattle.wire.proofs.Comparing.{same_bad, same_good}
+use Rattle.sheet.specs.Sheet.{SLOTS, edition_for, Second, bodies_at, slots, bodies, front, sheet}
 use Rattle.sheet_table.specs.Form.{read, unsheet}
 use Rattle.sheet_table.proofs.Reading.{read_length}
-use Rattle.sheet.proofs.Editions.{edition-suits}
+use Rattle.sheet.proofs.Editions.{edition_suits}
 use Rattle.sheet.proofs.Writing.{front_length}
-use Rattle.sheet_table.proofs.Making.{front-made, bodies-prefix}
+use Rattle.sheet_table.proofs.Making.{front_made, bodies_prefix}
 
 pub record Opened (sheet : List ℕ) (n : ℕ) (xs ys : List ℕ) : Type 0 where
   pub count : n ≡ get_or sheet 1 0
   pub slots : xs ≡ drop 4 sheet
-  pub bodies : ys ≡ drop (bodiesAt (editionFor n)) sheet
+  pub bodies : ys ≡ drop (bodies_at (edition_for n)) sheet
 
 pub opened : {s : List ℕ} {n : ℕ} {xs ys : List ℕ} → Opened s n xs ys → read n xs ys ≡ unsheet s
 unfolding unsheet
 opened o = rw (o.slots, o.bodies, o.count)
 
 -- room for a table's own 16 bytes
-pub opened-short : (s : List ℕ) {n : ℕ} {xs ys : List ℕ} → Opened s n xs ys → 16 + length ys ≤ max 16 (length s)
-opened-short s {n} o = rw (o.bodies, length-drop) (omega (arith, edition-suits n refl))
+pub opened_short : (s : List ℕ) {n : ℕ} {xs ys : List ℕ} → Opened s n xs ys → 16 + length ys ≤ max 16 (length s)
+opened_short s {n} o = rw (o.bodies, length-drop) (omega (arith, edition_suits n refl))
 
 -- ---- a sheet and the front that was made again
 
-module _ {n : ℕ} (s : List ℕ) {xs ys made start again : List ℕ} {k r f : ℕ} (o : Opened s n xs ys) (h : n ≤ SLOTS) (b : k ≡ bodiesAt (editionFor n))
-    (p : Put (((editionFor n).number ∷ n ∷ 0 ∷ 0 ∷ []) ++ slots (read n xs ys)) (replicate (bodiesAt Second) 0) 0 r made)
+module _ {n : ℕ} (s : List ℕ) {xs ys made start again : List ℕ} {k r f : ℕ} (o : Opened s n xs ys) (h : n ≤ SLOTS) (b : k ≡ bodies_at (edition_for n))
+    (p : Put (((edition_for n).number ∷ n ∷ 0 ∷ 0 ∷ []) ++ slots (read n xs ys)) (replicate (bodies_at Second) 0) 0 r made)
     (t : start ≡ take k s) (u : again ≡ take k made) (e : f ≡ same start again) where
   counted : length (unsheet s) ≡ n
   counted = rw (← opened o) (read_length n xs ys)
 
-  long : length (front (editionFor n) (unsheet s)) ≡ bodiesAt (editionFor n)
-  long = front_length (editionFor n) (unsheet s) (rw counted ((edition-suits n refl).few h))
+  long : length (front (edition_for n) (unsheet s)) ≡ bodies_at (edition_for n)
+  long = front_length (edition_for n) (unsheet s) (rw counted ((edition_suits n refl).few h))
 
-  is : f ≡ same (take (bodiesAt (editionFor n)) s) (front (editionFor n) (unsheet s))
+  is : f ≡ same (take (bodies_at (edition_for n)) s) (front (edition_for n) (unsheet s))
   is =
-      let g = edition-suits n refl in
-      let m = front-made (editionFor n) (read n xs ys) (bodiesAt Second) (sym (read_length n xs ys)) (g.few h) (omega (arith, g)) p in
+      let g = edition_suits n refl in
+      let m = front_made (edition_for n) (read n xs ys) (bodies_at Second) (sym (read_length n xs ys)) (g.few h) (omega (arith, g)) p in
       e ∙ rw (t, u, b, m, opened o)
 
-  pub made-bad : f ≡ 0 → 0 ≡ same s (sheet (unsheet s))
+  pub made_bad : f ≡ 0 → 0 ≡ same s (sheet (unsheet s))
   unfolding sheet
-  made-bad = rw counted (same-bad s (front (editionFor n) (unsheet s)) (bodies (unsheet s)) long is)
+  made_bad = rw counted (same_bad s (front (edition_for n) (unsheet s)) (bodies (unsheet s)) long is)
 
-  pub made-good : {span q : ℕ} → (f ≡ 0 → ⊥) → span ≡ length (bodies (read n xs ys)) → q ≡ ifEq span (length ys) 1 0
+  pub made_good : {span q : ℕ} → (f ≡ 0 → ⊥) → span ≡ length (bodies (read n xs ys)) → q ≡ if_eq span (length ys) 1 0
       → q ≡ same s (sheet (unsheet s))
   unfolding sheet
-  made-good z l g =
+  made_good z l g =
       rw counted
-      (same_good s (front (editionFor n) (unsheet s)) (bodies (unsheet s)) long is z
-      (rw (← opened o, ← o.bodies) (bodies-prefix n xs ys))
+      (same_good s (front (edition_for n) (unsheet s)) (bodies (unsheet s)) long is z
+      (rw (← opened o, ← o.bodies) (bodies_prefix n xs ys))
       (g ∙ rw (l, opened o, o.bodies)))

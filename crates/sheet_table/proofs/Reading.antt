@@ -31,8 +31,8 @@ module _ {n : ℕ} {xs ys rest past : List ℕ} (h : n ≡ 0 → ⊥) (p : Past 
 
 -- ---- the length of the bodies
 
-pub parts-length : (m : ℕ) (ys : List ℕ) {first past : List ℕ} → first ≡ take m ys → past ≡ drop m ys → length first + length past ≡ length ys
-parts-length m ys e f = rw (e, f, length-take, length-drop) (omega arith)
+pub parts_length : (m : ℕ) (ys : List ℕ) {first past : List ℕ} → first ≡ take m ys → past ≡ drop m ys → length first + length past ≡ length ys
+parts_length m ys e f = rw (e, f, length-take, length-drop) (omega arith)
 
 pub read_length : (n : ℕ) (xs ys : List ℕ) → length (read n xs ys) ≡ n
 unfolding read
@@ -44,6 +44,6 @@ unfolding bodies
 size_none n xs ys e = rw (read_none n xs ys e)
 
 module _ {n : ℕ} {xs ys rest past : List ℕ} (h : n ≡ 0 → ⊥) (p : Past xs ys rest past) where
-  pub size-more : (first : List ℕ) {r : ℕ} → first ≡ take (word 4 xs 8) ys → r ≡ length (bodies (read (n - 1) rest past)) → r ≤ length past → (length first + r ≡ length (bodies (read n xs ys))) × (length first + r ≤ length ys)
+  pub size_more : (first : List ℕ) {r : ℕ} → first ≡ take (word 4 xs 8) ys → r ≡ length (bodies (read (n - 1) rest past)) → r ≤ length past → (length first + r ≡ length (bodies (read n xs ys))) × (length first + r ≤ length ys)
   unfolding bodies
-  size-more first f e l = (rw (read_more h p, length-append, ← f, e), omega (arith, parts-length (word 4 xs 8) ys f p.bodies))
+  size_more first f e l = (rw (read_more h p, length-append, ← f, e), omega (arith, parts_length (word 4 xs 8) ys f p.bodies))

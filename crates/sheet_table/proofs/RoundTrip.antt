@@ -8,15 +8,15 @@ use lib.ListN.{length, drop, get_or, replicate}
 use lib.Seq.{take-append_seam, drop-append_seam, drop_at}
 use Rattle.wire.specs.Numbers.{bytes, word}
 use Rattle.wire.specs.Same.{same}
-use Rattle.wire.proofs.Clauses.{is-eq, is-le, eq_is, holds, done, clause}
-use Rattle.wire.proofs.Numbers.{length-bytes, word_bytes, word-right}
-use Rattle.wire.proofs.Same.{same_refl, same-is}
+use Rattle.wire.proofs.Clauses.{is_eq_lem, is_le_lem, eq_is, holds, done, clause}
+use Rattle.wire.proofs.Numbers.{length_bytes_lem, word_bytes, word_right}
+use Rattle.wire.proofs.Same.{same_refl, same_is}
 use Rattle.movie.specs.Entries.{Entry}
-use Rattle.sheet.specs.Sheet.{SLOTS, SLOT, editionFor, bodiesAt, slot, slots, bodies, front, sheet}
-use Rattle.sheet_table.specs.Form.{read, unsheet, steps, allMeet, formed}
+use Rattle.sheet.specs.Sheet.{SLOTS, SLOT, edition_for, bodies_at, slot, slots, bodies, front, sheet}
+use Rattle.sheet_table.specs.Form.{read, unsheet, steps, all_meet, formed}
 use Rattle.sheet_table.proofs.Reading.{read_length}
-use Rattle.sheet.proofs.Editions.{edition-suits}
-use Rattle.sheet.proofs.Writing.{slot-length, front_length}
+use Rattle.sheet.proofs.Editions.{edition_suits}
+use Rattle.sheet.proofs.Writing.{slot_length, front_length}
 
 -- what an entry says fits its slot
 pub record Small (e : Entry) : Type 0 where
@@ -30,26 +30,26 @@ pub data AllSmall : List Entry → Type 0 where
 -- ---- a slot read back
 
 module _ (kind track place span : ℕ) (zs : List ℕ) where
-  slot-track : get_or (slot kind track place span ++ zs) 1 0 ≡ track
+  slot_track : get_or (slot kind track place span ++ zs) 1 0 ≡ track
   unfolding slot
-  slot-track = refl
+  slot_track = refl
 
-  slot-place : place < 2 ^ 32 → word 4 (slot kind track place span ++ zs) 4 ≡ place
+  slot_place : place < 2 ^ 32 → word 4 (slot kind track place span ++ zs) 4 ≡ place
   unfolding slot
-  slot-place h =
+  slot_place h =
       ap (λ (xs : List ℕ). word 4 xs 4) (append_assoc (kind ∷ track ∷ 0 ∷ 0 ∷ [] ++ bytes 4 place) (bytes 4 span) zs)
-      ∙ word-right 4 (kind ∷ track ∷ 0 ∷ 0 ∷ []) (bytes 4 place ++ (bytes 4 span ++ zs)) 4 0 refl
+      ∙ word_right 4 (kind ∷ track ∷ 0 ∷ 0 ∷ []) (bytes 4 place ++ (bytes 4 span ++ zs)) 4 0 refl
       ∙ word_bytes 4 place (bytes 4 span ++ zs) h
 
-  slot-size : span < 2 ^ 32 → word 4 (slot kind track place span ++ zs) 8 ≡ span
+  slot_size : span < 2 ^ 32 → word 4 (slot kind track place span ++ zs) 8 ≡ span
   unfolding slot
-  slot-size h =
+  slot_size h =
       ap (λ (xs : List ℕ). word 4 xs 8) (append_assoc (kind ∷ track ∷ 0 ∷ 0 ∷ [] ++ bytes 4 place) (bytes 4 span) zs)
-      ∙ word-right 4 (kind ∷ track ∷ 0 ∷ 0 ∷ [] ++ bytes 4 place) (bytes 4 span ++ zs) 8 0 (rw (length-bytes 4 place))
+      ∙ word_right 4 (kind ∷ track ∷ 0 ∷ 0 ∷ [] ++ bytes 4 place) (bytes 4 span ++ zs) 8 0 (rw (length_bytes_lem 4 place))
       ∙ word_bytes 4 span zs h
 
-  slot-past : drop SLOT (slot kind track place span ++ zs) ≡ zs
-  slot-past = drop_at (slot kind track place span) zs SLOT (slot-length kind track place span)
+  slot_past : drop SLOT (slot kind track place span ++ zs) ≡ zs
+  slot_past = drop_at (slot kind track place span) zs SLOT (slot_length kind track place span)
 
 -- ---- there and back
 
@@ -57,42 +57,42 @@ back : (es : List Entry) (zs : List ℕ) → AllSmall es → read (length es) (s
 unfolding read slots bodies
 back [] zs none = refl
 back (e ∷ es) zs (more s a) =
-    rw (append_assoc, slot-track, slot-place _ _ _ _ _ s.place, slot-size _ _ _ _ _ s.span, slot-past, take-append_seam, drop-append_seam)
+    rw (append_assoc, slot_track, slot_place _ _ _ _ _ s.place, slot_size _ _ _ _ _ s.span, slot_past, take-append_seam, drop-append_seam)
     (ap (λ (t : List Entry). e ∷ t) (back es zs a))
 
-count-sheet : (es : List Entry) → get_or (sheet es) 1 0 ≡ length es
+count_sheet : (es : List Entry) → get_or (sheet es) 1 0 ≡ length es
 unfolding sheet front
-count-sheet es = refl
+count_sheet es = refl
 
-pub unsheet-sheet : (es : List Entry) → length es ≤ SLOTS → AllSmall es → unsheet (sheet es) ≡ es
+pub unsheet_sheet : (es : List Entry) → length es ≤ SLOTS → AllSmall es → unsheet (sheet es) ≡ es
 unfolding unsheet sheet front
-unsheet-sheet es h a =
-    let edition = editionFor (length es) in
-    rw (drop_at (front edition es) (bodies es) (bodiesAt edition) (front_length edition es ((edition-suits _ refl).few h)), append_assoc)
+unsheet_sheet es h a =
+    let edition = edition_for (length es) in
+    rw (drop_at (front edition es) (bodies es) (bodies_at edition) (front_length edition es ((edition_suits _ refl).few h)), append_assoc)
     (back es (replicate (SLOT * (edition.slots - length es)) 0 ++ bodies es) a)
 
 -- such a sheet has the form where its tracks and its bodies have
-pub formed-sheet : (es : List Entry) → 1 ≤ length es → length es ≤ SLOTS → AllSmall es → steps 0 es ≡ true → allMeet es ≡ true
+pub formed_sheet : (es : List Entry) → 1 ≤ length es → length es ≤ SLOTS → AllSmall es → steps 0 es ≡ true → all_meet es ≡ true
     → formed (sheet es) ≡ true
 unfolding formed
-formed-sheet es m h a s b =
-    let n : get_or (sheet es) 1 0 ≡ length es = count-sheet es in
-    sym (rw (unsheet-sheet es h a, n)
-    (holds _ _ (is-le _ _ m) (holds _ _ (is-le _ _ h) (holds _ _ (is-eq _ _ (same_refl (sheet es))) (holds _ _ s (holds _ _ b done))))))
+formed_sheet es m h a s b =
+    let n : get_or (sheet es) 1 0 ≡ length es = count_sheet es in
+    sym (rw (unsheet_sheet es h a, n)
+    (holds _ _ (is_le_lem _ _ m) (holds _ _ (is_le_lem _ _ h) (holds _ _ (is_eq_lem _ _ (same_refl (sheet es))) (holds _ _ s (holds _ _ b done))))))
 
 -- and back: a sheet of the form is the sheet of its own entries
-pub sheet-unsheet : (xs : List ℕ) → formed xs ≡ true → sheet (unsheet xs) ≡ xs
+pub sheet_unsheet : (xs : List ℕ) → formed xs ≡ true → sheet (unsheet xs) ≡ xs
 unfolding formed
-sheet-unsheet xs f =
+sheet_unsheet xs f =
     let e : same xs (sheet (unsheet xs)) ≡ 1 = eq_is _ _ (clause 2 _ f) in
-    sym (same-is xs (sheet (unsheet xs)) (λ z. omega arith))
+    sym (same_is xs (sheet (unsheet xs)) (λ z. omega arith))
 
 -- its first byte is the number of the edition that its count asks for
-pub formed-edition : (xs : List ℕ) → formed xs ≡ true → get_or xs 0 0 ≡ (editionFor (get_or xs 1 0)).number
+pub formed_edition : (xs : List ℕ) → formed xs ≡ true → get_or xs 0 0 ≡ (edition_for (get_or xs 1 0)).number
 unfolding sheet front unsheet
-formed-edition xs f =
-    ap (λ (ys : List ℕ). get_or ys 0 0) (sym (sheet-unsheet xs f)) ∙ ap (λ n. (editionFor n).number) (read_length (get_or xs 1 0) (drop 4 xs) _)
+formed_edition xs f =
+    ap (λ (ys : List ℕ). get_or ys 0 0) (sym (sheet_unsheet xs f)) ∙ ap (λ n. (edition_for n).number) (read_length (get_or xs 1 0) (drop 4 xs) _)
 
 -- so two sheets of the form that say the same entries are one
-pub unsheet-one : (xs ys : List ℕ) → formed xs ≡ true → formed ys ≡ true → unsheet xs ≡ unsheet ys → xs ≡ ys
-unsheet-one xs ys f g e = sym (sheet-unsheet xs f) ∙ ap sheet e ∙ sheet-unsheet ys g
+pub unsheet_one : (xs ys : List ℕ) → formed xs ≡ true → formed ys ≡ true → unsheet xs ≡ unsheet ys → xs ≡ ys
+unsheet_one xs ys f g e = sym (sheet_unsheet xs f) ∙ ap sheet e ∙ sheet_unsheet ys g

@@ -7,8 +7,8 @@ use Rattle.wire.specs.Same.{same}
 use Rattle.movie.specs.Entries.{Entry}
 use Rattle.release.specs.declared.Release.TheVariants.{Release4}
 use Rattle.entry_rules.specs.declared.entry.Around.TheVariants.{Alone}
-use Rattle.entry_rules.specs.Entries.{entryRule}
-use Rattle.sheet.specs.Sheet.{SLOTS, SLOT, editionFor, bodiesAt, sheet}
+use Rattle.entry_rules.specs.Entries.{entry_rule}
+use Rattle.sheet.specs.Sheet.{SLOTS, SLOT, edition_for, bodies_at, sheet}
 
 -- "at most 4" tracks
 abbrev pub TRACKS : ℕ
@@ -25,7 +25,7 @@ read (suc n) xs ys = first_of xs ys ∷ read n (drop SLOT xs) (drop (word 4 xs 8
 
 -- the entries of a sheet: "byte 1 the count", and the edition is the one that it asks for
 unfoldable pub unsheet : List ℕ → List Entry
-unsheet xs = read (get_or xs 1 0) (drop 4 xs) (drop (bodiesAt (editionFor (get_or xs 1 0))) xs)
+unsheet xs = read (get_or xs 1 0) (drop 4 xs) (drop (bodies_at (edition_for (get_or xs 1 0))) xs)
 
 -- "track numbers that start at 1 and never fall or skip, at most 4": one of track u after one of track t
 unfoldable pub follows : ℕ → ℕ → Bool
@@ -37,9 +37,9 @@ steps t (e ∷ es) = pick (follows t e.track) (steps e.track es) false
 
 -- "each body must be a box of its kind that meets its entry rule, apart from TimeScale, data reference and handler",
 -- "by the wider rule" of the two releases
-unfoldable pub allMeet : List Entry → Bool
-allMeet [] = true
-allMeet (e ∷ es) = pick (entryRule Alone Release4 e.bytes) (allMeet es) false
+unfoldable pub all_meet : List Entry → Bool
+all_meet [] = true
+all_meet (e ∷ es) = pick (entry_rule Alone Release4 e.bytes) (all_meet es) false
 
 -- "A sheet must have the form above": it is the sheet that its own entries make, whatever their places
 unfoldable pub formed : List ℕ → Bool
@@ -49,5 +49,5 @@ formed xs =
     ∷ is_le (get_or xs 1 0) SLOTS
     ∷ is_eq (same xs (sheet (unsheet xs))) 1
     ∷ steps 0 (unsheet xs)
-    ∷ allMeet (unsheet xs)
+    ∷ all_meet (unsheet xs)
     ∷ [])

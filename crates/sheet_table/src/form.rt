@@ -1,9 +1,9 @@
 // The form of a sheet.
 ghost use Rattle.std.specs.Prelude.{◌≡◌, ◌≤◌, ◌<◌, get_or};
-ghost use Rattle.wire.specs.Clauses.{oneIf};
+ghost use Rattle.wire.specs.Clauses.{one_if};
 ghost use Rattle.wire.specs.Same.{same};
-ghost use Rattle.sheet.specs.Sheet.{SLOTS, sheet as sheetText};
-ghost use Rattle.sheet_table.specs.Form.{read, unsheet, follows as followsOf, steps as steps_of, allMeet, formed as formedOf};
+ghost use Rattle.sheet.specs.Sheet.{SLOTS, sheet as sheet_text};
+ghost use Rattle.sheet_table.specs.Form.{read, unsheet, follows as follows_of, steps as steps_of, all_meet, formed as formed_of};
 
 use crate::slots;
 use entry_rules::entry;
@@ -18,7 +18,7 @@ const TRACKS: usize = 4;
 // 1 where a slot of a track may follow one of track `last`, else 0.
 fn follows(last: usize, track: usize) -> usize
     requires { last < 256 }
-    ensures { result ≡ oneIf (followsOf last track) }
+    ensures { result ≡ one_if (follows_of last track) }
 {
     if track < last {
         return 0;
@@ -38,7 +38,7 @@ fn follows(last: usize, track: usize) -> usize
 // 1 where the tracks of n slots go on rightly after track `last`, else 0.
 fn steps(slots: &[u8], bodies: &[u8], n: usize, last: usize) -> usize
     requires { last < 256 }
-    ensures { result ≡ oneIf (steps_of last (read n slots.now bodies.now)) }
+    ensures { result ≡ one_if (steps_of last (read n slots.now bodies.now)) }
 {
     if n == 0 {
         return 1;
@@ -57,7 +57,7 @@ fn steps(slots: &[u8], bodies: &[u8], n: usize, last: usize) -> usize
 
 // 1 where the bodies of n slots all meet their rule, the wider one, else 0.
 fn all_meet(slots: &[u8], bodies: &[u8], n: usize) -> usize
-    ensures { result ≡ oneIf (allMeet (read n slots.now bodies.now)) }
+    ensures { result ≡ one_if (all_meet (read n slots.now bodies.now)) }
 {
     if n == 0 {
         return 1;
@@ -75,7 +75,7 @@ fn all_meet(slots: &[u8], bodies: &[u8], n: usize) -> usize
 // 1 where a sheet of n entries is the one that they make, else 0.
 fn made(sheet: &[u8], n: usize) -> usize
     requires { (n ≡ get_or sheet.now 1 0) × (n ≤ SLOTS) }
-    ensures { result ≡ same sheet.now (sheetText (unsheet sheet.now)) }
+    ensures { result ≡ same sheet.now (sheet_text (unsheet sheet.now)) }
 {
     let slots = lend::rest(sheet, edition::FRONT);
     let bodies = slots::bodies(sheet, n);
@@ -90,7 +90,7 @@ fn made(sheet: &[u8], n: usize) -> usize
 
 // 1 where a sheet has the form, else 0.
 pub fn formed(sheet: &[u8]) -> usize
-    ensures { result ≡ oneIf (formedOf sheet.now) }
+    ensures { result ≡ one_if (formed_of sheet.now) }
 {
     let n = number::byte(sheet, 1);
     if n == 0 {

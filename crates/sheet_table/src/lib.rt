@@ -1,12 +1,12 @@
 // The table writer: from a sheet and a track the `stsd` box of that track.
 ghost use Rattle.std.specs.Prelude.{◌≡◌, [], ◌∷◌, ◌+◌, ◌^◌, ◌≤◌, ◌<◌, length};
-ghost use Rattle.wire.specs.Tests.{ifEq};
+ghost use Rattle.wire.specs.Tests.{if_eq};
 ghost use Rattle.wire.specs.Writing.{Put};
-ghost use Rattle.rule.specs.Results.{asked, inLimit, Exact};
+ghost use Rattle.rule.specs.Results.{asked, in_limit, Exact};
 ghost use Rattle.rule.specs.Results.Result.{gives};
-ghost use Rattle.sheet.specs.Sheet.{bodies as bodiesText};
+ghost use Rattle.sheet.specs.Sheet.{bodies as bodies_text};
 ghost use Rattle.sheet_table.specs.Form.{read};
-ghost use Rattle.sheet_table.specs.Table.{ownEntries, table as tableText, tableResult};
+ghost use Rattle.sheet_table.specs.Table.{own_entries, table as table_text, table_result};
 
 use boxes::containers;
 use rule::Answer;
@@ -18,7 +18,7 @@ mod slots;
 
 // How many of n slots are of a track.
 fn count_own(slots: &[u8], bodies: &[u8], n: usize, track: usize) -> usize
-    ensures { (result ≡ length (ownEntries track (read n slots.now bodies.now))) × (result ≤ n) }
+    ensures { (result ≡ length (own_entries track (read n slots.now bodies.now))) × (result ≤ n) }
 {
     if n == 0 {
         return 0;
@@ -36,7 +36,7 @@ fn count_own(slots: &[u8], bodies: &[u8], n: usize, track: usize) -> usize
 // Writes a body where it is of the track.
 fn put_if(out: &mut [u8], at: usize, of: usize, track: usize, body: &[u8]) -> usize
     requires { at + length body.now < 2 ^ 63 }
-    ensures { Put (ifEq of track body.now []) out.old at result out.new × (result ≤ at + length body.now) }
+    ensures { Put (if_eq of track body.now []) out.old at result out.new × (result ≤ at + length body.now) }
 {
     if of == track {
         return pen::put_part(out, at, body);
@@ -47,7 +47,7 @@ fn put_if(out: &mut [u8], at: usize, of: usize, track: usize, body: &[u8]) -> us
 // Writes the bodies of a track, of n slots.
 fn put_own(out: &mut [u8], at: usize, slots: &[u8], bodies: &[u8], n: usize, track: usize) -> usize
     requires { at + length bodies.now < 2 ^ 63 }
-    ensures { Put (bodiesText (ownEntries track (read n slots.now bodies.now))) out.old at result out.new × (result ≤ at + length bodies.now) }
+    ensures { Put (bodies_text (own_entries track (read n slots.now bodies.now))) out.old at result out.new × (result ≤ at + length bodies.now) }
 {
     if n == 0 {
         return at;
@@ -79,8 +79,8 @@ fn put_table(
     own: usize,
     span: usize,
 ) -> usize
-    requires { (16 + length bodies.now < 2 ^ 63) × (span < 2 ^ 63) × (own ≡ length (ownEntries track (read n slots.now bodies.now))) × (span ≡ length (bodiesText (ownEntries track (read n slots.now bodies.now)))) }
-    ensures { Put (tableText (ownEntries track (read n slots.now bodies.now))) out.old 0 result out.new }
+    requires { (16 + length bodies.now < 2 ^ 63) × (span < 2 ^ 63) × (own ≡ length (own_entries track (read n slots.now bodies.now))) × (span ≡ length (bodies_text (own_entries track (read n slots.now bodies.now)))) }
+    ensures { Put (table_text (own_entries track (read n slots.now bodies.now))) out.old 0 result out.new }
 {
     let a = pen::put_number(out, 0, 4, 16 + span);
     let b = pen::put_number(out, a, 4, codes::STSD);
@@ -98,8 +98,8 @@ fn write_own(
     own: usize,
     out: &mut [u8],
 ) -> Answer
-    requires { (16 + length bodies.now < 2 ^ 63) × (own ≡ length (ownEntries track (read n slots.now bodies.now))) }
-    ensures { Exact (asked ((24, inLimit (tableText (ownEntries track (read n slots.now bodies.now)))) ∷ []) (gives (tableText (ownEntries track (read n slots.now bodies.now))))) out.old result out.new }
+    requires { (16 + length bodies.now < 2 ^ 63) × (own ≡ length (own_entries track (read n slots.now bodies.now))) }
+    ensures { Exact (asked ((24, in_limit (table_text (own_entries track (read n slots.now bodies.now)))) ∷ []) (gives (table_text (own_entries track (read n slots.now bodies.now))))) out.old result out.new }
 {
     let mut none = [0u8; 1];
     let span = put_own(&mut none, 0, slots, bodies, n, track);
@@ -114,7 +114,7 @@ fn write_own(
 
 // The `stsd` box of a track of a sheet.
 pub fn table(sheet: &[u8], track: usize, out: &mut [u8]) -> Answer
-    ensures { Exact (tableResult sheet.now track) out.old result out.new }
+    ensures { Exact (table_result sheet.now track) out.old result out.new }
 {
     if form::formed(sheet) == 0 {
         return Answer::Refused(30, 0);

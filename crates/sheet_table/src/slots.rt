@@ -2,7 +2,7 @@
 ghost use Rattle.std.specs.Prelude.{◌≡◌, [], ◌∷◌, ◌++◌, ◌+◌, ◌*◌, ◌≤◌, ◌<◌, length, take, drop};
 ghost use Rattle.wire.specs.Numbers.{word};
 ghost use Rattle.wire.specs.Writing.{Put};
-ghost use Rattle.sheet.specs.Sheet.{editionFor, bodiesAt, slot_of, slots as slotsText, bodies as bodiesText};
+ghost use Rattle.sheet.specs.Sheet.{edition_for, bodies_at, slot_of, slots as slots_text, bodies as bodies_text};
 ghost use Rattle.sheet_table.specs.Form.{first_of, read};
 
 use entry_heads::kind;
@@ -12,7 +12,7 @@ use wire::{lend, number};
 
 // The bodies of a sheet of n entries.
 pub fn bodies(sheet: &[u8], n: usize) -> &[u8]
-    ensures { result.now ≡ drop (bodiesAt (editionFor n)) sheet.now }
+    ensures { result.now ≡ drop (bodies_at (edition_for n)) sheet.now }
 {
     lend::rest(sheet, edition::bodies_at(n))
 }
@@ -33,7 +33,7 @@ pub fn past<'a>(slots: &[u8], bodies: &'a [u8]) -> &'a [u8]
 
 // The length of the bodies of n slots.
 pub fn size(slots: &[u8], bodies: &[u8], n: usize) -> usize
-    ensures { (result ≡ length (bodiesText (read n slots.now bodies.now))) × (result ≤ length bodies.now) }
+    ensures { (result ≡ length (bodies_text (read n slots.now bodies.now))) × (result ≤ length bodies.now) }
 {
     if n == 0 {
         return 0;
@@ -62,7 +62,7 @@ fn put_first(out: &mut [u8], at: usize, slots: &[u8], bodies: &[u8]) -> usize
 // Writes n slots as they should be.
 fn put_slots(out: &mut [u8], at: usize, slots: &[u8], bodies: &[u8], n: usize) -> usize
     requires { at + 12 * n < 60000 }
-    ensures { Put (slotsText (read n slots.now bodies.now)) out.old at result out.new }
+    ensures { Put (slots_text (read n slots.now bodies.now)) out.old at result out.new }
 {
     if n == 0 {
         return at;
@@ -74,7 +74,7 @@ fn put_slots(out: &mut [u8], at: usize, slots: &[u8], bodies: &[u8], n: usize) -
 // Writes the front of a sheet of n entries, up to the unused slots.
 pub fn put_front(out: &mut [u8], slots: &[u8], bodies: &[u8], n: usize) -> usize
     requires { n < 256 }
-    ensures { Put (((editionFor n).number ∷ n ∷ 0 ∷ 0 ∷ []) ++ slotsText (read n slots.now bodies.now)) out.old 0 result out.new }
+    ensures { Put (((edition_for n).number ∷ n ∷ 0 ∷ 0 ∷ []) ++ slots_text (read n slots.now bodies.now)) out.old 0 result out.new }
 {
     let e = edition::of_count(n);
     let a = sheet::put_two(out, 0, e.number, n);

@@ -1,10 +1,10 @@
 -- The answer of a call as one number: the refusal times 2^32, and the value or the place.
 use Rattle.std.specs.Prelude.{ℕ, ◌+◌, ◌*◌, ◌%◌, ◌≤◌, ◌≡◌, List, [], ◌∷◌}
 use Rattle.rule.specs.declared.Answer.{Answer}
-use Rattle.rule.specs.Answers.{answerNumber, answerValue}
-use Rattle.rule.specs.Results.{Result, answer_in, leftIn, toldIn}
+use Rattle.rule.specs.Answers.{answer_number, answer_value}
+use Rattle.rule.specs.Results.{Result, answer_in, left_in, told_in}
 use Rattle.rule.specs.Results.Result.{gives, refuses}
-use Rattle.clocks.specs.Clocks.{orderNumber}
+use Rattle.clocks.specs.Clocks.{order_number}
 use Rattle.judge.specs.declared.Judgement.{Judgement}
 use Rattle.judge.specs.Judgement as judgement
 use Rattle.newer.specs.declared.Outcome.{Outcome}
@@ -15,27 +15,27 @@ unfoldable pub pair : ℕ → ℕ → ℕ
 pair n v = n % 4294967296 * 4294967296 + v % 4294967296
 
 abbrev pub packed : Answer → ℕ
-packed a = pair (answerNumber a) (answerValue a)
+packed a = pair (answer_number a) (answer_value a)
 
-abbrev pub judgeAnswer : Judgement → ℕ
-judgeAnswer j = pair (judgement.judgedNumber j) (judgement.judgedPlace j)
+abbrev pub judge_answer : Judgement → ℕ
+judge_answer j = pair (judgement.judged_number j) (judgement.judged_place j)
 
 -- what a function of the face promises: what the call behind it does, its answer as one number
 pub record ForC (g : Result) (out : List ℕ) (r : ℕ) (left : List ℕ) : Type 0 where
   pub answers : r ≡ packed (answer_in g out)
-  pub leaves : left ≡ leftIn g out
+  pub leaves : left ≡ left_in g out
 
 -- and one that reports too
 pub record ReportsForC (g : Result) (numbers : List ℕ) (out : List ℕ) (r : ℕ) (left : List ℕ) (room after : List ℕ) : Type 0 where
   pub call : ForC g out r left
-  pub report : after ≡ toldIn (answer_in g out) numbers room
+  pub report : after ≡ told_in (answer_in g out) numbers room
 
 -- ---- the newer of two, as four numbers
 
 -- "a refusal of 1 to 10 names the file: its number is 256 × file + number"
-abbrev pub newerResult : Outcome → Result
-newerResult (Found f) = gives (orderNumber f.order ∷ f.file ∷ f.place ∷ f.span ∷ [])
-newerResult (Refused file n p) = refuses (256 * file + n) p
+abbrev pub newer_result : Outcome → Result
+newer_result (Found f) = gives (order_number f.order ∷ f.file ∷ f.place ∷ f.span ∷ [])
+newer_result (Refused file n p) = refuses (256 * file + n) p
 
 -- a refusal's numbers are small
 abbrev pub Told : Outcome → Type 0

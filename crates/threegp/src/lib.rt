@@ -1,27 +1,27 @@
 // The library's face for C: every call, in the same definitions as the call behind it.
 ghost use Rattle.std.specs.Prelude.{◌≡◌, length};
-ghost use Rattle.frames.specs.Codecs.{codecNamed};
+ghost use Rattle.frames.specs.Codecs.{codec_named};
 ghost use Rattle.rule.specs.Results.{Exact};
-ghost use Rattle.release.specs.Releases.{releaseNamed};
+ghost use Rattle.release.specs.Releases.{release_named};
 ghost use Rattle.judge.specs.Judgement.{judged};
-ghost use Rattle.read_samples.specs.Reads.{samplesResult};
-ghost use Rattle.modes.specs.Track.{modesResult};
-ghost use Rattle.read_tracks.specs.Reads.{tracksAnswer, trackResult, offsetsResult};
-ghost use Rattle.sheet.specs.Reader.{sheetResult};
-ghost use Rattle.sheet_table.specs.Table.{tableResult};
-ghost use Rattle.brands.specs.Calls.{brandAnswer};
-ghost use Rattle.listing.specs.Listing.{listingResult};
-ghost use Rattle.outline.specs.Outline.{outlineResult};
+ghost use Rattle.read_samples.specs.Reads.{samples_result};
+ghost use Rattle.modes.specs.Track.{modes_result};
+ghost use Rattle.read_tracks.specs.Reads.{tracks_answer, track_result, offsets_result};
+ghost use Rattle.sheet.specs.Reader.{sheet_result};
+ghost use Rattle.sheet_table.specs.Table.{table_result};
+ghost use Rattle.brands.specs.Calls.{brand_answer};
+ghost use Rattle.listing.specs.Listing.{listing_result};
+ghost use Rattle.outline.specs.Outline.{outline_result};
 ghost use Rattle.newer.specs.declared.Outcome.TheVariants.{Found};
-ghost use Rattle.newer.specs.Newer.{newestOf};
-ghost use Rattle.entry_fields.specs.Numbers.{readResult, writeResult};
-ghost use Rattle.esds.specs.Calls.{esdsRead, esdsWrite};
-ghost use Rattle.edit_shift.specs.Shift.{shiftResult};
-ghost use Rattle.edit_replace.specs.Replace.{replaceResult};
-ghost use Rattle.edit_move.specs.Moving.{moveResult};
-ghost use Rattle.from_amr.specs.Dump.{fromAmr};
-ghost use Rattle.salvage.specs.Salvage.{reportOf, salvageResult};
-ghost use Rattle.threegp.specs.Answers.{pair as pair_of, packed, judgeAnswer, ForC, ReportsForC, newerResult, Told};
+ghost use Rattle.newer.specs.Newer.{newest_of};
+ghost use Rattle.entry_fields.specs.Numbers.{read_result, write_result};
+ghost use Rattle.esds.specs.Calls.{esds_read, esds_write};
+ghost use Rattle.edit_shift.specs.Shift.{shift_result};
+ghost use Rattle.edit_replace.specs.Replace.{replace_result};
+ghost use Rattle.edit_move.specs.Moving.{move_result};
+ghost use Rattle.from_amr.specs.Dump.{from_amr};
+ghost use Rattle.salvage.specs.Salvage.{report_of, salvage_result};
+ghost use Rattle.threegp.specs.Answers.{pair as pair_of, packed, judge_answer, ForC, ReportsForC, newer_result, Told};
 
 use frames::codec;
 use judge::Judgement;
@@ -47,7 +47,7 @@ fn pack(answer: Answer) -> u64
 // Judges a file.
 #[unsafe(no_mangle)]
 pub extern "C" fn threegp_judge(file: &[u8]) -> u64
-    ensures { result ≡ judgeAnswer (judged file.now) }
+    ensures { result ≡ judge_answer (judged file.now) }
 {
     match judge::judge(file) {
         Judgement::Accepted => pair(0, 0),
@@ -58,7 +58,7 @@ pub extern "C" fn threegp_judge(file: &[u8]) -> u64
 // How many tracks a file has.
 #[unsafe(no_mangle)]
 pub extern "C" fn threegp_tracks(file: &[u8]) -> u64
-    ensures { result ≡ packed (tracksAnswer file.now) }
+    ensures { result ≡ packed (tracks_answer file.now) }
 {
     pack(read_tracks::tracks(file))
 }
@@ -66,7 +66,7 @@ pub extern "C" fn threegp_tracks(file: &[u8]) -> u64
 // Whether a brand holds.
 #[unsafe(no_mangle)]
 pub extern "C" fn threegp_brand(file: &[u8], code: u32) -> u64
-    ensures { result ≡ packed (brandAnswer file.now code) }
+    ensures { result ≡ packed (brand_answer file.now code) }
 {
     pack(brands::brand(file, code as usize))
 }
@@ -74,7 +74,7 @@ pub extern "C" fn threegp_brand(file: &[u8], code: u32) -> u64
 // The sheet of a file.
 #[unsafe(no_mangle)]
 pub extern "C" fn threegp_sheet(file: &[u8], out: &mut [u8]) -> u64
-    ensures { ForC (sheetResult file.now) out.old result out.new }
+    ensures { ForC (sheet_result file.now) out.old result out.new }
 {
     pack(sheet::sheet(file, out))
 }
@@ -82,7 +82,7 @@ pub extern "C" fn threegp_sheet(file: &[u8], out: &mut [u8]) -> u64
 // The table of a track of a sheet.
 #[unsafe(no_mangle)]
 pub extern "C" fn threegp_table(sheet: &[u8], track: u64, out: &mut [u8]) -> u64
-    ensures { ForC (tableResult sheet.now track) out.old result out.new }
+    ensures { ForC (table_result sheet.now track) out.old result out.new }
 {
     pack(sheet_table::table(sheet, track as usize, out))
 }
@@ -90,7 +90,7 @@ pub extern "C" fn threegp_table(sheet: &[u8], track: u64, out: &mut [u8]) -> u64
 // The chunk offsets of a track.
 #[unsafe(no_mangle)]
 pub extern "C" fn threegp_offsets(file: &[u8], track: u64, list: &mut [u32]) -> u64
-    ensures { ForC (offsetsResult file.now track) list.old result list.new }
+    ensures { ForC (offsets_result file.now track) list.old result list.new }
 {
     pack(read_tracks::offsets(file, track as usize, list))
 }
@@ -98,7 +98,7 @@ pub extern "C" fn threegp_offsets(file: &[u8], track: u64, list: &mut [u32]) -> 
 // What a track says: handler, media ticks, time scale, movie ticks.
 #[unsafe(no_mangle)]
 pub extern "C" fn threegp_track(file: &[u8], track: u64, out: &mut [u64]) -> u64
-    ensures { ForC (trackResult file.now track) out.old result out.new }
+    ensures { ForC (track_result file.now track) out.old result out.new }
 {
     pack(read_tracks::track(file, track as usize, out))
 }
@@ -106,7 +106,7 @@ pub extern "C" fn threegp_track(file: &[u8], track: u64, out: &mut [u64]) -> u64
 // Where each sample of a track lies: its place and its length, in turn.
 #[unsafe(no_mangle)]
 pub extern "C" fn threegp_samples(file: &[u8], track: u64, out: &mut [u64]) -> u64
-    ensures { ForC (samplesResult file.now track) out.old result out.new }
+    ensures { ForC (samples_result file.now track) out.old result out.new }
 {
     pack(read_samples::samples(file, track as usize, out))
 }
@@ -114,7 +114,7 @@ pub extern "C" fn threegp_samples(file: &[u8], track: u64, out: &mut [u64]) -> u
 // The first sample of a track of speech that fails, and why.
 #[unsafe(no_mangle)]
 pub extern "C" fn threegp_modes(file: &[u8], track: u64, out: &mut [u64]) -> u64
-    ensures { ForC (modesResult file.now track) out.old result out.new }
+    ensures { ForC (modes_result file.now track) out.old result out.new }
 {
     pack(modes::modes(file, track as usize, out))
 }
@@ -122,7 +122,7 @@ pub extern "C" fn threegp_modes(file: &[u8], track: u64, out: &mut [u64]) -> u64
 // The times of a file shifted.
 #[unsafe(no_mangle)]
 pub extern "C" fn threegp_shift(file: &[u8], minutes: i64, out: &mut [u8]) -> u64
-    ensures { ForC (shiftResult minutes file.now) out.old result out.new }
+    ensures { ForC (shift_result minutes file.now) out.old result out.new }
 {
     pack(edit_shift::shift(file, minutes, out))
 }
@@ -130,7 +130,7 @@ pub extern "C" fn threegp_shift(file: &[u8], minutes: i64, out: &mut [u8]) -> u6
 // A decoder record replaced.
 #[unsafe(no_mangle)]
 pub extern "C" fn threegp_replace(file: &[u8], entry: u64, given: &[u8], out: &mut [u8]) -> u64
-    ensures { ForC (replaceResult file.now entry given.now) out.old result out.new }
+    ensures { ForC (replace_result file.now entry given.now) out.old result out.new }
 {
     pack(edit_replace::replace(file, entry as usize, given, out))
 }
@@ -138,7 +138,7 @@ pub extern "C" fn threegp_replace(file: &[u8], entry: u64, given: &[u8], out: &m
 // `moov` moved right after `ftyp`.
 #[unsafe(no_mangle)]
 pub extern "C" fn threegp_move(file: &[u8], out: &mut [u8]) -> u64
-    ensures { ForC (moveResult file.now) out.old result out.new }
+    ensures { ForC (move_result file.now) out.old result out.new }
 {
     pack(edit_move::move_moov(file, out))
 }
@@ -146,7 +146,7 @@ pub extern "C" fn threegp_move(file: &[u8], out: &mut [u8]) -> u64
 // The file that a dump becomes.
 #[unsafe(no_mangle)]
 pub extern "C" fn threegp_from_amr(dump: &[u8], out: &mut [u8]) -> u64
-    ensures { ForC (fromAmr dump.now) out.old result out.new }
+    ensures { ForC (from_amr dump.now) out.old result out.new }
 {
     pack(from_amr::from_amr(dump, out))
 }
@@ -159,8 +159,8 @@ pub extern "C" fn threegp_salvage(
     out: &mut [u8],
     report: &mut [u64],
 ) -> u64
-    ensures { ReportsForC (salvageResult (codecNamed wideband) file.now (length report.old))
-        (reportOf (codecNamed wideband) file.now) out.old result out.new report.old report.new }
+    ensures { ReportsForC (salvage_result (codec_named wideband) file.now (length report.old))
+        (report_of (codec_named wideband) file.now) out.old result out.new report.old report.new }
 {
     pack(salvage::salvage(file, codec::of_number(wideband), out, report))
 }
@@ -168,7 +168,7 @@ pub extern "C" fn threegp_salvage(
 // The fields of a record of a release as numbers.
 #[unsafe(no_mangle)]
 pub extern "C" fn threegp_record_read(entry: &[u8], release: u64, out: &mut [u64]) -> u64
-    ensures { ForC (readResult (releaseNamed release) entry.now) out.old result out.new }
+    ensures { ForC (read_result (release_named release) entry.now) out.old result out.new }
 {
     pack(entry_fields::read(entry, release::of_number(release), out))
 }
@@ -176,7 +176,7 @@ pub extern "C" fn threegp_record_read(entry: &[u8], release: u64, out: &mut [u64
 // The record of numbers, of a release.
 #[unsafe(no_mangle)]
 pub extern "C" fn threegp_record_write(numbers: &[u64], release: u64, out: &mut [u8]) -> u64
-    ensures { ForC (writeResult (releaseNamed release) numbers.now) out.old result out.new }
+    ensures { ForC (write_result (release_named release) numbers.now) out.old result out.new }
 {
     pack(entry_fields::write(numbers, release::of_number(release), out))
 }
@@ -184,7 +184,7 @@ pub extern "C" fn threegp_record_write(numbers: &[u64], release: u64, out: &mut 
 // What the descriptors say in the `esds` of an entry of a file.
 #[unsafe(no_mangle)]
 pub extern "C" fn threegp_esds_read(file: &[u8], entry: u64, out: &mut [u64]) -> u64
-    ensures { ForC (esdsRead file.now entry) out.old result out.new }
+    ensures { ForC (esds_read file.now entry) out.old result out.new }
 {
     pack(esds::read(file, entry as usize, out))
 }
@@ -192,7 +192,7 @@ pub extern "C" fn threegp_esds_read(file: &[u8], entry: u64, out: &mut [u64]) ->
 // The `esds` of values.
 #[unsafe(no_mangle)]
 pub extern "C" fn threegp_esds_write(numbers: &[u64], specific: &[u8], out: &mut [u8]) -> u64
-    ensures { ForC (esdsWrite numbers.now specific.now) out.old result out.new }
+    ensures { ForC (esds_write numbers.now specific.now) out.old result out.new }
 {
     pack(esds::write(numbers, specific, out))
 }
@@ -200,7 +200,7 @@ pub extern "C" fn threegp_esds_write(numbers: &[u64], specific: &[u8], out: &mut
 // The printed listing of a file.
 #[unsafe(no_mangle)]
 pub extern "C" fn threegp_listing(file: &[u8], out: &mut [u8]) -> u64
-    ensures { ForC (listingResult file.now) out.old result out.new }
+    ensures { ForC (listing_result file.now) out.old result out.new }
 {
     pack(listing::listing(file, out))
 }
@@ -208,14 +208,14 @@ pub extern "C" fn threegp_listing(file: &[u8], out: &mut [u8]) -> u64
 // Every box of a file, as text.
 #[unsafe(no_mangle)]
 pub extern "C" fn threegp_outline(file: &[u8], out: &mut [u8]) -> u64
-    ensures { ForC (outlineResult file.now) out.old result out.new }
+    ensures { ForC (outline_result file.now) out.old result out.new }
 {
     pack(outline::outline(file, out))
 }
 
 // The four numbers of an entry of the later file.
 fn put_part(out: &mut [u64], f: Part) -> Answer
-    ensures { Exact (newerResult (Found f)) out.old result out.new }
+    ensures { Exact (newer_result (Found f)) out.old result out.new }
 {
     if out.len() < 4 {
         return Answer::Refused(25, 0);
@@ -230,7 +230,7 @@ fn put_part(out: &mut [u64], f: Part) -> Answer
 
 fn put_outcome(out: &mut [u64], outcome: Outcome) -> Answer
     requires { Told outcome }
-    ensures { Exact (newerResult outcome) out.old result out.new }
+    ensures { Exact (newer_result outcome) out.old result out.new }
 {
     match outcome {
         Outcome::Found(f) => put_part(out, f),
@@ -252,7 +252,7 @@ pub extern "C" fn threegp_newer(
     entry: u64,
     out: &mut [u64],
 ) -> u64
-    ensures { ForC (newerResult (newestOf first.now y second.now z entry)) out.old result out.new }
+    ensures { ForC (newer_result (newest_of first.now y second.now z entry)) out.old result out.new }
 {
     pack(put_outcome(out, newer::newest(first, y, second, z, entry as usize)))
 }

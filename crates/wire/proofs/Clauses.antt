@@ -6,42 +6,42 @@ use mathlib.Core.Bool.{Bool, true, false}
 use mathlib.Core.List.{List, [], ◌∷◌}
 use lib.ListN.{get_or}
 use borrow.Author.Tests.{ltb-true, leb-true, eqb-true, le-ltb, lt-ltb, le-leb, lt-leb, eq-eqb, ne_eqb}
-use Rattle.wire.specs.Clauses.{is_eq, is_lt, is_le, every, either, oneIf}
+use Rattle.wire.specs.Clauses.{is_eq, is_lt, is_le, every, either, one_if}
 use Rattle.wire.proofs.Tests.{both}
 
 -- ---- a test, from its numbers and back
 
-pub is-eq : (m n : ℕ) → m ≡ n → is_eq m n ≡ true
+pub is_eq_lem : (m n : ℕ) → m ≡ n → is_eq m n ≡ true
 unfolding is_eq
-is-eq m n = eq-eqb m n
+is_eq_lem m n = eq-eqb m n
 
-pub not-eq : (m n : ℕ) → (m ≡ n → ⊥) → is_eq m n ≡ false
+pub not_eq : (m n : ℕ) → (m ≡ n → ⊥) → is_eq m n ≡ false
 unfolding is_eq
-not-eq m n = ne_eqb m n
+not_eq m n = ne_eqb m n
 
 pub eq_is : (m n : ℕ) → is_eq m n ≡ true → m ≡ n
 unfolding is_eq
 eq_is m n = eqb-true m n
 
-pub is-lt : (m n : ℕ) → m < n → is_lt m n ≡ true
+pub is_lt_lem : (m n : ℕ) → m < n → is_lt m n ≡ true
 unfolding is_lt
-is-lt m n = lt-ltb m n
+is_lt_lem m n = lt-ltb m n
 
-pub not-lt : (m n : ℕ) → n ≤ m → is_lt m n ≡ false
+pub not_lt : (m n : ℕ) → n ≤ m → is_lt m n ≡ false
 unfolding is_lt
-not-lt m n = le-ltb m n
+not_lt m n = le-ltb m n
 
-pub lt-is : (m n : ℕ) → is_lt m n ≡ true → m < n
+pub lt_is : (m n : ℕ) → is_lt m n ≡ true → m < n
 unfolding is_lt
-lt-is m n = ltb-true m n
+lt_is m n = ltb-true m n
 
-pub is-le : (m n : ℕ) → m ≤ n → is_le m n ≡ true
+pub is_le_lem : (m n : ℕ) → m ≤ n → is_le m n ≡ true
 unfolding is_le
-is-le m n = le-leb m n
+is_le_lem m n = le-leb m n
 
-pub not-le : (m n : ℕ) → n < m → is_le m n ≡ false
+pub not_le : (m n : ℕ) → n < m → is_le m n ≡ false
 unfolding is_le
-not-le m n = lt-leb m n
+not_le m n = lt-leb m n
 
 pub le_is : (m n : ℕ) → is_le m n ≡ true → m ≤ n
 unfolding is_le
@@ -113,31 +113,31 @@ of_two false false e f g = f e
 
 -- ---- the answer
 
-pub yea : (t : Bool) → true ≡ t → 1 ≡ oneIf t
-unfolding oneIf
+pub yea : (t : Bool) → true ≡ t → 1 ≡ one_if t
+unfolding one_if
 yea t e = rw (← e)
 
-pub nay : (t : Bool) → false ≡ t → 0 ≡ oneIf t
-unfolding oneIf
+pub nay : (t : Bool) → false ≡ t → 0 ≡ one_if t
+unfolding one_if
 nay t e = rw (← e)
 
 -- the answer to the same rule, said otherwise
-pub answer : (s t : Bool) {r : ℕ} → r ≡ oneIf s → s ≡ t → r ≡ oneIf t
+pub answer : (s t : Bool) {r : ℕ} → r ≡ one_if s → s ≡ t → r ≡ one_if t
 answer s t e q = rw q at e
 
-pub was-nay : (t : Bool) (r : ℕ) → r ≡ 0 → r ≡ oneIf t → t ≡ false
-unfolding oneIf
-was-nay true r z e = absurd (omega arith)
-was-nay false r z e = refl
+pub was_nay : (t : Bool) (r : ℕ) → r ≡ 0 → r ≡ one_if t → t ≡ false
+unfolding one_if
+was_nay true r z e = absurd (omega arith)
+was_nay false r z e = refl
 
-pub was-yea : (t : Bool) (r : ℕ) → (r ≡ 0 → ⊥) → r ≡ oneIf t → t ≡ true
-unfolding oneIf
-was-yea true r z e = refl
-was-yea false r z e = absurd (z e)
+pub was_yea : (t : Bool) (r : ℕ) → (r ≡ 0 → ⊥) → r ≡ one_if t → t ≡ true
+unfolding one_if
+was_yea true r z e = refl
+was_yea false r z e = absurd (z e)
 
 -- a rule that was asked
-pub asked-yea : (t : Bool) → (oneIf t ≡ 0 → ⊥) → t ≡ true
-asked-yea t z = was-yea t (oneIf t) z refl
+pub asked_yea : (t : Bool) → (one_if t ≡ 0 → ⊥) → t ≡ true
+asked_yea t z = was_yea t (one_if t) z refl
 
-pub asked-nay : (t : Bool) → oneIf t ≡ 0 → t ≡ false
-asked-nay t z = was-nay t (oneIf t) z refl
+pub asked_nay : (t : Bool) → one_if t ≡ 0 → t ≡ false
+asked_nay t z = was_nay t (one_if t) z refl

@@ -6,7 +6,7 @@ use mathlib.Core.List.{List, [], ◌++◌, append-nil}
 use lib.ListN.{length, take, drop, length-drop, drop_of_length-le}
 use lib.Seq.{take_all, take-length, drop-length, take-append-add, drop-append-add}
 use borrow.Rule.Slice.PartMut.{put_mid, mid_of}
-use Rattle.wire.proofs.Tests.{lt-or}
+use Rattle.wire.proofs.Tests.{lt_or}
 
 module _ {A : Type 0} where
   pub take_past : (p q : List A) (a n : ℕ) → length p ≡ a → take (a + n) (p ++ q) ≡ p ++ take n q
@@ -16,11 +16,11 @@ module _ {A : Type 0} where
   drop_past p q a n e = rw (← e) (drop-append-add p q n)
 
   -- what `&xs[a..]` lends, and what stands after it comes back as ys
-  pub tail-is : (xs : List A) (a : ℕ) → a ≤ length xs → mid_of a (length xs - a) xs ≡ drop a xs
-  tail-is xs a h = take_all (length xs - a) (drop a xs) (rw length-drop (omega arith))
+  pub tail_is : (xs : List A) (a : ℕ) → a ≤ length xs → mid_of a (length xs - a) xs ≡ drop a xs
+  tail_is xs a h = take_all (length xs - a) (drop a xs) (rw length-drop (omega arith))
 
-  pub put-tail : (xs : List A) (a : ℕ) (ys : List A) → a ≤ length xs → put_mid a (length xs - a) xs ys ≡ take a xs ++ ys
-  put-tail xs a ys h =
+  pub put_tail : (xs : List A) (a : ℕ) (ys : List A) → a ≤ length xs → put_mid a (length xs - a) xs ys ≡ take a xs ++ ys
+  put_tail xs a ys h =
       let e : drop (length xs - a) (drop a xs) ≡ [] = drop_of_length-le (drop a xs) {i = length xs - a} (rw length-drop (omega arith)) in
       rw (e, append-nil)
 
@@ -34,12 +34,12 @@ module _ {A : Type 0} where
   -- no more than there is
   pub take_min : (n : ℕ) (xs : List A) → take (min n (length xs)) xs ≡ take n xs
   take_min n xs =
-      lt-or (length xs) n
+      lt_or (length xs) n
       (λ h. let k : min n (length xs) ≡ length xs = omega arith in rw (k, take-length) (sym (take_all n xs (omega arith))))
       (λ h. let k : min n (length xs) ≡ n = omega arith in rw k)
 
   pub drop_min : (n : ℕ) (xs : List A) → drop (min n (length xs)) xs ≡ drop n xs
   drop_min n xs =
-      lt-or (length xs) n
+      lt_or (length xs) n
       (λ h. let k : min n (length xs) ≡ length xs = omega arith in rw (k, drop-length) (sym (drop_of_length-le xs {i = n} (omega arith))))
       (λ h. let k : min n (length xs) ≡ n = omega arith in rw k)

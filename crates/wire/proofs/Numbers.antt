@@ -8,9 +8,9 @@ use mathlib.Core.List.{List, [], ◌∷◌, ◌++◌, append-nil}
 use lib.Dec.{leb}
 use lib.ListN.{length, get_or, take, drop, length-append, length-take, length-drop, take-append-drop, get_or-eq_default}
 use lib.Seq.{get_or-drop, take-add, drop-drop, drop-cons, take-append-le, drop-append-le, take_at, drop_at, length-take-le}
-use Rattle.wire.specs.Tests.{pick, ifLe}
-use Rattle.wire.specs.Numbers.{Bytes, numberOn, bytesOn, bytes, word}
-use Rattle.wire.proofs.Tests.{le-yea, le-nay, lt-or}
+use Rattle.wire.specs.Tests.{pick, if_le}
+use Rattle.wire.specs.Numbers.{Bytes, number_on, bytes_on, bytes, word}
+use Rattle.wire.proofs.Tests.{le_yea, le_nay, lt_or}
 
 -- ---- bytes stay bytes
 
@@ -23,100 +23,100 @@ bytes_take (suc n) [] h i = omega arith
 bytes_take (suc n) (x ∷ xs) h zero = h 0
 bytes_take (suc n) (x ∷ xs) h (suc i) = bytes_take n xs (λ k. h (suc k)) i
 
-pub bytes-append : (xs ys : List ℕ) → Bytes xs → Bytes ys → Bytes (xs ++ ys)
-bytes-append [] ys h k i = k i
-bytes-append (x ∷ xs) ys h k zero = h 0
-bytes-append (x ∷ xs) ys h k (suc i) = bytes-append xs ys (λ j. h (suc j)) k i
+pub bytes_append : (xs ys : List ℕ) → Bytes xs → Bytes ys → Bytes (xs ++ ys)
+bytes_append [] ys h k i = k i
+bytes_append (x ∷ xs) ys h k zero = h 0
+bytes_append (x ∷ xs) ys h k (suc i) = bytes_append xs ys (λ j. h (suc j)) k i
 
 -- ---- the bytes of a number
 
-on-append : (w n : ℕ) (xs ys : List ℕ) → bytesOn w n xs ++ ys ≡ bytesOn w n (xs ++ ys)
-unfolding bytesOn
-on-append zero n xs ys = refl
-on-append (suc w) n xs ys = on-append w (n / 256) (n % 256 ∷ xs) ys
+on_append : (w n : ℕ) (xs ys : List ℕ) → bytes_on w n xs ++ ys ≡ bytes_on w n (xs ++ ys)
+unfolding bytes_on
+on_append zero n xs ys = refl
+on_append (suc w) n xs ys = on_append w (n / 256) (n % 256 ∷ xs) ys
 
-on-length : (w n : ℕ) (xs : List ℕ) → length (bytesOn w n xs) ≡ w + length xs
-unfolding bytesOn
-on-length zero n xs = omega arith
-on-length (suc w) n xs = on-length w (n / 256) (n % 256 ∷ xs) ∙ omega arith
+on_length : (w n : ℕ) (xs : List ℕ) → length (bytes_on w n xs) ≡ w + length xs
+unfolding bytes_on
+on_length zero n xs = omega arith
+on_length (suc w) n xs = on_length w (n / 256) (n % 256 ∷ xs) ∙ omega arith
 
-pub length-bytes : (w n : ℕ) → length (bytes w n) ≡ w
+pub length_bytes_lem : (w n : ℕ) → length (bytes w n) ≡ w
 unfolding bytes
-length-bytes w n = on-length w n [] ∙ omega arith
+length_bytes_lem w n = on_length w n [] ∙ omega arith
 
-on-bytes : (w n : ℕ) (xs : List ℕ) → Bytes xs → Bytes (bytesOn w n xs)
-unfolding bytesOn
-on-bytes zero n xs h = h
-on-bytes (suc w) n xs h = on-bytes w (n / 256) (n % 256 ∷ xs) (λ i. go i)
+on_bytes : (w n : ℕ) (xs : List ℕ) → Bytes xs → Bytes (bytes_on w n xs)
+unfolding bytes_on
+on_bytes zero n xs h = h
+on_bytes (suc w) n xs h = on_bytes w (n / 256) (n % 256 ∷ xs) (λ i. go i)
   where
     go : (i : ℕ) → get_or (n % 256 ∷ xs) i 0 < 256
     go zero = omega arith
     go (suc i) = h i
 
-pub bytes-bytes : (w n : ℕ) → Bytes (bytes w n)
+pub bytes_bytes : (w n : ℕ) → Bytes (bytes w n)
 unfolding bytes
-bytes-bytes w n = on-bytes w n [] (λ i. omega arith)
+bytes_bytes w n = on_bytes w n [] (λ i. omega arith)
 
 -- the bytes of a number are those of its upper part and then those of its lower part
-on-join : (v w n : ℕ) (xs : List ℕ) → bytesOn v (n / 256 ^ w) (bytesOn w n xs) ≡ bytesOn (w + v) n xs
-unfolding bytesOn
-on-join v zero n xs = rw (div-one, zero-add)
-on-join v (suc w) n xs =
+on_join : (v w n : ℕ) (xs : List ℕ) → bytes_on v (n / 256 ^ w) (bytes_on w n xs) ≡ bytes_on (w + v) n xs
+unfolding bytes_on
+on_join v zero n xs = rw (div-one, zero-add)
+on_join v (suc w) n xs =
     let e : suc w + v ≡ suc (w + v) = omega arith in
-    rw (e, pow-succ', ← div-div-eq-div-mul n 256 (256 ^ w)) (on-join v w (n / 256) (n % 256 ∷ xs))
+    rw (e, pow-succ', ← div-div-eq-div-mul n 256 (256 ^ w)) (on_join v w (n / 256) (n % 256 ∷ xs))
 
-pub bytes-join : (v w n : ℕ) → bytes v (n / 256 ^ w) ++ bytes w n ≡ bytes (w + v) n
+pub bytes_join : (v w n : ℕ) → bytes v (n / 256 ^ w) ++ bytes w n ≡ bytes (w + v) n
 unfolding bytes
-bytes-join v w n = on-append v (n / 256 ^ w) [] (bytesOn w n []) ∙ on-join v w n []
+bytes_join v w n = on_append v (n / 256 ^ w) [] (bytes_on w n []) ∙ on_join v w n []
 
 -- ---- the number of bytes
 
-number_append : (n : ℕ) (xs ys : List ℕ) → numberOn n (xs ++ ys) ≡ numberOn (numberOn n xs) ys
+number_append : (n : ℕ) (xs ys : List ℕ) → number_on n (xs ++ ys) ≡ number_on (number_on n xs) ys
 number_append n [] ys = refl
 number_append n (x ∷ xs) ys = number_append (n * 256 + x) xs ys
 
 -- n stands before the number of the bytes
-number-front : (n : ℕ) (xs : List ℕ) → numberOn n xs ≡ n * 256 ^ length xs + numberOn 0 xs
-number-front n [] = omega arith
-number-front n (x ∷ xs) =
-    rw (number-front (n * 256 + x) xs, number-front (0 + x) xs, pow-succ', add-mul (n * 256) x, add-mul 0 x, mul_assoc n 256) (omega arith)
+number_front : (n : ℕ) (xs : List ℕ) → number_on n xs ≡ n * 256 ^ length xs + number_on 0 xs
+number_front n [] = omega arith
+number_front n (x ∷ xs) =
+    rw (number_front (n * 256 + x) xs, number_front (0 + x) xs, pow-succ', add-mul (n * 256) x, add-mul 0 x, mul_assoc n 256) (omega arith)
 
-number_fits : (xs : List ℕ) → Bytes xs → numberOn 0 xs < 256 ^ length xs
+number_fits : (xs : List ℕ) → Bytes xs → number_on 0 xs < 256 ^ length xs
 number_fits [] h = omega arith
 number_fits (x ∷ xs) h =
     let k : x * 256 ^ length xs ≤ 255 * 256 ^ length xs = mul-le-mul_right (256 ^ length xs) (omega (arith, h 0)) in
-    rw (number-front (0 + x) xs, pow-succ', zero-add) (omega (arith, number_fits xs (λ i. h (suc i))))
+    rw (number_front (0 + x) xs, pow-succ', zero-add) (omega (arith, number_fits xs (λ i. h (suc i))))
 
 -- ---- there and back
 
-number-on : (a w n : ℕ) (xs : List ℕ) → n < 256 ^ w → numberOn a (bytesOn w n xs) ≡ numberOn (a * 256 ^ w + n) xs
-unfolding bytesOn
-number-on a zero n xs h = let e : a * 1 + n ≡ a = omega arith in rw e
-number-on a (suc w) n xs h =
+number_on_lem : (a w n : ℕ) (xs : List ℕ) → n < 256 ^ w → number_on a (bytes_on w n xs) ≡ number_on (a * 256 ^ w + n) xs
+unfolding bytes_on
+number_on_lem a zero n xs h = let e : a * 1 + n ≡ a = omega arith in rw e
+number_on_lem a (suc w) n xs h =
     let k : n < 256 ^ w * 256 = rw (← pow-suc 256 w) h in
     let e : (a * 256 ^ w + n / 256) * 256 + n % 256 ≡ a * 256 ^ suc w + n = rw (pow-suc 256 w, add-mul, ← mul_assoc a (256 ^ w) 256) (omega arith) in
-    rw (number-on a w (n / 256) (n % 256 ∷ xs) (omega arith), e)
+    rw (number_on_lem a w (n / 256) (n % 256 ∷ xs) (omega arith), e)
 
-on-number : (n : ℕ) (xs ys : List ℕ) → Bytes xs → bytesOn (length xs) (numberOn n xs) ys ≡ xs ++ ys
-unfolding bytesOn
-on-number n [] ys h = refl
-on-number n (x ∷ xs) ys h =
+on_number : (n : ℕ) (xs ys : List ℕ) → Bytes xs → bytes_on (length xs) (number_on n xs) ys ≡ xs ++ ys
+unfolding bytes_on
+on_number n [] ys h = refl
+on_number n (x ∷ xs) ys h =
     let t : Bytes xs = λ i. h (suc i) in
-    let d : numberOn (n * 256 + x) xs / 256 ^ length xs ≡ n * 256 + x =
-    rw (number-front (n * 256 + x) xs, mul-add-div_right {m = 256 ^ length xs} (omega (arith, number_fits xs t)) (n * 256 + x) (numberOn 0 xs), div-eq_of_lt (number_fits xs t)) (omega arith) in
+    let d : number_on (n * 256 + x) xs / 256 ^ length xs ≡ n * 256 + x =
+    rw (number_front (n * 256 + x) xs, mul-add-div_right {m = 256 ^ length xs} (omega (arith, number_fits xs t)) (n * 256 + x) (number_on 0 xs), div-eq_of_lt (number_fits xs t)) (omega arith) in
     let e : (n * 256 + x) % 256 ≡ x = omega (arith, h 0) in
     let s : length xs + 1 ≡ suc (length xs) = omega arith in
-    sym (ap (λ (w : ℕ). bytesOn w (numberOn (n * 256 + x) xs) ys) s) ∙ sym (on-join 1 (length xs) (numberOn (n * 256 + x) xs) ys) ∙ rw (d, e, on-number (n * 256 + x) xs ys t)
+    sym (ap (λ (w : ℕ). bytes_on w (number_on (n * 256 + x) xs) ys) s) ∙ sym (on_join 1 (length xs) (number_on (n * 256 + x) xs) ys) ∙ rw (d, e, on_number (n * 256 + x) xs ys t)
 
 -- ---- words
 
-pub word_in : (w : ℕ) (xs : List ℕ) (at : ℕ) → at + w ≤ length xs → word w xs at ≡ numberOn 0 (take w (drop at xs))
+pub word_in : (w : ℕ) (xs : List ℕ) (at : ℕ) → at + w ≤ length xs → word w xs at ≡ number_on 0 (take w (drop at xs))
 unfolding word
-word_in w xs at h = sym (le-yea _ _ _ _ _ h refl)
+word_in w xs at h = sym (le_yea _ _ _ _ _ h refl)
 
 pub word_out : (w : ℕ) (xs : List ℕ) (at : ℕ) → length xs < at + w → word w xs at ≡ 0
 unfolding word
-word_out w xs at h = sym (le-nay _ _ _ _ _ h refl)
+word_out w xs at h = sym (le_nay _ _ _ _ _ h refl)
 
 -- nothing stands past the end
 pub byte_past : (xs : List ℕ) (at : ℕ) → length xs ≤ at → 0 ≡ get_or xs at 0
@@ -125,59 +125,59 @@ byte_past xs at h = sym (get_or-eq_default xs 0 h)
 -- one byte is a word; two words side by side are one
 pub word_byte : (xs : List ℕ) (at : ℕ) → word 1 xs at ≡ get_or xs at 0
 word_byte xs at =
-    lt-or at (length xs)
+    lt_or at (length xs)
     (λ h. rw (word_in 1 xs at (omega arith), drop-cons xs at 0) (omega arith))
     (λ h. word_out 1 xs at (omega arith) ∙ byte_past xs at h)
 
-pub word-join : (v w : ℕ) (xs : List ℕ) (at : ℕ) → at + (v + w) ≤ length xs → word v xs at * 256 ^ w + word w xs (at + v) ≡ word (v + w) xs at
-word-join v w xs at h =
+pub word_join : (v w : ℕ) (xs : List ℕ) (at : ℕ) → at + (v + w) ≤ length xs → word v xs at * 256 ^ w + word w xs (at + v) ≡ word (v + w) xs at
+word_join v w xs at h =
     let l : length (take w (drop (at + v) xs)) ≡ w = length-take-le w (drop (at + v) xs) (rw length-drop (omega arith)) in
-    rw (word_in v xs at (omega arith), word_in w xs (at + v) (omega arith), word_in (v + w) xs at h, take-add v w (drop at xs), drop-drop v at xs, number_append, number-front (numberOn 0 (take v (drop at xs))) (take w (drop (at + v) xs)), l)
+    rw (word_in v xs at (omega arith), word_in w xs (at + v) (omega arith), word_in (v + w) xs at h, take-add v w (drop at xs), drop-drop v at xs, number_append, number_front (number_on 0 (take v (drop at xs))) (take w (drop (at + v) xs)), l)
 
 -- a number is 0 where both of its parts are
-pub zero-join : (v w : ℕ) (xs : List ℕ) (at : ℕ) → at + (v + w) ≤ length xs → word v xs at ≡ 0 → word w xs (at + v) ≡ 0 → word (v + w) xs at ≡ 0
-zero-join v w xs at h e f = sym (word-join v w xs at h) ∙ rw (e, f) (omega arith)
+pub zero_join : (v w : ℕ) (xs : List ℕ) (at : ℕ) → at + (v + w) ≤ length xs → word v xs at ≡ 0 → word w xs (at + v) ≡ 0 → word (v + w) xs at ≡ 0
+zero_join v w xs at h e f = sym (word_join v w xs at h) ∙ rw (e, f) (omega arith)
 
-pub zero-split : (v w : ℕ) (xs : List ℕ) (at : ℕ) → at + (v + w) ≤ length xs → word (v + w) xs at ≡ 0 → (word v xs at ≡ 0) × (word w xs (at + v) ≡ 0)
-zero-split v w xs at h e =
+pub zero_split : (v w : ℕ) (xs : List ℕ) (at : ℕ) → at + (v + w) ≤ length xs → word (v + w) xs at ≡ 0 → (word v xs at ≡ 0) × (word w xs (at + v) ≡ 0)
+zero_split v w xs at h e =
     let k : word v xs at * 1 ≤ word v xs at * 256 ^ w = mul-le-mul_left (word v xs at) (one-le-pow w 256 (omega arith)) in
-    (omega (arith, word-join v w xs at h), omega (arith, word-join v w xs at h))
+    (omega (arith, word_join v w xs at h), omega (arith, word_join v w xs at h))
 
 -- a number with a part that is not 0
-pub zero-not : (n w : ℕ) (xs : List ℕ) (at i : ℕ) → at + n ≤ length xs → i + w ≤ n → (word w xs (at + i) ≡ 0 → ⊥) → word n xs at ≡ 0 → ⊥
-zero-not n w xs at i h k f e =
+pub zero_not : (n w : ℕ) (xs : List ℕ) (at i : ℕ) → at + n ≤ length xs → i + w ≤ n → (word w xs (at + i) ≡ 0 → ⊥) → word n xs at ≡ 0 → ⊥
+zero_not n w xs at i h k f e =
     let s : i + (w + (n - i - w)) ≡ n = omega arith in
-    let a = zero-split i (w + (n - i - w)) xs at (omega arith) (rw s e) in
-    f (zero-split w (n - i - w) xs (at + i) (omega arith) a.1).0
+    let a = zero_split i (w + (n - i - w)) xs at (omega arith) (rw s e) in
+    f (zero_split w (n - i - w) xs (at + i) (omega arith) a.1).0
 
 pub word_fits : (w : ℕ) (xs : List ℕ) (at : ℕ) → Bytes xs → word w xs at < 256 ^ w
 word_fits w xs at h =
-    lt-or (length xs) (at + w)
+    lt_or (length xs) (at + w)
     (λ k. rw (word_out w xs at k) (one-le-pow w 256 (omega arith)))
     (λ k.
     let l : length (take w (drop at xs)) ≡ w = length-take-le w (drop at xs) (rw length-drop (omega arith)) in
     rw (word_in w xs at k) (rw l at (number_fits (take w (drop at xs)) (bytes_take w (drop at xs) (bytes_drop at xs h)))))
 
 -- a number of 32 bits
-pub word-most : (xs : List ℕ) (at : ℕ) → Bytes xs → word 4 xs at ≤ 4294967295
-word-most xs at b = omega (arith, word_fits 4 xs at b)
+pub word_most : (xs : List ℕ) (at : ℕ) → Bytes xs → word 4 xs at ≤ 4294967295
+word_most xs at b = omega (arith, word_fits 4 xs at b)
 
 -- the bytes of a word are those that it was read from
 pub bytes_word : (w : ℕ) (xs : List ℕ) (at : ℕ) → Bytes xs → at + w ≤ length xs → bytes w (word w xs at) ≡ take w (drop at xs)
 unfolding bytes
 bytes_word w xs at h k =
     let l : length (take w (drop at xs)) ≡ w = length-take-le w (drop at xs) (rw length-drop (omega arith)) in
-    rw (word_in w xs at k) (rw (l, append-nil) at (on-number 0 (take w (drop at xs)) [] (bytes_take w (drop at xs) (bytes_drop at xs h))))
+    rw (word_in w xs at k) (rw (l, append-nil) at (on_number 0 (take w (drop at xs)) [] (bytes_take w (drop at xs) (bytes_drop at xs h))))
 
 -- and the word in the bytes of a number is that number
 pub word_bytes : (w n : ℕ) (xs : List ℕ) → n < 256 ^ w → word w (bytes w n ++ xs) 0 ≡ n
 unfolding bytes
 word_bytes w n xs h =
-    let l = length-bytes w n in
-    rw (word_in w (bytes w n ++ xs) 0 (rw length-append (omega arith)), take_at (bytesOn w n []) xs w l, number-on 0 w n [] h) (omega arith)
+    let l = length_bytes_lem w n in
+    rw (word_in w (bytes w n ++ xs) 0 (rw length-append (omega arith)), take_at (bytes_on w n []) xs w l, number_on_lem 0 w n [] h) (omega arith)
 
 pub word_none : (xs : List ℕ) (at : ℕ) → word 0 xs at ≡ 0
-unfolding word ifLe
+unfolding word if_le
 word_none xs at = go (leb (at + 0) (length xs))
   where
     go : (t : Bool) → ◌≡◌ {A = ℕ} (pick t 0 0) 0
@@ -185,45 +185,45 @@ word_none xs at = go (leb (at + 0) (length xs))
     go false = refl
 
 -- a word further on
-pub word-drop : (w n : ℕ) (xs : List ℕ) (at : ℕ) → word w (drop n xs) at ≡ word w xs (n + at)
-word-drop zero n xs at = word_none (drop n xs) at ∙ sym (word_none xs (n + at))
-word-drop (suc w) n xs at =
-    lt-or (length xs) (n + at + suc w)
+pub word_drop : (w n : ℕ) (xs : List ℕ) (at : ℕ) → word w (drop n xs) at ≡ word w xs (n + at)
+word_drop zero n xs at = word_none (drop n xs) at ∙ sym (word_none xs (n + at))
+word_drop (suc w) n xs at =
+    lt_or (length xs) (n + at + suc w)
     (λ k. rw (word_out (suc w) xs (n + at) k, word_out (suc w) (drop n xs) at (rw length-drop (omega arith))))
     (λ k. rw (word_in (suc w) xs (n + at) k, word_in (suc w) (drop n xs) at (rw length-drop (omega arith)), drop-drop at n xs))
 
 -- a word of the first of two parts, and of the second
-pub word-left : (w : ℕ) (xs ys : List ℕ) (at : ℕ) → at + w ≤ length xs → word w (xs ++ ys) at ≡ word w xs at
-word-left w xs ys at h =
+pub word_left : (w : ℕ) (xs ys : List ℕ) (at : ℕ) → at + w ≤ length xs → word w (xs ++ ys) at ≡ word w xs at
+word_left w xs ys at h =
     let k : length (drop at xs) ≡ length xs - at = length-drop at xs in
     rw (word_in w xs at h, word_in w (xs ++ ys) at (rw length-append (omega arith)), drop-append-le at xs ys (omega arith), take-append-le w (drop at xs) ys (omega arith))
 
-pub word-right : (w : ℕ) (xs ys : List ℕ) (n at : ℕ) → length xs ≡ n → word w (xs ++ ys) (n + at) ≡ word w ys at
-word-right w xs ys n at h = sym (word-drop w n (xs ++ ys) at) ∙ ap (λ (zs : List ℕ). word w zs at) (drop_at xs ys n h)
+pub word_right : (w : ℕ) (xs ys : List ℕ) (n at : ℕ) → length xs ≡ n → word w (xs ++ ys) (n + at) ≡ word w ys at
+word_right w xs ys n at h = sym (word_drop w n (xs ++ ys) at) ∙ ap (λ (zs : List ℕ). word w zs at) (drop_at xs ys n h)
 
 -- a word of the front of a part
-pub word-take : (w n : ℕ) (xs : List ℕ) (at : ℕ) → at + w ≤ n → n ≤ length xs → word w (take n xs) at ≡ word w xs at
-word-take w n xs at h k =
+pub word_take : (w n : ℕ) (xs : List ℕ) (at : ℕ) → at + w ≤ n → n ≤ length xs → word w (take n xs) at ≡ word w xs at
+word_take w n xs at h k =
     let l : length (take n xs) ≡ n = length-take-le n xs k in
-    sym (ap (λ (ys : List ℕ). word w ys at) (sym (take-append-drop n xs)) ∙ word-left w (take n xs) (drop n xs) at (omega arith))
+    sym (ap (λ (ys : List ℕ). word w ys at) (sym (take-append-drop n xs)) ∙ word_left w (take n xs) (drop n xs) at (omega arith))
 
 -- a word of a part that begins with ys, at a place in ys
-pub word-front : (n : ℕ) (xs ys : List ℕ) → take n xs ≡ ys → length ys ≡ n → (w at : ℕ) → at + w ≤ n → word w xs at ≡ word w ys at
-word-front n xs ys e l w at h = sym (word-take w n xs at h (omega (arith, length-take n xs, ap length e))) ∙ ap (λ (zs : List ℕ). word w zs at) e
+pub word_front : (n : ℕ) (xs ys : List ℕ) → take n xs ≡ ys → length ys ≡ n → (w at : ℕ) → at + w ≤ n → word w xs at ≡ word w ys at
+word_front n xs ys e l w at h = sym (word_take w n xs at h (omega (arith, length-take n xs, ap length e))) ∙ ap (λ (zs : List ℕ). word w zs at) e
 
 -- the widths of the format, as code puts them together
-pub word16-is : (xs : List ℕ) (at : ℕ) {a b : ℕ} → a ≡ get_or xs at 0 → b ≡ get_or xs (at + 1) 0 → at + 2 ≤ length xs → a * 256 + b ≡ word 2 xs at
-word16-is xs at p q h = rw (p, q, ← word_byte xs at, ← word_byte xs (at + 1)) (word-join 1 1 xs at h)
+pub word16_is : (xs : List ℕ) (at : ℕ) {a b : ℕ} → a ≡ get_or xs at 0 → b ≡ get_or xs (at + 1) 0 → at + 2 ≤ length xs → a * 256 + b ≡ word 2 xs at
+word16_is xs at p q h = rw (p, q, ← word_byte xs at, ← word_byte xs (at + 1)) (word_join 1 1 xs at h)
 
-pub word24-is : (xs : List ℕ) (at : ℕ) {a b : ℕ} → a ≡ word 2 xs at → b ≡ get_or xs (at + 2) 0 → at + 3 ≤ length xs → a * 256 + b ≡ word 3 xs at
-word24-is xs at p q h = rw (p, q, ← word_byte xs (at + 2)) (word-join 2 1 xs at h)
+pub word24_is : (xs : List ℕ) (at : ℕ) {a b : ℕ} → a ≡ word 2 xs at → b ≡ get_or xs (at + 2) 0 → at + 3 ≤ length xs → a * 256 + b ≡ word 3 xs at
+word24_is xs at p q h = rw (p, q, ← word_byte xs (at + 2)) (word_join 2 1 xs at h)
 
-pub word32-is : (xs : List ℕ) (at : ℕ) {a b : ℕ} → a ≡ word 2 xs at → b ≡ word 2 xs (at + 2) → at + 4 ≤ length xs → a * 65536 + b ≡ word 4 xs at
-word32-is xs at p q h = rw (p, q) (word-join 2 2 xs at h)
+pub word32_is : (xs : List ℕ) (at : ℕ) {a b : ℕ} → a ≡ word 2 xs at → b ≡ word 2 xs (at + 2) → at + 4 ≤ length xs → a * 65536 + b ≡ word 4 xs at
+word32_is xs at p q h = rw (p, q) (word_join 2 2 xs at h)
 
-pub word64-is : (xs : List ℕ) (at : ℕ) {a b : ℕ} → a ≡ word 4 xs at → b ≡ word 4 xs (at + 4) → at + 8 ≤ length xs → a * 4294967296 + b ≡ word 8 xs at
-word64-is xs at p q h = rw (p, q) (word-join 4 4 xs at h)
+pub word64_is : (xs : List ℕ) (at : ℕ) {a b : ℕ} → a ≡ word 4 xs at → b ≡ word 4 xs (at + 4) → at + 8 ≤ length xs → a * 4294967296 + b ≡ word 8 xs at
+word64_is xs at p q h = rw (p, q) (word_join 4 4 xs at h)
 
-pub bytes16-is : (n : ℕ) → n / 256 % 256 ∷ n % 256 ∷ [] ≡ bytes 2 n
-unfolding bytes bytesOn
-bytes16-is n = refl
+pub bytes16_is : (n : ℕ) → n / 256 % 256 ∷ n % 256 ∷ [] ≡ bytes 2 n
+unfolding bytes bytes_on
+bytes16_is n = refl

@@ -9,118 +9,118 @@ use lib.ListN.{length, get_or, take, drop, set, length-append, length-take, leng
 use lib.Seq.{take-add, take-append-le, take-take, take_at, drop_at, drop-drop, length-take-le, take-suc, set_split, sets-eq}
 use Rattle.wire.specs.Numbers.{bytes}
 use Rattle.wire.specs.Writing.{put, Wrote, Put}
-use Rattle.wire.proofs.Numbers.{length-bytes, bytes16-is, bytes-join}
+use Rattle.wire.proofs.Numbers.{length_bytes_lem, bytes16_is, bytes_join}
 
 -- ---- put
 
-pub open-put : (out : List ℕ) (at : ℕ) (xs : List ℕ) → put out at xs ≡ take at out ++ (xs ++ drop (at + length xs) out)
+pub open_put : (out : List ℕ) (at : ℕ) (xs : List ℕ) → put out at xs ≡ take at out ++ (xs ++ drop (at + length xs) out)
 unfolding put
-open-put out at xs = refl
+open_put out at xs = refl
 
 pub put_one : (out : List ℕ) (at b : ℕ) → at < length out → set out at b ≡ put out at (b ∷ [])
 unfolding put
 put_one out at b h = rw add-one (set_split out at b h)
 
-pub put-none : (out : List ℕ) (at : ℕ) → put out at [] ≡ out
+pub put_none : (out : List ℕ) (at : ℕ) → put out at [] ≡ out
 unfolding put
-put-none out at = let e : at + 0 ≡ at = omega arith in rw e (take-append-drop at out)
+put_none out at = let e : at + 0 ≡ at = omega arith in rw e (take-append-drop at out)
 
-pub length-put : (out : List ℕ) (at : ℕ) (xs : List ℕ) → at + length xs ≤ length out → length (put out at xs) ≡ length out
+pub length_put : (out : List ℕ) (at : ℕ) (xs : List ℕ) → at + length xs ≤ length out → length (put out at xs) ≡ length out
 unfolding put
-length-put out at xs h = rw (length-append, length-append, length-take, length-drop) (omega arith)
+length_put out at xs h = rw (length-append, length-append, length-take, length-drop) (omega arith)
 
 pub take_put : (out : List ℕ) (at : ℕ) (xs : List ℕ) → at + length xs ≤ length out → take (at + length xs) (put out at xs) ≡ take at out ++ xs
 unfolding put
 take_put out at xs h = rw (← append_assoc) (take_at (take at out ++ xs) (drop (at + length xs) out) (at + length xs) (rw (length-append, length-take) (omega arith)))
 
-pub drop-put : (out : List ℕ) (at : ℕ) (xs : List ℕ) → at + length xs ≤ length out → drop (at + length xs) (put out at xs) ≡ drop (at + length xs) out
+pub drop_put : (out : List ℕ) (at : ℕ) (xs : List ℕ) → at + length xs ≤ length out → drop (at + length xs) (put out at xs) ≡ drop (at + length xs) out
 unfolding put
-drop-put out at xs h = rw (← append_assoc) (drop_at (take at out ++ xs) (drop (at + length xs) out) (at + length xs) (rw (length-append, length-take) (omega arith)))
+drop_put out at xs h = rw (← append_assoc) (drop_at (take at out ++ xs) (drop (at + length xs) out) (at + length xs) (rw (length-append, length-take) (omega arith)))
 
 -- one part right after another
-pub put-put : (out : List ℕ) (at : ℕ) (xs ys : List ℕ) → at + length xs + length ys ≤ length out → put (put out at xs) (at + length xs) ys ≡ put out at (xs ++ ys)
-put-put out at xs ys h =
+pub put_put : (out : List ℕ) (at : ℕ) (xs ys : List ℕ) → at + length xs + length ys ≤ length out → put (put out at xs) (at + length xs) ys ≡ put out at (xs ++ ys)
+put_put out at xs ys h =
     let d : drop (at + length xs + length ys) (put out at xs) ≡ drop (at + length xs + length ys) out =
-    sym (drop-drop (length ys) (at + length xs) (put out at xs)) ∙ rw (drop-put out at xs (omega arith)) (drop-drop (length ys) (at + length xs) out) in
-    open-put (put out at xs) (at + length xs) ys ∙ rw (take_put out at xs (omega arith), d, append_assoc, ← append_assoc xs) (sym (open-put out at (xs ++ ys) ∙ rw (length-append, add_assoc)))
+    sym (drop-drop (length ys) (at + length xs) (put out at xs)) ∙ rw (drop_put out at xs (omega arith)) (drop-drop (length ys) (at + length xs) out) in
+    open_put (put out at xs) (at + length xs) ys ∙ rw (take_put out at xs (omega arith), d, append_assoc, ← append_assoc xs) (sym (open_put out at (xs ++ ys) ∙ rw (length-append, add_assoc)))
 
 -- one part right before another
-pub put-before : (out : List ℕ) (at : ℕ) (xs ys : List ℕ) → at + length xs + length ys ≤ length out → put (put out (at + length xs) ys) at xs ≡ put out at (xs ++ ys)
+pub put_before : (out : List ℕ) (at : ℕ) (xs ys : List ℕ) → at + length xs + length ys ≤ length out → put (put out (at + length xs) ys) at xs ≡ put out at (xs ++ ys)
 unfolding put
-put-before out at xs ys h =
+put_before out at xs ys h =
     let l : length (take (at + length xs) out) ≡ at + length xs = length-take-le (at + length xs) out (omega arith) in
     let t : take at (take (at + length xs) out ++ (ys ++ drop (at + length xs + length ys) out)) ≡ take at out = take-append-le at (take (at + length xs) out) (ys ++ drop (at + length xs + length ys) out) (omega arith) ∙ take-take at (at + length xs) out (omega arith) in
     let d : drop (at + length xs) (take (at + length xs) out ++ (ys ++ drop (at + length xs + length ys) out)) ≡ ys ++ drop (at + length xs + length ys) out = drop_at (take (at + length xs) out) _ (at + length xs) l in
     rw (t, d, length-append, ← add_assoc) (simp append_assoc)
 
 -- a buffer's place filled byte by byte
-pub put-pair : (out : List ℕ) (at a b : ℕ) → at + 2 ≤ length out → set (set out at a) (at + 1) b ≡ put out at (a ∷ b ∷ [])
+pub put_pair : (out : List ℕ) (at a b : ℕ) → at + 2 ≤ length out → set (set out at a) (at + 1) b ≡ put out at (a ∷ b ∷ [])
 unfolding put
-put-pair out at a b h = rw add-one (sets-eq (a ∷ b ∷ []) out at h ∙ append_assoc (take at out) (a ∷ b ∷ []) (drop (at + 2) out))
+put_pair out at a b h = rw add-one (sets-eq (a ∷ b ∷ []) out at h ∙ append_assoc (take at out) (a ∷ b ∷ []) (drop (at + 2) out))
 
-pub put-more : (out : List ℕ) (at : ℕ) (xs : List ℕ) (i : ℕ) → at + i < length out → i < length xs → set (put out at (take i xs)) (at + i) (get_or xs i 0) ≡ put out at (take (i + 1) xs)
-put-more out at xs i h k =
+pub put_more : (out : List ℕ) (at : ℕ) (xs : List ℕ) (i : ℕ) → at + i < length out → i < length xs → set (put out at (take i xs)) (at + i) (get_or xs i 0) ≡ put out at (take (i + 1) xs)
+put_more out at xs i h k =
     let l : length (take i xs) ≡ i = length-take-le i xs (omega arith) in
-    let s : set (put out at (take i xs)) (at + i) (get_or xs i 0) ≡ put (put out at (take i xs)) (at + i) (get_or xs i 0 ∷ []) = put_one (put out at (take i xs)) (at + i) (get_or xs i 0) (rw (length-put out at (take i xs) (omega arith)) h) in
-    s ∙ rw (add-one, take-suc xs i 0) (rw l at (put-put out at (take i xs) (get_or xs i 0 ∷ []) (rw l (omega arith))))
+    let s : set (put out at (take i xs)) (at + i) (get_or xs i 0) ≡ put (put out at (take i xs)) (at + i) (get_or xs i 0 ∷ []) = put_one (put out at (take i xs)) (at + i) (get_or xs i 0) (rw (length_put out at (take i xs) (omega arith)) h) in
+    s ∙ rw (add-one, take-suc xs i 0) (rw l at (put_put out at (take i xs) (get_or xs i 0 ∷ []) (rw l (omega arith))))
 
 -- and piece by piece, each by way of another buffer
-pub put-piece : (out : List ℕ) (at : ℕ) (xs : List ℕ) (i k : ℕ) (piece : List ℕ) {mid held after : List ℕ} → k ≤ length piece → mid ≡ put out at (take i xs)
+pub put_piece : (out : List ℕ) (at : ℕ) (xs : List ℕ) (i k : ℕ) (piece : List ℕ) {mid held after : List ℕ} → k ≤ length piece → mid ≡ put out at (take i xs)
     → held ≡ put piece 0 (take (i + k - i) (drop i xs)) → after ≡ put mid (at + i) (take (k - 0) held) → at + length xs ≤ length out
     → i + k ≤ length xs → after ≡ put out at (take (i + k) xs)
-put-piece out at xs i k piece {held = held} m p q r h l =
+put_piece out at xs i k piece {held = held} m p q r h l =
     let a : length (take i xs) ≡ i = length-take-le i xs (omega arith) in
     let b : length (take k (drop i xs)) ≡ k = length-take-le k (drop i xs) (rw length-drop (omega arith)) in
     let e : i + k - i ≡ k = omega arith in
     let z : k - 0 ≡ 0 + k = omega arith in
     let f : take (0 + k) held ≡ take k (drop i xs) = rw (q, e) (rw b at (take_put piece 0 (take k (drop i xs)) (omega arith))) in
-    r ∙ rw (p, z, f, take-add i k xs) (rw a at (put-put out at (take i xs) (take k (drop i xs)) (omega arith)))
+    r ∙ rw (p, z, f, take-add i k xs) (rw a at (put_put out at (take i xs) (take k (drop i xs)) (omega arith)))
 
-pub put16-is : (out : List ℕ) (at n : ℕ) {after : List ℕ} → after ≡ put out at (n / 256 % 256 ∷ n % 256 ∷ []) → after ≡ put out at (bytes 2 n)
-put16-is out at n e = rw (bytes16-is n) at e
+pub put16_is : (out : List ℕ) (at n : ℕ) {after : List ℕ} → after ≡ put out at (n / 256 % 256 ∷ n % 256 ∷ []) → after ≡ put out at (bytes 2 n)
+put16_is out at n e = rw (bytes16_is n) at e
 
 -- the bytes of a number, its upper half first
-pub halves-put : (w : ℕ) (out : List ℕ) (at n : ℕ) {mid after : List ℕ} → mid ≡ put out at (bytes w (n / 256 ^ w)) → after ≡ put mid (at + w) (bytes w n) → at + (w + w) ≤ length out
+pub halves_put : (w : ℕ) (out : List ℕ) (at n : ℕ) {mid after : List ℕ} → mid ≡ put out at (bytes w (n / 256 ^ w)) → after ≡ put mid (at + w) (bytes w n) → at + (w + w) ≤ length out
     → after ≡ put out at (bytes (w + w) n)
-halves-put w out at n p q h =
-    let l = length-bytes w (n / 256 ^ w) in
-    let m = length-bytes w n in
-    q ∙ rw (p, ← bytes-join w w n) (rw l at (put-put out at (bytes w (n / 256 ^ w)) (bytes w n) (omega arith)))
+halves_put w out at n p q h =
+    let l = length_bytes_lem w (n / 256 ^ w) in
+    let m = length_bytes_lem w n in
+    q ∙ rw (p, ← bytes_join w w n) (rw l at (put_put out at (bytes w (n / 256 ^ w)) (bytes w n) (omega arith)))
 
 -- ---- to the front
 
-pub wrote-put : {xs out after : List ℕ} → after ≡ put out 0 xs → Wrote xs out (length xs) after
+pub wrote_put : {xs out after : List ℕ} → after ≡ put out 0 xs → Wrote xs out (length xs) after
 unfolding put
-wrote-put {xs} e = let z : 0 + length xs ≡ length xs = omega arith in record { span = refl; is = rw z at e }
+wrote_put {xs} e = let z : 0 + length xs ≡ length xs = omega arith in record { span = refl; is = rw z at e }
 
 -- ---- total writers
 
 -- nothing
-pub pen-none : (out : List ℕ) (at : ℕ) → Put [] out at at out
-pen-none out at = record { next = omega arith; same = refl; is = λ h. sym (put-none out at) }
+pub pen_none : (out : List ℕ) (at : ℕ) → Put [] out at at out
+pen_none out at = record { next = omega arith; same = refl; is = λ h. sym (put_none out at) }
 
 -- where it fits it was put, and where not nothing was
-pub pen-put : (xs out : List ℕ) {at r : ℕ} {after : List ℕ} → r ≡ at + length xs → r ≤ length out → after ≡ put out at xs → Put xs out at r after
-pen-put xs out {at} {r} n h e = record { next = n; same = ap length e ∙ length-put out at xs (omega arith); is = λ k. e }
+pub pen_put : (xs out : List ℕ) {at r : ℕ} {after : List ℕ} → r ≡ at + length xs → r ≤ length out → after ≡ put out at xs → Put xs out at r after
+pen_put xs out {at} {r} n h e = record { next = n; same = ap length e ∙ length_put out at xs (omega arith); is = λ k. e }
 
-pub pen-past : (xs out : List ℕ) {at r : ℕ} → r ≡ at + length xs → length out < r → Put xs out at r out
-pen-past xs out n h = record { next = n; same = refl; is = λ k. absurd (omega arith) }
+pub pen_past : (xs out : List ℕ) {at r : ℕ} → r ≡ at + length xs → length out < r → Put xs out at r out
+pen_past xs out n h = record { next = n; same = refl; is = λ k. absurd (omega arith) }
 
 -- one text and then another
-pub pen-then : {xs ys out mid after : List ℕ} {at m r : ℕ} → Put xs out at m mid → Put ys mid m r after → Put (xs ++ ys) out at r after
-pen-then {xs} {ys} {out} {mid} {after} {at} {m} {r} a b =
+pub pen_then : {xs ys out mid after : List ℕ} {at m r : ℕ} → Put xs out at m mid → Put ys mid m r after → Put (xs ++ ys) out at r after
+pen_then {xs} {ys} {out} {mid} {after} {at} {m} {r} a b =
     record {
       next = rw length-append (omega (arith, a.next, b.next));
       same = b.same ∙ a.same;
       is = λ h.
           let e : m ≡ at + length xs = a.next in
-          b.is (omega (arith, a.same)) ∙ rw (a.is (omega (arith, b.next)), e) (put-put out at xs ys (omega (arith, b.next)));
+          b.is (omega (arith, a.same)) ∙ rw (a.is (omega (arith, b.next)), e) (put_put out at xs ys (omega (arith, b.next)));
     }
 
 -- the same text, otherwise said
-pub pen-is : {xs ys out after : List ℕ} {at r : ℕ} → xs ≡ ys → Put xs out at r after → Put ys out at r after
-pen-is e p = rw e at p
+pub pen_is : {xs ys out after : List ℕ} {at r : ℕ} → xs ≡ ys → Put xs out at r after → Put ys out at r after
+pen_is e p = rw e at p
 
 -- a text at the front that has room
-pub pen-front : {xs out after : List ℕ} {r : ℕ} → Put xs out 0 r after → r ≤ length out → Wrote xs out r after
-pen-front {xs} {r = r} p h = let e : length xs ≡ r = omega (arith, p.next) in rw e at (wrote-put (p.is h))
+pub pen_front : {xs out after : List ℕ} {r : ℕ} → Put xs out 0 r after → r ≤ length out → Wrote xs out r after
+pen_front {xs} {r = r} p h = let e : length xs ≡ r = omega (arith, p.next) in rw e at (wrote_put (p.is h))

@@ -21,5 +21,5 @@ either [] = false
 either (t ∷ ts) = pick t true (either ts)
 
 -- what code answers to a rule: 1 where it holds, else 0
-unfoldable pub oneIf : Bool → ℕ
-oneIf t = pick t 1 0
+unfoldable pub one_if : Bool → ℕ
+one_if t = pick t 1 0

@@ -8,6 +8,6 @@ sum_to f zero = 0
 sum_to f (suc n) = sum_to f n + f n
 
 -- p 0 and .. and p (n - 1)
-unfoldable pub allTo : (ℕ → Bool) → ℕ → Bool
-allTo p zero = true
-allTo p (suc n) = pick (allTo p n) (p n) false
+unfoldable pub all_to : (ℕ → Bool) → ℕ → Bool
+all_to p zero = true
+all_to p (suc n) = pick (all_to p n) (p n) false

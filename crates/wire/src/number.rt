@@ -1,6 +1,6 @@
 // Big-endian numbers, read from a part and put into one.
 ghost use Rattle.std.specs.Prelude.{◌≡◌, [], ◌∷◌, ◌+◌, ◌^◌, ◌≤◌, ◌<◌, min, length, get_or};
-ghost use Rattle.wire.specs.Clauses.{is_eq, oneIf};
+ghost use Rattle.wire.specs.Clauses.{is_eq, one_if};
 ghost use Rattle.wire.specs.Numbers.{bytes, word};
 ghost use Rattle.wire.specs.Writing.{put};
 
@@ -92,7 +92,7 @@ pub fn word32(part: &[u8], at: usize) -> usize
 
 // 1 where the n bytes at a place are all 0, or don't lie inside, else 0.
 pub fn zeros(part: &[u8], at: usize, n: usize) -> usize
-    ensures { result ≡ oneIf (is_eq (word n part.now at) 0) }
+    ensures { result ≡ one_if (is_eq (word n part.now at) 0) }
 {
     if part.len() < at {
         return 1;

@@ -1,10 +1,10 @@
 // Choices as values, for chains of them.
 ghost use Rattle.std.specs.Prelude.{◌≡◌};
-ghost use Rattle.wire.specs.Tests.{ifEq};
+ghost use Rattle.wire.specs.Tests.{if_eq};
 
 // a where m is n, else b.
 pub fn choose(m: usize, n: usize, a: usize, b: usize) -> usize
-    ensures { result ≡ ifEq m n a b }
+    ensures { result ≡ if_eq m n a b }
 {
     if m == n {
         return a;

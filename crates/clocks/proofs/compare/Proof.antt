@@ -5,9 +5,9 @@ use Rattle.clocks.specs.Zones.{compared}
 use Rattle.clocks.proofs.compare.Statement.{statement}
 use Rattle.clocks.proofs.compare.Tie as tie
 
-pub compare-spec : {M : Type 1} → statement M
+pub compare_spec : {M : Type 1} → statement M
 unfolding compared
-compare-spec = tie.close (tie.spec
+compare_spec = tie.close (tie.spec
     (λ c. search rules)
     (λ c. search rules)
     (λ c. search rules)

@@ -5,8 +5,8 @@ use Rattle.clocks.proofs.Signed.{low, high, back, on}
 use Rattle.clocks.proofs.zone_of.Statement.{statement}
 use Rattle.clocks.proofs.zone_of.Tie as tie
 
-pub zone-of-spec : {M : Type 1} → statement M
-zone-of-spec = tie.close (tie.spec
+pub zone_of_spec : {M : Type 1} → statement M
+zone_of_spec = tie.close (tie.spec
     (λ c. let b = to_z-of_z w64 c.before.args.z c.before.ranges.z in low c.before.args.z (rw b at c.if1.true))
     (λ c. let b = to_z-of_z w64 c.before.before.args.z c.before.before.ranges.z in high c.before.before.args.z (rw b at c.if2.true))
     (λ c. let e = c.before.before.before in

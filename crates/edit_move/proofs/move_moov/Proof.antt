@@ -1,17 +1,17 @@
 -- The judgement, and then the move of an accepted file.
 use borrow.Author.Rules.{rules}
-use Rattle.judge.proofs.Calls.{met, result-accepted, result-refused}
-use Rattle.edit_move.specs.Moving.{moveResult}
+use Rattle.judge.proofs.Calls.{met, result_accepted, result_refused}
+use Rattle.edit_move.specs.Moving.{move_result}
 use Rattle.edit_move.proofs.move_moov.Statement.{statement}
 use Rattle.edit_move.proofs.move_moov.Tie as tie
 
-pub move-moov-spec : {M : Type 1} → statement M
-unfolding moveResult
-move-moov-spec = tie.close (tie.spec
+pub move_moov_spec : {M : Type 1} → statement M
+unfolding move_result
+move_moov_spec = tie.close (tie.spec
     (λ c κs. search rules)
     (λ c. search rules)
     (λ c κs. met _ c.before.before.before.judge.ensures c.before.enum_told.given.1)
     (λ c. search rules)
     (λ c. search rules)
-    (λ c. result-accepted _ c.before.before.before.before.before.before.judge.ensures _ _ _ c.before.before.before.before.enum_told.given.1 c.before.before.move-accepted.ensures)
-    (λ c. result-refused _ c.before.before.before.judge.ensures _ _ _ c.before.n.given.1))
+    (λ c. result_accepted _ c.before.before.before.before.before.before.judge.ensures _ _ _ c.before.before.before.before.enum_told.given.1 c.before.before.move-accepted.ensures)
+    (λ c. result_refused _ c.before.before.before.judge.ensures _ _ _ c.before.n.given.1))

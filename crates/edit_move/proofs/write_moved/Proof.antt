@@ -1,13 +1,13 @@
 -- An accepted file has a `moov`, and its second box is where that goes.
 use borrow.Author.Rules.{rules}
 use Rattle.codes.specs.Codes.{MOOV}
-use Rattle.boxes.proofs.Cutting.{cut_as, none-as}
-use Rattle.edit_move.proofs.Calls.{move-none}
+use Rattle.boxes.proofs.Cutting.{cut_as, none_as}
+use Rattle.edit_move.proofs.Calls.{move_none}
 use Rattle.edit_move.proofs.write_moved.Statement.{statement}
 use Rattle.edit_move.proofs.write_moved.Tie as tie
 
-pub write-moved-spec : {M : Type 1} → statement M
-write-moved-spec = tie.close (tie.spec
+pub write_moved_spec : {M : Type 1} → statement M
+write_moved_spec = tie.close (tie.spec
     (λ c κs. search rules)
     (λ c κs. search rules)
     (λ c. search rules)
@@ -15,4 +15,4 @@ write-moved-spec = tie.close (tie.spec
     (λ c. search rules)
     (λ c. search rules)
     (λ c. search rules)
-    (λ c. let a = c.before.before.before.before.before.before.args in absurd (move-none a.file.now c.before.before.before.before.before.before.requires.0 (none-as a.file.now MOOV 0 _ c.before.before.nth.ensures c.enum_told.given.1))))
+    (λ c. let a = c.before.before.before.before.before.before.args in absurd (move_none a.file.now c.before.before.before.before.before.before.requires.0 (none_as a.file.now MOOV 0 _ c.before.before.nth.ensures c.enum_told.given.1))))

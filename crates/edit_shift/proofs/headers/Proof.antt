@@ -3,8 +3,8 @@ use borrow.Author.Rules.{rules}
 use Rattle.edit_shift.proofs.headers.Statement.{statement}
 use Rattle.edit_shift.proofs.headers.Tie as tie
 
-pub headers-spec : {M : Type 1} → statement M
-headers-spec = tie.close (tie.spec
+pub headers_spec : {M : Type 1} → statement M
+headers_spec = tie.close (tie.spec
     (λ c κs. search rules)
     (λ c κs. search rules)
     (λ c κs. search rules)

@@ -1,7 +1,7 @@
 -- The file copied, its `moov` closed, and then one pass over it.
 use borrow.Author.Rules.{rules}
 use native.Mathlib.Omega.{arith}
-use Rattle.edit_shift.proofs.OnePass.{one-pass}
+use Rattle.edit_shift.proofs.OnePass.{one_pass}
 use Rattle.edit_shift.proofs.put_shifted.Statement.{statement}
 use Rattle.edit_shift.proofs.put_shifted.Tie as tie
 
@@ -14,5 +14,5 @@ put_shifted_spec = tie.close (tie.spec
     (λ c. search rules)
     (λ c.
     let s = c.before.before.before.before.before.before.before.before.before.before.before.before.before.before.before in
-    one-pass _ _ (λ i. (c.before.before.before.before.before.before.before.before.before.before.before.before.before.shared-slice-known.given i).fits) s.requires.2 s.requires.3 c.before.before.before.before.before.before.before.before.before.before.before.copy.ensures c.before.before.before.before.before.before.before.close.ensures
+    one_pass _ _ (λ i. (c.before.before.before.before.before.before.before.before.before.before.before.before.before.shared-slice-known.given i).fits) s.requires.2 s.requires.3 c.before.before.before.before.before.before.before.before.before.before.before.copy.ensures c.before.before.before.before.before.before.before.close.ensures
     c.before.before.before.headers.ensures c.before.before.reword-moov.ensures))

@@ -1,6 +1,6 @@
 -- The ten numbers, or the refusal.
 use borrow.Author.Rules.{rules}
-use Rattle.esds.proofs.Reading.{opened-gives, opened-refuses}
+use Rattle.esds.proofs.Reading.{opened_gives, opened_refuses}
 use Rattle.esds.proofs.read.Statement.{statement}
 use Rattle.esds.proofs.read.Tie as tie
 
@@ -14,5 +14,5 @@ read_spec = tie.close (tie.spec
     (λ c.
     let p = c.before.before in
     let u = p.before.before.before in
-    opened-gives u.before.before.open.ensures _ _ u.e.given.1 p.put.ensures)
-    (λ c. let u = c.before in opened-refuses u.before.before.open.ensures _ _ _ u.n.given.1))
+    opened_gives u.before.before.open.ensures _ _ u.e.given.1 p.put.ensures)
+    (λ c. let u = c.before in opened_refuses u.before.before.open.ensures _ _ _ u.n.given.1))

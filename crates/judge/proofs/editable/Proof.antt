@@ -2,16 +2,16 @@
 use borrow.Author.Rules.{rules}
 use mathlib.Core.Path.{sym}
 use Rattle.wire.proofs.Clauses.{yea}
-use Rattle.judge.proofs.Edits.{editable-yea, editable-nay}
+use Rattle.judge.proofs.Edits.{editable_yea, editable_nay}
 use Rattle.judge.proofs.editable.Statement.{statement}
 use Rattle.judge.proofs.editable.Tie as tie
 
-pub editable-spec : {M : Type 1} → statement M
-editable-spec = tie.close (tie.spec
+pub editable_spec : {M : Type 1} → statement M
+editable_spec = tie.close (tie.spec
     (λ c κs. search rules)
     (λ c. yea _ (sym (c.before.edits-hold.ensures.holds c.if1.true)))
     (λ c κs. search rules)
     (λ c. search rules)
     (λ c. search rules)
-    (λ c. editable-yea _ c.before.before.first.ensures c.enum_told.given.1)
-    (λ c. editable-nay _ c.before.before.first.ensures c.enum-told2.given.1))
+    (λ c. editable_yea _ c.before.before.first.ensures c.enum_told.given.1)
+    (λ c. editable_nay _ c.before.before.first.ensures c.enum-told2.given.1))

@@ -3,8 +3,8 @@ use Rattle.movie.proofs.Finding.{table_is}
 use Rattle.movie.proofs.table.Statement.{statement}
 use Rattle.movie.proofs.table.Tie as tie
 
-pub table-spec : {M : Type 1} → statement M
-table-spec = tie.close (tie.spec
+pub table_spec : {M : Type 1} → statement M
+table_spec = tie.close (tie.spec
     (λ c κs. search rules)
     (λ c κs. search rules)
     (λ c κs. search rules)

@@ -6,8 +6,8 @@ use Rattle.read_samples.proofs.Numbers.{put_two}
 use Rattle.read_samples.proofs.put_sample.Statement.{statement}
 use Rattle.read_samples.proofs.put_sample.Tie as tie
 
-pub put-sample-spec : {M : Type 1} → statement M
-put-sample-spec = tie.close (tie.spec
+pub put_sample_spec : {M : Type 1} → statement M
+put_sample_spec = tie.close (tie.spec
     (λ c. search rules)
     (λ c. search rules)
     (λ c. search rules)

@@ -1,17 +1,17 @@
 -- The judgement, and then the media ticks of the track.
 use borrow.Author.Rules.{rules}
-use Rattle.judge.proofs.Calls.{met, when-accepted, when-refused}
-use Rattle.read_tracks.specs.Reads.{mediaLength}
+use Rattle.judge.proofs.Calls.{met, when_accepted_lem, when_refused}
+use Rattle.read_tracks.specs.Reads.{media_length}
 use Rattle.read_tracks.proofs.media_ticks.Statement.{statement}
 use Rattle.read_tracks.proofs.media_ticks.Tie as tie
 
-pub media-ticks-spec : {M : Type 1} → statement M
-unfolding mediaLength
-media-ticks-spec = tie.close (tie.spec
+pub media_ticks_spec : {M : Type 1} → statement M
+unfolding media_length
+media_ticks_spec = tie.close (tie.spec
     (λ c κs. search rules)
     (λ c. search rules)
     (λ c κs. let j = c.before.before.judge-tracks.ensures in
     (met _ j.answer c.enum_told.given.1, j.tracks c.enum_told.given.1))
     (λ c. search rules)
-    (λ c. when-accepted _ c.before.before.before.judge-tracks.ensures.answer _ _ c.before.enum_told.given.1 c.media-in.ensures)
-    (λ c. when-refused _ c.before.before.before.judge-tracks.ensures.answer _ _ c.before.answer.given.1))
+    (λ c. when_accepted_lem _ c.before.before.before.judge-tracks.ensures.answer _ _ c.before.enum_told.given.1 c.media-in.ensures)
+    (λ c. when_refused _ c.before.before.before.judge-tracks.ensures.answer _ _ c.before.answer.given.1))

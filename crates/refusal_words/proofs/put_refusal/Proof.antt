@@ -1,13 +1,13 @@
 -- The pieces one after the other.
 use borrow.Author.Rules.{rules}
-use Rattle.refusal_words.specs.RefusalWords.{refusedText}
-use Rattle.wire.proofs.Writing.{pen-then}
+use Rattle.refusal_words.specs.RefusalWords.{refused_text}
+use Rattle.wire.proofs.Writing.{pen_then}
 use Rattle.refusal_words.proofs.put_refusal.Statement.{statement}
 use Rattle.refusal_words.proofs.put_refusal.Tie as tie
 
-pub put-refusal-spec : {M : Type 1} → statement M
-unfolding refusedText
-put-refusal-spec = tie.close (tie.spec
+pub put_refusal_spec : {M : Type 1} → statement M
+unfolding refused_text
+put_refusal_spec = tie.close (tie.spec
     (λ c. search rules)
     (λ c κs. search rules)
     (λ c κs. search rules)
@@ -23,5 +23,5 @@ put-refusal-spec = tie.close (tie.spec
     let b = d.before.before.before.before in
     let p = b.before.before.before.before.before in
     let a = p.before.before.before.before in
-    let placed = pen-then a.put-labelled.ensures.0 p.put-place.ensures.0 in
-    pen-then (pen-then (pen-then placed b.put-part.ensures) d.put-words.ensures.0) e.put-part2.ensures))
+    let placed = pen_then a.put-labelled.ensures.0 p.put-place.ensures.0 in
+    pen_then (pen_then (pen_then placed b.put-part.ensures) d.put-words.ensures.0) e.put-part2.ensures))

@@ -1,14 +1,14 @@
 -- Each row of the table writes its words, and a number of no row the others.
 use borrow.Author.Rules.{rules}
-use Rattle.wire.specs.Tests.{ifEq}
-use Rattle.refusal_words.specs.RefusalWords.{words_in, refusalWords}
-use Rattle.refusal_words.proofs.Words.{row_put, none-put}
+use Rattle.wire.specs.Tests.{if_eq}
+use Rattle.refusal_words.specs.RefusalWords.{words_in, refusal_words}
+use Rattle.refusal_words.proofs.Words.{row_put, none_put}
 use Rattle.refusal_words.proofs.put_words.Statement.{statement}
 use Rattle.refusal_words.proofs.put_words.Tie as tie
 
-pub put-words-spec : {M : Type 1} → statement M
-unfolding ifEq words_in refusalWords
-put-words-spec = tie.close (tie.spec
+pub put_words_spec : {M : Type 1} → statement M
+unfolding if_eq words_in refusal_words
+put_words_spec = tie.close (tie.spec
     (λ c. search rules)
     (λ c κs. search rules)
     (λ c. search rules)
@@ -112,4 +112,4 @@ put-words-spec = tie.close (tie.spec
     (λ c. search rules)
     (λ c. row_put c.before.before.before.before.before.match.keys25 c.before.before.put-part25.ensures)
     (λ c. search rules)
-    (λ c. none-put c.before.before.before.before.before.match.rest c.before.before.put-part26.ensures))
+    (λ c. none_put c.before.before.before.before.before.match.rest c.before.before.put-part26.ensures))

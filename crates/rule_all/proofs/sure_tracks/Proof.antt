@@ -3,8 +3,8 @@ use borrow.Author.Rules.{rules}
 use Rattle.rule_all.proofs.sure_tracks.Statement.{statement}
 use Rattle.rule_all.proofs.sure_tracks.Tie as tie
 
-pub sure-tracks-spec : {M : Type 1} → statement M
-sure-tracks-spec = tie.close (tie.spec
+pub sure_tracks_spec : {M : Type 1} → statement M
+sure_tracks_spec = tie.close (tie.spec
     (λ c κs. search rules)
     (λ c κs. search rules)
     (λ c κs. (λ z. c.any.ensures, c.before.before.before.before.before.requires))

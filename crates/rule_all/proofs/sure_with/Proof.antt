@@ -5,8 +5,8 @@ use Rattle.rule_all.proofs.Steps.{no_step}
 use Rattle.rule_all.proofs.sure_with.Statement.{statement}
 use Rattle.rule_all.proofs.sure_with.Tie as tie
 
-pub sure-with-spec : {M : Type 1} → statement M
-sure-with-spec = tie.close (tie.spec
+pub sure_with_spec : {M : Type 1} → statement M
+sure_with_spec = tie.close (tie.spec
     (λ c. no_step _ _ _)
     (λ c κs. search rules)
     (λ c. no_step _ _ _)

@@ -4,9 +4,9 @@ use Rattle.rule_entries.specs.Ten.{around_of}
 use Rattle.rule_entries.proofs.around_of.Statement.{statement}
 use Rattle.rule_entries.proofs.around_of.Tie as tie
 
-pub around-of-spec : {M : Type 1} → statement M
+pub around_of_spec : {M : Type 1} → statement M
 unfolding around_of
-around-of-spec = tie.close (tie.spec
+around_of_spec = tie.close (tie.spec
     (λ c κs. search rules)
     (λ c κs. search rules)
     (λ c κs. search rules)

@@ -4,8 +4,8 @@ use native.Mathlib.Omega.{arith}
 use Rattle.rule_entries.proofs.track_entries.Statement.{statement}
 use Rattle.rule_entries.proofs.track_entries.Tie as tie
 
-pub track-entries-spec : {M : Type 1} → statement M
-track-entries-spec = tie.close (tie.spec
+pub track_entries_spec : {M : Type 1} → statement M
+track_entries_spec = tie.close (tie.spec
     (λ c κs. search rules)
     (λ c κs. search rules)
     (λ c. search rules)

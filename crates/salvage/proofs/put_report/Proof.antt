@@ -13,8 +13,8 @@ returns c =
     let a = c.args in
     record { span = refl; is = sets-eq (a.size ∷ a.frames ∷ a.dropped ∷ a.first ∷ []) a.report.now 0 (omega arith) }
 
-pub put-report-spec : {M : Type 1} → statement M
-put-report-spec = tie.close (tie.spec
+pub put_report_spec : {M : Type 1} → statement M
+put_report_spec = tie.close (tie.spec
     (λ c. search rules)
     (λ c. simp length-set (omega arith))
     (λ c. simp length-set (omega arith))

@@ -4,8 +4,8 @@ use Rattle.threegp.specs.Answers.{packed}
 use Rattle.threegp.proofs.pack.Statement.{statement}
 use Rattle.threegp.proofs.pack.Tie as tie
 
-pub pack-spec : {M : Type 1} → statement M
-pack-spec = tie.close (tie.spec
+pub pack_spec : {M : Type 1} → statement M
+pack_spec = tie.close (tie.spec
     (λ c. search rules)
     (λ c κs. search rules)
     (λ c. search rules)

@@ -3,8 +3,8 @@ use Rattle.threegp.proofs.Packing.{packs}
 use Rattle.threegp.proofs.threegp_brand.Statement.{statement}
 use Rattle.threegp.proofs.threegp_brand.Tie as tie
 
-pub threegp-brand-spec : {M : Type 1} → statement M
-threegp-brand-spec = tie.close (tie.spec
+pub threegp_brand_spec : {M : Type 1} → statement M
+threegp_brand_spec = tie.close (tie.spec
     (λ c κs. search rules)
     (λ c κs. search rules)
     (λ c. packs c.pack.ensures c.before.brand.ensures))

@@ -1,11 +1,11 @@
 use borrow.Author.Rules.{rules}
-use Rattle.threegp.proofs.Packing.{for-c}
+use Rattle.threegp.proofs.Packing.{for_c}
 use Rattle.threegp.proofs.threegp_listing.Statement.{statement}
 use Rattle.threegp.proofs.threegp_listing.Tie as tie
 
-pub threegp-listing-spec : {M : Type 1} → statement M
-threegp-listing-spec = tie.close (tie.spec
+pub threegp_listing_spec : {M : Type 1} → statement M
+threegp_listing_spec = tie.close (tie.spec
     (λ c κs. search rules)
     (λ c κs. search rules)
     (λ c. search rules)
-    (λ c. for-c c.pack.ensures c.before.before.before.listing.ensures))
+    (λ c. for_c c.pack.ensures c.before.before.before.listing.ensures))

@@ -1,11 +1,11 @@
 use borrow.Author.Rules.{rules}
-use Rattle.threegp.proofs.Packing.{for-c}
+use Rattle.threegp.proofs.Packing.{for_c}
 use Rattle.threegp.proofs.threegp_samples.Statement.{statement}
 use Rattle.threegp.proofs.threegp_samples.Tie as tie
 
-pub threegp-samples-spec : {M : Type 1} → statement M
-threegp-samples-spec = tie.close (tie.spec
+pub threegp_samples_spec : {M : Type 1} → statement M
+threegp_samples_spec = tie.close (tie.spec
     (λ c κs. search rules)
     (λ c κs. search rules)
     (λ c. search rules)
-    (λ c. for-c c.pack.ensures c.before.before.before.samples.ensures))
+    (λ c. for_c c.pack.ensures c.before.before.before.samples.ensures))

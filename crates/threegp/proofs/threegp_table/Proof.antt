@@ -1,11 +1,11 @@
 use borrow.Author.Rules.{rules}
-use Rattle.threegp.proofs.Packing.{for-c}
+use Rattle.threegp.proofs.Packing.{for_c}
 use Rattle.threegp.proofs.threegp_table.Statement.{statement}
 use Rattle.threegp.proofs.threegp_table.Tie as tie
 
-pub threegp-table-spec : {M : Type 1} → statement M
-threegp-table-spec = tie.close (tie.spec
+pub threegp_table_spec : {M : Type 1} → statement M
+threegp_table_spec = tie.close (tie.spec
     (λ c κs. search rules)
     (λ c κs. search rules)
     (λ c. search rules)
-    (λ c. for-c c.pack.ensures c.before.before.before.table.ensures))
+    (λ c. for_c c.pack.ensures c.before.before.before.table.ensures))

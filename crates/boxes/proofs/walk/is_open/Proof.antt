@@ -2,15 +2,15 @@
 use borrow.Author.Rules.{rules}
 use mathlib.Core.Path.{sym, ap}
 use Rattle.wire.proofs.Clauses.{yea, nay}
-use Rattle.boxes.specs.Box.{isOpen}
+use Rattle.boxes.specs.Box.{is_open}
 use Rattle.boxes.proofs.walk.is_open.Statement.{statement}
 use Rattle.boxes.proofs.walk.is_open.Tie as tie
 
-pub is-open-spec : {M : Type 1} → statement M
-is-open-spec = tie.close (tie.spec
+pub is_open_spec : {M : Type 1} → statement M
+is_open_spec = tie.close (tie.spec
     (λ c. search rules)
     (λ c. search rules)
     (λ c. search rules)
-    (λ c. nay _ (sym (ap isOpen c.enum_told.given.1)))
-    (λ c. nay _ (sym (ap isOpen c.enum-told2.given.1)))
-    (λ c. yea _ (sym (ap isOpen c.enum-told3.given.1))))
+    (λ c. nay _ (sym (ap is_open c.enum_told.given.1)))
+    (λ c. nay _ (sym (ap is_open c.enum-told2.given.1)))
+    (λ c. yea _ (sym (ap is_open c.enum-told3.given.1))))

@@ -6,8 +6,8 @@ use Rattle.boxes.specs.Box.{is_plain}
 use Rattle.boxes.proofs.walk.is_plain.Statement.{statement}
 use Rattle.boxes.proofs.walk.is_plain.Tie as tie
 
-pub is-plain-spec : {M : Type 1} → statement M
-is-plain-spec = tie.close (tie.spec
+pub is_plain_spec : {M : Type 1} → statement M
+is_plain_spec = tie.close (tie.spec
     (λ c. search rules)
     (λ c. search rules)
     (λ c. search rules)

@@ -1,9 +1,9 @@
 -- The cycle of calls {put_around, put_box, put_turn, put_way}. With n numbers left the measures are 4n + 2, 4n + 1, 4n + 3 and 4n.
 use Prim.Native.Nat.{ℕ, ◌+◌, ◌-◌, ◌*◌, ◌<◌}
-use Rattle.boxes.proofs.Putting.{take-size, around-room, around-end, around-put, turn-room, way-put}
-use Rattle.boxes.proofs.Turning.{pen-box, nth-at, nth-missing, way_end, way-length}
-use Rattle.boxes.specs.Way.{turns, tailBy, editWay}
-use Rattle.wire.proofs.Writing.{pen-is}
+use Rattle.boxes.proofs.Putting.{take_size, around_room, around_end, around_put, turn_room, way_put}
+use Rattle.boxes.proofs.Turning.{pen_box, nth_at, nth_missing, way_end, way_length}
+use Rattle.boxes.specs.Way.{turns, tail_by, edit_way}
+use Rattle.wire.proofs.Writing.{pen_is}
 use lib.ListN.{length, drop, length-take}
 use mathlib.Core.Path.{refl}
 use native.Mathlib.Omega.{arith}
@@ -31,7 +31,7 @@ use Rattle.wire.proofs.number.least.Reads as least-reads
 use Rattle.wire.proofs.pen.put_part.Reads as put-part-reads
 use Rattle.boxes.proofs.way.+put_around_put_box_put_turn_put_way.{statement}
 use Rattle.boxes.proofs.way.+put_around_put_box_put_turn_put_way.Tie.{close}
-use Rattle.boxes.proofs.Cutting.{cut_as, none-as}
+use Rattle.boxes.proofs.Cutting.{cut_as, none_as}
 
 abbrev μ-put-around : Measures 4 put-around-kinds.ps ℕ
 μ-put-around κs a = 4 * (length a.1.1.1.1.0.now - a.1.1.1.1.1.0) + 2
@@ -45,69 +45,69 @@ abbrev μ-put-turn : Measures 4 put-turn-kinds.ps ℕ
 abbrev μ-put-way : Measures 4 put-way-kinds.ps ℕ
 μ-put-way κs a = 4 * (length a.1.1.1.0.now - a.1.1.1.1.0)
 
-abbrev put-around-below : ℕ → In 4 put-around-kinds.ps
-put-around-below t = and 4 put-around-kinds.ps (falls 4 put-around-kinds.ps ◌<◌ μ-put-around t) put-around.Pre
+abbrev put_around_below : ℕ → In 4 put-around-kinds.ps
+put_around_below t = and 4 put-around-kinds.ps (falls 4 put-around-kinds.ps ◌<◌ μ-put-around t) put-around.Pre
 
-abbrev put-box-below : ℕ → In 4 put-box-kinds.ps
-put-box-below t = and 4 put-box-kinds.ps (falls 4 put-box-kinds.ps ◌<◌ μ-put-box t) put-box.Pre
+abbrev put_box_below : ℕ → In 4 put-box-kinds.ps
+put_box_below t = and 4 put-box-kinds.ps (falls 4 put-box-kinds.ps ◌<◌ μ-put-box t) put-box.Pre
 
-abbrev put-turn-at : ℕ → In 4 put-turn-kinds.ps
-put-turn-at t = and 4 put-turn-kinds.ps (is 4 put-turn-kinds.ps μ-put-turn t) put-turn.Pre
+abbrev put_turn_at : ℕ → In 4 put-turn-kinds.ps
+put_turn_at t = and 4 put-turn-kinds.ps (is 4 put-turn-kinds.ps μ-put-turn t) put-turn.Pre
 
-abbrev put-turn-below : ℕ → In 4 put-turn-kinds.ps
-put-turn-below t = and 4 put-turn-kinds.ps (falls 4 put-turn-kinds.ps ◌<◌ μ-put-turn t) put-turn.Pre
+abbrev put_turn_below : ℕ → In 4 put-turn-kinds.ps
+put_turn_below t = and 4 put-turn-kinds.ps (falls 4 put-turn-kinds.ps ◌<◌ μ-put-turn t) put-turn.Pre
 
-abbrev put-way-at : ℕ → In 4 put-way-kinds.ps
-put-way-at t = and 4 put-way-kinds.ps (is 4 put-way-kinds.ps μ-put-way t) put-way.Pre
+abbrev put_way_at : ℕ → In 4 put-way-kinds.ps
+put_way_at t = and 4 put-way-kinds.ps (is 4 put-way-kinds.ps μ-put-way t) put-way.Pre
 
-abbrev put-way-below : ℕ → In 4 put-way-kinds.ps
-put-way-below t = and 4 put-way-kinds.ps (falls 4 put-way-kinds.ps ◌<◌ μ-put-way t) put-way.Pre
+abbrev put_way_below : ℕ → In 4 put-way-kinds.ps
+put_way_below t = and 4 put-way-kinds.ps (falls 4 put-way-kinds.ps ◌<◌ μ-put-way t) put-way.Pre
 
 pub +put-around-put-box-put-turn-put-way-spec : {M : Type 1} → statement M
 +put-around-put-box-put-turn-put-way-spec = close μ-put-around μ-put-box μ-put-turn μ-put-way
-    (λ t. put-around-lts.spec (put-part-reads.Asked, put-part-reads.Learnt, body-Reads.Asked, body-Reads.Learnt, put-box-below t, put-box.Post) (and 4 put-around-kinds.ps (is 4 put-around-kinds.ps μ-put-around t) put-around.Pre) put-around.Post
+    (λ t. put-around-lts.spec (put-part-reads.Asked, put-part-reads.Learnt, body-Reads.Asked, body-Reads.Learnt, put_box_below t, put-box.Post) (and 4 put-around-kinds.ps (is 4 put-around-kinds.ps μ-put-around t) put-around.Pre) put-around.Post
     (λ c. search rules)
-    (λ c. take-size _ _ (omega arith))
+    (λ c. take_size _ _ (omega arith))
     (λ c κs. rw length-take (omega arith))
     (λ c κs. search rules)
-    (λ c κs. let a = c.before.before.before.before.before.before.before.before.before.before.before.before.args in let p = c.before.before.before.before.before.before.before.before.before.before.before.before.requires.1 in let h = around-room a.src.now a.b p.1 p.2 p.3 c.before.before.before.before.put-part.ensures _ c.body.ensures in (omega arith, (omega arith, p.1, omega arith)))
+    (λ c κs. let a = c.before.before.before.before.before.before.before.before.before.before.before.before.args in let p = c.before.before.before.before.before.before.before.before.before.before.before.before.requires.1 in let h = around_room a.src.now a.b p.1 p.2 p.3 c.before.before.before.before.put-part.ensures _ c.body.ensures in (omega arith, (omega arith, p.1, omega arith)))
     (λ c. search rules)
     (λ c. search rules)
     (λ c. search rules)
     (λ c κs. let a = c.before.before.before.before.before.before.before.before.before.before.before.before.before.before.before.before.before.args in let p = c.before.before.before.before.before.before.before.before.before.before.before.before.before.before.before.before.before.requires.1 in
-    let h = around-end a.src.now a.b p.1 p.2 p.3 c.before.before.before.before.before.before.before.before.before.put-part.ensures _ c.before.before.before.before.before.body.ensures (editWay (turns (drop a.i a.way.now)) (tailBy a.keep a.new.now) _) _ _ (way-length (turns (drop a.i a.way.now)) a.keep a.new.now _) c.before.before.before.before.put-box.ensures in omega arith)
+    let h = around_end a.src.now a.b p.1 p.2 p.3 c.before.before.before.before.before.before.before.before.before.put-part.ensures _ c.before.before.before.before.before.body.ensures (edit_way (turns (drop a.i a.way.now)) (tail_by a.keep a.new.now) _) _ _ (way_length (turns (drop a.i a.way.now)) a.keep a.new.now _) c.before.before.before.before.put-box.ensures in omega arith)
     (λ c. search rules)
-    (λ c. let a = c.before.before.before.before.before.before.before.before.before.before.before.before.before.before.before.before.before.before.before.before.args in around-put a.src.now a.b _ c.before.before.before.before.before.before.before.before.before.before.before.before.put-part.ensures (rw c.before.before.before.before.before.before.before.before.body.ensures at c.before.before.before.before.before.before.before.put-box.ensures) c.before.before.put-part2.ensures (omega arith)))
-    (λ t. put-box-lts.spec (put-way-below t, put-way.Post, put-header-reads.Asked, put-header-reads.Learnt) (and 4 put-box-kinds.ps (is 4 put-box-kinds.ps μ-put-box t) put-box.Pre) put-box.Post
+    (λ c. let a = c.before.before.before.before.before.before.before.before.before.before.before.before.before.before.before.before.before.before.before.before.args in around_put a.src.now a.b _ c.before.before.before.before.before.before.before.before.before.before.before.before.put-part.ensures (rw c.before.before.before.before.before.before.before.before.body.ensures at c.before.before.before.before.before.before.before.put-box.ensures) c.before.before.put-part2.ensures (omega arith)))
+    (λ t. put-box-lts.spec (put_way_below t, put-way.Post, put-header-reads.Asked, put-header-reads.Learnt) (and 4 put-box-kinds.ps (is 4 put-box-kinds.ps μ-put-box t) put-box.Pre) put-box.Post
     (λ c. search rules)
     (λ c κs. search rules)
-    (λ c κs. let s = c.before.before.before.before.before.before.before.before.before.before in let a = s.args in let h = way-length (turns (drop a.i a.way.now)) a.keep a.new.now a.body.now in let e = c.before.before.before.put-way.ensures.next in (omega (arith, s.requires.1.1), omega arith))
+    (λ c κs. let s = c.before.before.before.before.before.before.before.before.before.before in let a = s.args in let h = way_length (turns (drop a.i a.way.now)) a.keep a.new.now a.body.now in let e = c.before.before.before.put-way.ensures.next in (omega (arith, s.requires.1.1), omega arith))
     (λ c. search rules)
     (λ c. let s = c.before.before.before.before.before.before.before.before.before.before.before.before.before in
-    pen-box s.args.b.form s.args.b.code s.requires.1.1 c.before.before.before.before.before.before.put-way.ensures refl c.before.before.put-header.ensures))
-    (λ t. put-turn-lts.spec (nth-reads.Asked, nth-reads.Learnt, put-around-below t, put-around.Post, put-part-reads.Asked, put-part-reads.Learnt) (put-turn-at t) put-turn.Post
+    pen_box s.args.b.form s.args.b.code s.requires.1.1 c.before.before.before.before.before.before.put-way.ensures refl c.before.before.put-header.ensures))
+    (λ t. put-turn-lts.spec (nth-reads.Asked, nth-reads.Learnt, put_around_below t, put-around.Post, put-part-reads.Asked, put-part-reads.Learnt) (put_turn_at t) put-turn.Post
     (λ c κs. search rules)
     (λ c. search rules)
     (λ c κs. let a = c.before.before.before.before.before.before.before.before.before.args in let s = cut_as a.src.now a.t.code a.t.nth _ c.before.before.before.before.nth.ensures _ c.before.before.b.given.1 in (omega arith, (omega arith, s.head, s.least, s.inside, omega arith)))
     (λ c. search rules)
     (λ c κs. search rules)
     (λ c. search rules)
-    (λ c. let a = c.before.before.before.before.before.before.before.before.before.before.before.before.args in let s = cut_as a.src.now a.t.code a.t.nth _ c.before.before.before.before.before.before.before.nth.ensures _ c.before.before.before.before.before.b.given.1 in pen-is (nth-at _ _ _ _ s) c.before.before.put-around.ensures)
+    (λ c. let a = c.before.before.before.before.before.before.before.before.before.before.before.before.args in let s = cut_as a.src.now a.t.code a.t.nth _ c.before.before.before.before.before.before.before.nth.ensures _ c.before.before.before.before.before.b.given.1 in pen_is (nth_at _ _ _ _ s) c.before.before.put-around.ensures)
     (λ c. search rules)
-    (λ c. let a = c.before.before.before.before.before.before.before.before.before.before.before.args in pen-is (nth-missing _ _ _ _ (λ i. (c.before.before.before.before.before.before.before.before.before.shared-slice-known.given i).fits) (none-as a.src.now a.t.code a.t.nth _ c.before.before.before.before.before.before.nth.ensures c.before.before.before.before.enum_told.given.1)) c.before.before.put-part.ensures))
-    (λ t. put-way-lts.spec (put-tail-reads.Asked, put-tail-reads.Learnt, turn-at-reads.Asked, turn-at-reads.Learnt, least-reads.Asked, least-reads.Learnt, put-part-reads.Asked, put-part-reads.Learnt, put-turn-below t, put-turn.Post) (put-way-at t) put-way.Post
+    (λ c. let a = c.before.before.before.before.before.before.before.before.before.before.before.args in pen_is (nth_missing _ _ _ _ (λ i. (c.before.before.before.before.before.before.before.before.before.shared-slice-known.given i).fits) (none_as a.src.now a.t.code a.t.nth _ c.before.before.before.before.before.before.nth.ensures c.before.before.before.before.enum_told.given.1)) c.before.before.put-part.ensures))
+    (λ t. put-way-lts.spec (put-tail-reads.Asked, put-tail-reads.Learnt, turn-at-reads.Asked, turn-at-reads.Learnt, least-reads.Asked, least-reads.Learnt, put-part-reads.Asked, put-part-reads.Learnt, put_turn_below t, put-turn.Post) (put_way_at t) put-way.Post
     (λ c. search rules)
     (λ c κs. search rules)
     (λ c. search rules)
-    (λ c. let a = c.before.before.before.before.before.before.before.before.before.args in pen-is (way_end a.way.now a.i _ _ (omega arith)) c.before.before.put-tail.ensures)
+    (λ c. let a = c.before.before.before.before.before.before.before.before.before.args in pen_is (way_end a.way.now a.i _ _ (omega arith)) c.before.before.put_tail.ensures)
     (λ c κs. search rules)
     (λ c κs. search rules)
-    (λ c. take-size _ _ (omega arith))
+    (λ c. take_size _ _ (omega arith))
     (λ c κs. rw length-take (omega arith))
     (λ c. search rules)
     (λ c. search rules)
     (λ c. search rules)
     (λ c. search rules)
-    (λ c κs. let h = turn-room c.before.before.before.before.before.before.before.least.result c.before.before.before.before.before.before.before.before.before.before.before.before.before.before.args.src.now (omega arith) c.before.before.before.before.put-part.ensures in (omega arith, (omega arith, omega arith)))
+    (λ c κs. let h = turn_room c.before.before.before.before.before.before.before.least.result c.before.before.before.before.before.before.before.before.before.before.before.before.before.before.args.src.now (omega arith) c.before.before.before.before.put-part.ensures in (omega arith, (omega arith, omega arith)))
     (λ c. search rules)
-    (λ c. way-put _ _ c.before.before.before.before.before.before.before.before.before.before.before.turn_at.ensures _ _ c.before.before.before.before.before.before.before.before.before.before.least.ensures c.before.before.before.before.before.before.before.put-part.ensures c.before.before.put-turn.ensures))
+    (λ c. way_put _ _ c.before.before.before.before.before.before.before.before.before.before.before.turn_at.ensures _ _ c.before.before.before.before.before.before.before.before.before.before.least.ensures c.before.before.before.before.before.before.before.put-part.ensures c.before.before.put-turn.ensures))

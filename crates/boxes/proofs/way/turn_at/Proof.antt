@@ -6,8 +6,8 @@ use native.Mathlib.Omega.{arith}
 use Rattle.boxes.proofs.way.turn_at.Statement.{statement}
 use Rattle.boxes.proofs.way.turn_at.Tie as tie
 
-pub turn-at-spec : {M : Type 1} → statement M
-turn-at-spec = tie.close (tie.spec
+pub turn_at_spec : {M : Type 1} → statement M
+turn_at_spec = tie.close (tie.spec
     (λ c. search rules)
     (λ c. search rules)
     (λ c. search rules)

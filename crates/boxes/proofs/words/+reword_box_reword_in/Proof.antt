@@ -1,11 +1,11 @@
 -- The cycle of calls {reword_box, reword_in}. At depth d the measures are 2d and 2d + 1.
 use Prim.Native.Nat.{ℕ, ◌+◌, ◌-◌, ◌*◌, ◌<◌}
-use Rattle.boxes.proofs.Editing.{edit-leaf, edit-node, edit-shallow, edit-deep, box-length}
-use Rattle.boxes.proofs.InPlace.{in-body, looped-none, looped-last, looped-more}
+use Rattle.boxes.proofs.Editing.{edit_leaf, edit_node, edit_shallow, edit_deep, box_length}
+use Rattle.boxes.proofs.InPlace.{in_body_lem, looped_none, looped_last, looped_more}
 use Rattle.boxes.proofs.Walking.{ran, ended, broke}
-use Rattle.boxes.proofs.Aiming.{each-by, each-length}
-use Rattle.boxes.specs.Rewrite.{editBox, editIn, in_body, Looped}
-use Rattle.boxes.specs.Words.{moved, rewordEach}
+use Rattle.boxes.proofs.Aiming.{each_by, each_length}
+use Rattle.boxes.specs.Rewrite.{edit_box, edit_in, in_body, Looped}
+use Rattle.boxes.specs.Words.{moved, reword_each}
 use Rattle.wire.specs.Numbers.{Bytes}
 use lib.ListN.{length}
 use mathlib.Core.Path.{ap, ◌∙◌}
@@ -32,27 +32,27 @@ abbrev μ-reword-box : Measures 1 reword-box-kinds.ps ℕ
 abbrev μ-reword-in : Measures 1 reword-in-kinds.ps ℕ
 μ-reword-in κs a = 2 * a.1.1.0 + 1
 
-abbrev reword-box-at : ℕ → In 1 reword-box-kinds.ps
-reword-box-at t = and 1 reword-box-kinds.ps (is 1 reword-box-kinds.ps μ-reword-box t) reword-box.Pre
+abbrev reword_box_at : ℕ → In 1 reword-box-kinds.ps
+reword_box_at t = and 1 reword-box-kinds.ps (is 1 reword-box-kinds.ps μ-reword-box t) reword-box.Pre
 
-abbrev reword-box-below : ℕ → In 1 reword-box-kinds.ps
-reword-box-below t = and 1 reword-box-kinds.ps (falls 1 reword-box-kinds.ps ◌<◌ μ-reword-box t) reword-box.Pre
+abbrev reword_box_below : ℕ → In 1 reword-box-kinds.ps
+reword_box_below t = and 1 reword-box-kinds.ps (falls 1 reword-box-kinds.ps ◌<◌ μ-reword-box t) reword-box.Pre
 
-abbrev reword-in-at : ℕ → In 1 reword-in-kinds.ps
-reword-in-at t = and 1 reword-in-kinds.ps (is 1 reword-in-kinds.ps μ-reword-in t) reword-in.Pre
+abbrev reword_in_at : ℕ → In 1 reword-in-kinds.ps
+reword_in_at t = and 1 reword-in-kinds.ps (is 1 reword-in-kinds.ps μ-reword-in t) reword-in.Pre
 
-abbrev reword-in-below : ℕ → In 1 reword-in-kinds.ps
-reword-in-below t = and 1 reword-in-kinds.ps (falls 1 reword-in-kinds.ps ◌<◌ μ-reword-in t) reword-in.Pre
+abbrev reword_in_below : ℕ → In 1 reword-in-kinds.ps
+reword_in_below t = and 1 reword-in-kinds.ps (falls 1 reword-in-kinds.ps ◌<◌ μ-reword-in t) reword-in.Pre
 
-abbrev reword-in-Inv-loop : reword-in-lts.invariant-loop
-reword-in-Inv-loop part₀ k depth ts by t w₀ part w = Looped (editBox (rewordEach ts (moved by)) (editIn (rewordEach ts (moved by)) (depth - 1)) k) part₀ part w.at × Bytes part
+abbrev reword_in_Inv_loop : reword-in-lts.invariant_loop
+reword_in_Inv_loop part₀ k depth ts by t w₀ part w = Looped (edit_box (reword_each ts (moved by)) (edit_in (reword_each ts (moved by)) (depth - 1)) k) part₀ part w.at × Bytes part
 
-abbrev reword-in-μ-loop : reword-in-lts.decreases-loop
-reword-in-μ-loop part₀ k depth ts by t w₀ part w = length part - w.at
+abbrev reword_in_μ_loop : reword-in-lts.decreases_loop
+reword_in_μ_loop part₀ k depth ts by t w₀ part w = length part - w.at
 
 pub +reword-box-reword-in-spec : {M : Type 1} → statement M
 +reword-box-reword-in-spec = close μ-reword-box μ-reword-in
-    (λ t. reword-box-lts.spec (kind-in-reads.Asked, kind-in-reads.Learnt, reword-leaf-reads.Asked, reword-leaf-reads.Learnt, reword-in-below t, reword-in.Post) (reword-box-at t) reword-box.Post
+    (λ t. reword-box-lts.spec (kind-in-reads.Asked, kind-in-reads.Learnt, reword-leaf-reads.Asked, reword-leaf-reads.Learnt, reword_in_below t, reword-in.Post) (reword_box_at t) reword-box.Post
     (λ c. search rules)
     (λ c. search rules)
     (λ c κs. search rules)
@@ -62,7 +62,7 @@ pub +reword-box-reword-in-spec : {M : Type 1} → statement M
     (λ c κs. search rules)
     (λ c. search rules)
     (λ c. let u = c.before.before.before.before in let a = c.before.before.before.before.before.before.before.before.before.args in
-    in-body a.part.now a.b _ (omega arith) ∙ ap (in_body a.part.now a.b) (edit-leaf _ _ _ _ _ u.before.kind-in.ensures u.if1.true (each-by a.ts _ a.k _ _ c.before.before.before.before.before.before.before.before.before.requires.1.4 c.before.before.reword-leaf.ensures)))
+    in_body_lem a.part.now a.b _ (omega arith) ∙ ap (in_body a.part.now a.b) (edit_leaf _ _ _ _ _ u.before.kind-in.ensures u.if1.true (each_by a.ts _ a.k _ _ c.before.before.before.before.before.before.before.before.before.requires.1.4 c.before.before.reword-leaf.ensures)))
     (λ c. search rules)
     (λ c. search rules)
     (λ c. search rules)
@@ -70,11 +70,11 @@ pub +reword-box-reword-in-spec : {M : Type 1} → statement M
     (λ c κs. search rules)
     (λ c. search rules)
     (λ c. let u = c.before.before.before.before in let a = c.before.before.before.before.before.before.before.before.before.args in
-    in-body a.part.now a.b _ (omega arith) ∙ ap (in_body a.part.now a.b) (edit-node _ _ _ _ _ u.before.kind-in.ensures u.if1.false c.before.before.reword-in.ensures)))
-    (λ t. reword-in-lts.spec (target-in-reads.Asked, target-in-reads.Learnt, step-reads.Asked, step-reads.Learnt, reword-box-below t, reword-box.Post) (reword-in-at t) reword-in.Post reword-in-Inv-loop reword-in-μ-loop
-    (λ c. edit-shallow _ _ _ _ c.if1.true)
+    in_body_lem a.part.now a.b _ (omega arith) ∙ ap (in_body a.part.now a.b) (edit_node _ _ _ _ _ u.before.kind-in.ensures u.if1.false c.before.before.reword-in.ensures)))
+    (λ t. reword-in-lts.spec (target-in-reads.Asked, target-in-reads.Learnt, step-reads.Asked, step-reads.Learnt, reword_box_below t, reword-box.Post) (reword_in_at t) reword-in.Post reword_in_Inv_loop reword_in_μ_loop
+    (λ c. edit_shallow _ _ _ _ c.if1.true)
     (λ c κs. search rules)
-    (λ c. (looped-none _ _, λ i. (c.before.before.slice-known.given i).fits))
+    (λ c. (looped_none _ _, λ i. (c.before.before.slice-known.given i).fits))
     (λ c κs. search rules)
     (λ c. search rules)
     (λ c κs. let t = c.before.before.before.before in let s = ran _ _ _ _ _ t.step.ensures c.before.before.b.given.1 in (omega arith, (s.least, omega arith, omega arith, t.before.before.before.before.before.before.requires.1, t.before.before.before.target-in.ensures)))
@@ -83,10 +83,10 @@ pub +reword-box-reword-in-spec : {M : Type 1} → statement M
     (λ c. let t = c.before.before.before.before.before.before.before in
     let s = ran _ _ _ _ _ t.step.ensures c.before.before.before.before.before.b.given.1 in
     let i = t.before.before.loop.invariant in
-    (looped-more _ i.0 (box-length _ (each-length _ _) _ _) i.1 s c.before.before.reword-box.ensures, λ j. (c.slice-known2.given j).fits))
+    (looped_more _ i.0 (box_length _ (each_length _ _) _ _) i.1 s c.before.before.reword-box.ensures, λ j. (c.slice-known2.given j).fits))
     (λ c. search rules)
     (λ c. search rules)
-    (λ c. let t = c.before.before in let l = t.before.before in looped-last _ l.loop.invariant.0 (ended _ _ _ t.step.ensures c.enum_told.given.1).0 ∙ edit-deep _ _ _ _ l.before.before.if1.false)
+    (λ c. let t = c.before.before in let l = t.before.before in looped_last _ l.loop.invariant.0 (ended _ _ _ t.step.ensures c.enum_told.given.1).0 ∙ edit_deep _ _ _ _ l.before.before.if1.false)
     (λ c. search rules)
     (λ c. search rules)
-    (λ c. let t = c.before.before in let l = t.before.before in looped-last _ l.loop.invariant.0 (broke _ _ _ _ t.step.ensures c.enum-told2.given.1).0 ∙ edit-deep _ _ _ _ l.before.before.if1.false))
+    (λ c. let t = c.before.before in let l = t.before.before in looped_last _ l.loop.invariant.0 (broke _ _ _ _ t.step.ensures c.enum-told2.given.1).0 ∙ edit_deep _ _ _ _ l.before.before.if1.false))

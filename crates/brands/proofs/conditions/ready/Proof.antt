@@ -1,11 +1,11 @@
 -- The second box is `moov`.
 use borrow.Author.Rules.{rules}
-use Rattle.brands.proofs.Holding.{ready-is}
+use Rattle.brands.proofs.Holding.{ready_is}
 use Rattle.brands.proofs.conditions.ready.Statement.{statement}
 use Rattle.brands.proofs.conditions.ready.Tie as tie
 
-pub ready-spec : {M : Type 1} → statement M
-ready-spec = tie.close (tie.spec
+pub ready_spec : {M : Type 1} → statement M
+ready_spec = tie.close (tie.spec
     (λ c κs. search rules)
     (λ c κs. search rules)
-    (λ c. ready-is _ c.before.second.ensures c.equal.ensures.0))
+    (λ c. ready_is _ c.before.second.ensures c.equal.ensures.0))

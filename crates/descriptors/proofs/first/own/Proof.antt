@@ -2,13 +2,13 @@
 use borrow.Author.Rules.{rules}
 use native.Mathlib.Omega.{arith}
 use mathlib.Core.Path.{refl, sym}
-use Rattle.descriptors.specs.Trees.{firstOwn}
-use Rattle.descriptors.proofs.Firsts.{first_ends, first-own, not_there}
+use Rattle.descriptors.specs.Trees.{first_own}
+use Rattle.descriptors.proofs.Firsts.{first_ends, first_own_lem, not_there}
 use Rattle.descriptors.proofs.first.own.Statement.{statement}
 use Rattle.descriptors.proofs.first.own.Tie as tie
 
-pub own-spec : {M : Type 1} → statement M
-own-spec = tie.close (tie.spec
+pub own_spec : {M : Type 1} → statement M
+own_spec = tie.close (tie.spec
     (λ c κs. search rules)
     (λ c. search rules)
     (λ c κs. search rules)
@@ -20,5 +20,5 @@ own-spec = tie.close (tie.spec
     (λ c. search rules)
     (λ c. search rules)
     (λ c. search rules)
-    (λ c. let p = c.before.before in let u = p.before.before in first-own _ _ u.before.before.read.ensures u.d.given.1 p.part_in.ensures c.own.ensures)
-    (λ c. let t = c.before in sym (not_there _ _ t.before.before.read.ensures t.enum_told.given.1 firstOwn refl)))
+    (λ c. let p = c.before.before in let u = p.before.before in first_own_lem _ _ u.before.before.read.ensures u.d.given.1 p.part_in.ensures c.own.ensures)
+    (λ c. let t = c.before in sym (not_there _ _ t.before.before.read.ensures t.enum_told.given.1 first_own refl)))

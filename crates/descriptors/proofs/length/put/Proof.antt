@@ -15,4 +15,4 @@ put_spec = tie.close (tie.spec
     (λ c.
     let p = c.before.before in
     let q = p.before.before.before.before in
-    (put_last _ q.before.Least-more.ensures.0 q.put-more.ensures.0 p.put_byte.ensures, omega (arith, p.put_byte.ensures.next))))
+    (put_last _ q.before.Least-more.ensures.0 q.put_more.ensures.0 p.put_byte.ensures, omega (arith, p.put_byte.ensures.next))))

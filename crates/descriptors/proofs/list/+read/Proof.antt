@@ -6,10 +6,10 @@ use borrow.Fn.PlainCycle.{Measures, is, falls, and}
 use native.Mathlib.Omega.{arith}
 use mathlib.Core.Path.{◌≡◌, refl, sym, ◌∙◌}
 use lib.ListN.{length, drop}
-use Rattle.wire.proofs.Lists.{tail-is}
+use Rattle.wire.proofs.Lists.{tail_is}
 use Rattle.descriptors.specs.Trees.{tree}
 use Rattle.descriptors.specs.Reading.{read_on}
-use Rattle.descriptors.proofs.Readings.{Stands, stands, within-less, read_more, read-loose, read_all}
+use Rattle.descriptors.proofs.Readings.{Stands, stands, within_less, read_more, read_loose, read_all}
 use Rattle.descriptors.proofs.list.read.Reads as read
 use Rattle.descriptors.proofs.list.read.Kinds as read-kinds
 use Rattle.descriptors.proofs.list.+read.Lts-read as read-lts
@@ -32,11 +32,11 @@ abbrev read_below : ℕ → In 1 read-kinds.ps
 read_below t = and 1 read-kinds.ps (falls 1 read-kinds.ps ◌<◌ μ-read t) read.Pre
 
 -- those from the place on are left
-abbrev invariant-loop : read-lts.invariant-loop
-invariant-loop bytes k r₀ at₀ r at = (at ≤ length bytes) × (read_on r₀ (tree k bytes) ≡ read_on r (tree k (drop at bytes)))
+abbrev invariant_loop : read-lts.invariant_loop
+invariant_loop bytes k r₀ at₀ r at = (at ≤ length bytes) × (read_on r₀ (tree k bytes) ≡ read_on r (tree k (drop at bytes)))
 
-abbrev decreases-loop : read-lts.decreases-loop
-decreases-loop bytes k r₀ at₀ r at = length bytes - at
+abbrev decreases_loop : read-lts.decreases_loop
+decreases_loop bytes k r₀ at₀ r at = length bytes - at
 
 -- a descriptor that is found stands at the place
 standing : (t : ℕ)
@@ -53,9 +53,9 @@ standing : (t : ℕ)
       held_reads.Learnt,
       read_below t,
       read.Post,
-    ) (read_at t) read.Post invariant-loop decreases-loop)
+    ) (read_at t) read.Post invariant_loop decreases_loop)
     → Stands u.before.before.before.before.before.before.before.args.bytes.now u.before.before.before.before.before.loop.at u.d.given.0.0
-standing t u = stands _ _ (tail-is _ _ u.before.before.before.before.before.loop.invariant.0) u.before.before.read.ensures u.d.given.1
+standing t u = stands _ _ (tail_is _ _ u.before.before.before.before.before.loop.invariant.0) u.before.before.read.ensures u.d.given.1
 
 pub +read-spec : {M : Type 1} → statement M
 +read-spec = close μ-read λ t. read-lts.spec (
@@ -74,8 +74,8 @@ pub +read-spec : {M : Type 1} → statement M
 )
     (read_at t)
     read.Post
-    invariant-loop
-    decreases-loop
+    invariant_loop
+    decreases_loop
     (λ c. (omega arith, refl))
     (λ c. search rules)
     (λ c. search rules)
@@ -91,7 +91,7 @@ pub +read-spec : {M : Type 1} → statement M
     (λ c κs. search rules)
     (λ c κs. search rules)
     (λ c κs. search rules)
-    (λ c κs. let a = c.before.before.before.before.before.before.before.before.before.before.before.before.before.before.before in (omega (arith, within-less (standing t c.before.before.before.before.before.before.before.before), c.held.ensures.1, a.requires.0), a.requires.1))
+    (λ c κs. let a = c.before.before.before.before.before.before.before.before.before.before.before.before.before.before.before in (omega (arith, within_less (standing t c.before.before.before.before.before.before.before.before), c.held.ensures.1, a.requires.0), a.requires.1))
     (λ c. let s = standing t c.before.before.before.before.before.before.before.before.before in omega (arith, s.last, s.inside, s.least))
     (λ c.
     let p = c.before.before.before.before in
@@ -105,5 +105,5 @@ pub +read-spec : {M : Type 1} → statement M
     (λ c.
     let u = c.before.before in
     let l = u.before.before.before.loop in
-    read-loose _ u.before.before.before.before.before.args.bytes.now l.at l.r l.invariant.0 (omega arith) (tail-is _ _ l.invariant.0) u.read.ensures c.enum_told.given.1 ∙ sym l.invariant.1)
+    read_loose _ u.before.before.before.before.before.args.bytes.now l.at l.r l.invariant.0 (omega arith) (tail_is _ _ l.invariant.0) u.read.ensures c.enum_told.given.1 ∙ sym l.invariant.1)
     (λ c. let l = c.before.loop in read_all _ c.before.before.before.args.bytes.now l.at l.r (omega arith) ∙ sym l.invariant.1)

@@ -4,7 +4,7 @@ use mathlib.Core.Path.{refl}
 use Rattle.edit_replace.proofs.write.way_to.Statement.{statement}
 use Rattle.edit_replace.proofs.write.way_to.Tie as tie
 
-pub way-to-spec : {M : Type 1} → statement M
+pub way_to_spec : {M : Type 1} → statement M
 unfolding turns
-way-to-spec = tie.close (tie.spec
+way_to_spec = tie.close (tie.spec
     (λ c. refl))

@@ -3,8 +3,8 @@ use borrow.Author.Rules.{rules}
 use Rattle.entry_fields.proofs.numbers.h263_of.Statement.{statement}
 use Rattle.entry_fields.proofs.numbers.h263_of.Tie as tie
 
-pub h263-of-spec : {M : Type 1} → statement M
-h263-of-spec = tie.close (tie.spec
+pub h263_of_spec : {M : Type 1} → statement M
+h263_of_spec = tie.close (tie.spec
     (λ c. search rules)
     (λ c. search rules)
     (λ c. search rules)

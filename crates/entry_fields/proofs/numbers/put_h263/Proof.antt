@@ -1,14 +1,14 @@
 -- `numbers::put_h263` meets its contract. Assumes nothing.
 use borrow.Author.Rules.{rules}
-use Rattle.rule.proofs.Results.{exact-short, exact-puts}
+use Rattle.rule.proofs.Results.{exact_short, exact_puts}
 use lib.ListN.{length-set}
 use native.Mathlib.Omega.{arith}
 use Rattle.entry_fields.proofs.numbers.put_h263.Statement.{statement}
 use Rattle.entry_fields.proofs.numbers.put_h263.Tie as tie
 
-pub put-h263-spec : {M : Type 1} → statement M
-put-h263-spec = tie.close (tie.spec
-    (λ c. exact-short _ _ (omega arith))
+pub put_h263_spec : {M : Type 1} → statement M
+put_h263_spec = tie.close (tie.spec
+    (λ c. exact_short _ _ (omega arith))
     (λ c. search rules)
     (λ c. simp length-set (omega arith))
     (λ c. simp length-set (omega arith))
@@ -21,4 +21,4 @@ put-h263-spec = tie.close (tie.spec
     (λ c. simp length-set (omega arith))
     (λ c. simp length-set (omega arith))
     (λ c. search rules)
-    (λ c. exact-puts _ _ (omega arith)))
+    (λ c. exact_puts _ _ (omega arith)))

@@ -1,14 +1,14 @@
 -- `head::put_audio` meets its contract. Assumes nothing.
 use borrow.Author.Rules.{rules}
-use Rattle.entry_heads.specs.Heads.{audioHead}
-use Rattle.wire.proofs.Writing.{pen-then}
+use Rattle.entry_heads.specs.Heads.{audio_head}
+use Rattle.wire.proofs.Writing.{pen_then}
 use native.Mathlib.Omega.{arith}
 use Rattle.entry_heads.proofs.head.put_audio.Statement.{statement}
 use Rattle.entry_heads.proofs.head.put_audio.Tie as tie
 
-pub put-audio-spec : {M : Type 1} → statement M
-unfolding audioHead
-put-audio-spec = tie.close (tie.spec
+pub put_audio_spec : {M : Type 1} → statement M
+unfolding audio_head
+put_audio_spec = tie.close (tie.spec
     (λ c κs. search rules)
     (λ c κs. search rules)
     (λ c κs. search rules)
@@ -25,4 +25,4 @@ put-audio-spec = tie.close (tie.spec
     let t = s.before.before.before.before in
     let u = t.before.before.before.before in
     let v = u.before.before.before.before in
-    (pen-then (pen-then (pen-then (pen-then (pen-then (pen-then v.put-common.ensures.0 u.put-number.ensures.0) t.put-number2.ensures.0) s.put-number3.ensures.0) r.put-number4.ensures.0) q.put-number5.ensures.0) p.put-number6.ensures.0, omega arith)))
+    (pen_then (pen_then (pen_then (pen_then (pen_then (pen_then v.put-common.ensures.0 u.put-number.ensures.0) t.put-number2.ensures.0) s.put-number3.ensures.0) r.put-number4.ensures.0) q.put-number5.ensures.0) p.put-number6.ensures.0, omega arith)))

@@ -4,9 +4,9 @@ use Rattle.entry_heads.specs.Kinds.{code_of}
 use Rattle.entry_heads.proofs.kind.code.Statement.{statement}
 use Rattle.entry_heads.proofs.kind.code.Tie as tie
 
-pub code-spec : {M : Type 1} → statement M
+pub code_spec : {M : Type 1} → statement M
 unfolding code_of
-code-spec = tie.close (tie.spec
+code_spec = tie.close (tie.spec
     (λ c κs. search rules)
     (λ c κs. search rules)
     (λ c κs. search rules)

@@ -4,8 +4,8 @@ use Rattle.wire.proofs.Numbers.{word_byte}
 use Rattle.entry_records.proofs.field.read_amr.Statement.{statement}
 use Rattle.entry_records.proofs.field.read_amr.Tie as tie
 
-pub read-amr-spec : {M : Type 1} → statement M
-read-amr-spec = tie.close (tie.spec
+pub read_amr_spec : {M : Type 1} → statement M
+read_amr_spec = tie.close (tie.spec
     (λ c κs. search rules)
     (λ c κs. search rules)
     (λ c κs. search rules)

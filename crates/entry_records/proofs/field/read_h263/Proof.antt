@@ -4,8 +4,8 @@ use Rattle.wire.proofs.Numbers.{word_byte}
 use Rattle.entry_records.proofs.field.read_h263.Statement.{statement}
 use Rattle.entry_records.proofs.field.read_h263.Tie as tie
 
-pub read-h263-spec : {M : Type 1} → statement M
-read-h263-spec = tie.close (tie.spec
+pub read_h263_spec : {M : Type 1} → statement M
+read_h263_spec = tie.close (tie.spec
     (λ c κs. search rules)
     (λ c κs. search rules)
     (λ c κs. search rules)

@@ -1,19 +1,19 @@
 -- `entry::track_rule` meets its contract. Assumes nothing.
 use borrow.Author.Rules.{rules}
-use Rattle.entry_rules.specs.Entries.{trackRule}
-use Rattle.wire.proofs.Clauses.{is-le, not-le, fails, holds, nay, asked-yea, asked-nay, answer, decides}
+use Rattle.entry_rules.specs.Entries.{track_rule}
+use Rattle.wire.proofs.Clauses.{is_le_lem, not_le, fails, holds, nay, asked_yea, asked_nay, answer, decides}
 use native.Mathlib.Omega.{arith}
 use Rattle.entry_rules.proofs.entry.track_rule.Statement.{statement}
 use Rattle.entry_rules.proofs.entry.track_rule.Tie as tie
 
-pub track-rule-spec : {M : Type 1} → statement M
-unfolding trackRule
-track-rule-spec = tie.close (tie.spec
+pub track_rule_spec : {M : Type 1} → statement M
+unfolding track_rule
+track_rule_spec = tie.close (tie.spec
     (λ c κs. search rules)
-    (λ c. nay _ (fails 0 _ (not-le _ _ (omega arith))))
-    (λ c. nay _ (fails 1 _ (not-le _ _ (omega arith))))
+    (λ c. nay _ (fails 0 _ (not_le _ _ (omega arith))))
+    (λ c. nay _ (fails 1 _ (not_le _ _ (omega arith))))
     (λ c κs. search rules)
-    (λ c. nay _ (fails 2 _ (asked-nay _ (omega arith))))
+    (λ c. nay _ (fails 2 _ (asked_nay _ (omega arith))))
     (λ c κs. search rules)
-    (λ c. answer _ _ c.scale-rule.ensures (holds _ _ (is-le _ _ (omega arith)) (holds _ _ (is-le _ _ (omega arith))
-    (holds _ _ (asked-yea _ (λ e. omega arith)) (decides _))))))
+    (λ c. answer _ _ c.scale-rule.ensures (holds _ _ (is_le_lem _ _ (omega arith)) (holds _ _ (is_le_lem _ _ (omega arith))
+    (holds _ _ (asked_yea _ (λ e. omega arith)) (decides _))))))

@@ -1,17 +1,17 @@
 -- The ES number and the flags, the decoder configuration around the specific information, and the SL configuration.
 use borrow.Author.Rules.{rules}
 use mathlib.Core.Path.{sym}
-use Rattle.wire.proofs.Numbers.{length-bytes}
-use Rattle.wire.proofs.Writing.{pen-then}
+use Rattle.wire.proofs.Numbers.{length_bytes_lem}
+use Rattle.wire.proofs.Writing.{pen_then}
 use Rattle.descriptors.specs.Parts.{CONFIGURATION, SL}
-use Rattle.esds.specs.Texts.{configurationBody, esBody}
-use Rattle.esds.proofs.Texts.{pen-text}
+use Rattle.esds.specs.Texts.{configuration_body, es_body}
+use Rattle.esds.proofs.Texts.{pen_text}
 use Rattle.esds.proofs.text.put_es.Statement.{statement}
 use Rattle.esds.proofs.text.put_es.Tie as tie
 
-pub put-es-spec : {M : Type 1} → statement M
-unfolding esBody configurationBody
-put-es-spec = tie.close (tie.spec
+pub put_es_spec : {M : Type 1} → statement M
+unfolding es_body configuration_body
+put_es_spec = tie.close (tie.spec
     (λ c κs. search rules)
     (λ c κs. search rules)
     (λ c κs. search rules)
@@ -29,6 +29,6 @@ put-es-spec = tie.close (tie.spec
     let u = t.before.before.before.before in
     let v = u.before.before.before.before in
     let e = v.before.before.before.before.requires.3 in
-    pen-then (pen-then (pen-then v.put-number.ensures.0 u.put-number2.ensures.0)
-    (pen-text CONFIGURATION e t.put-head.ensures.0 (pen-then s.put-configuration.ensures.0 r.put-specific.ensures.0)))
-    (pen-text SL (sym (length-bytes 1 2)) q.put-head2.ensures.0 p.put-number3.ensures.0)))
+    pen_then (pen_then (pen_then v.put-number.ensures.0 u.put-number2.ensures.0)
+    (pen_text CONFIGURATION e t.put-head.ensures.0 (pen_then s.put-configuration.ensures.0 r.put-specific.ensures.0)))
+    (pen_text SL (sym (length_bytes_lem 1 2)) q.put-head2.ensures.0 p.put-number3.ensures.0)))

@@ -1,6 +1,6 @@
 -- The three parts, found one in the other; their headers tell the place.
 use borrow.Author.Rules.{rules}
-use Rattle.esds.proofs.Opening.{esds-read}
+use Rattle.esds.proofs.Opening.{esds_read}
 use Rattle.esds.proofs.value.read.Statement.{statement}
 use Rattle.esds.proofs.value.read.Tie as tie
 
@@ -29,6 +29,6 @@ read_spec = tie.close (tie.spec
     let o = v.before.before in
     let h = o.before.before in
     let i = h.before.before in
-    esds-read _ _ i.before.before.held.ensures _ i.before.held2.ensures _ _ h.before.head2.ensures.0 h.head3.ensures.0
+    esds_read _ _ i.before.before.held.ensures _ i.before.held2.ensures _ _ h.before.head2.ensures.0 h.head3.ensures.0
     i.head.ensures.0 o.before.choose.ensures o.own.ensures v.before.own2.ensures v.values-by.ensures
     w.choose2.ensures c.before.own3.ensures c.choose3.ensures))

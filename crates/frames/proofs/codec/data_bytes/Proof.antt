@@ -6,8 +6,8 @@ use Rattle.frames.proofs.Table.{entry}
 use Rattle.frames.proofs.codec.data_bytes.Statement.{statement}
 use Rattle.frames.proofs.codec.data_bytes.Tie as tie
 
-pub data-bytes-spec : {M : Type 1} → statement M
-data-bytes-spec = tie.close (tie.spec
+pub data_bytes_spec : {M : Type 1} → statement M
+data_bytes_spec = tie.close (tie.spec
     (λ c. search rules)
     (λ c. search rules)
     (λ c. let e = entry Amr c.before.before.args.t (search rules) in record { fits = omega arith })

@@ -2,20 +2,20 @@
 use borrow.Author.Rules.{rules}
 use Prim.Native.Nat.{◌-◌}
 use native.Mathlib.Omega.{arith}
-use Rattle.wire.proofs.Lists.{tail-is}
-use Rattle.frames.proofs.Reading.{Reading, reading-none, reading-more, reading-stop, reading-full}
+use Rattle.wire.proofs.Lists.{tail_is}
+use Rattle.frames.proofs.Reading.{Reading, reading_none, reading_more, reading_stop, reading_full}
 use Rattle.frames.proofs.run.read.Statement.{statement}
 use Rattle.frames.proofs.run.read.Tie as tie
 
-abbrev Inv : tie.invariant-loop
+abbrev Inv : tie.invariant_loop
 Inv codec part most seen₀ count₀ at₀ seen count at = Reading codec part most seen count at
 
-abbrev μ : tie.decreases-loop
+abbrev μ : tie.decreases_loop
 μ codec part most seen₀ count₀ at₀ seen count at = most - count
 
 pub read_spec : {M : Type 1} → statement M
 read_spec = tie.close (tie.spec Inv μ
-    (λ c. reading-none _ _ _)
+    (λ c. reading_none _ _ _)
     (λ c. search rules)
     (λ c. search rules)
     (λ c. search rules)
@@ -24,7 +24,7 @@ read_spec = tie.close (tie.spec Inv μ
     (λ c κs. search rules)
     (λ c.
     let r = c.before.before.before.before.before.before.loop.invariant in
-    reading-stop _ r c.mode-set.ensures _ _ (tail-is _ _ r.inside) c.before.before.before.front.ensures.0 (omega arith))
+    reading_stop _ r c.mode-set.ensures _ _ (tail_is _ _ r.inside) c.before.before.before.front.ensures.0 (omega arith))
     (λ c κs. search rules)
     (λ c. search rules)
     (λ c. search rules)
@@ -32,7 +32,7 @@ read_spec = tie.close (tie.spec Inv μ
     (λ c. search rules)
     (λ c.
     let r = c.before.before.before.before.before.loop.invariant in
-    reading-more _ _ _ r (tail-is _ _ r.inside) c.before.before.front.ensures.0 c.byte.ensures.0 (omega arith) (λ z. omega arith))
+    reading_more _ _ _ r (tail_is _ _ r.inside) c.before.before.front.ensures.0 c.byte.ensures.0 (omega arith) (λ z. omega arith))
     (λ c. search rules)
     (λ c κs. search rules)
-    (λ c. reading-full _ c.before.before.before.loop.invariant c.mode-set2.ensures (omega arith)))
+    (λ c. reading_full _ c.before.before.before.loop.invariant c.mode-set2.ensures (omega arith)))

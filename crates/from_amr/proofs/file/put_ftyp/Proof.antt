@@ -5,9 +5,9 @@ use Rattle.from_amr.specs.Boxes.{ftyp}
 use Rattle.from_amr.proofs.file.put_ftyp.Statement.{statement}
 use Rattle.from_amr.proofs.file.put_ftyp.Tie as tie
 
-pub put-ftyp-spec : {M : Type 1} → statement M
+pub put_ftyp_spec : {M : Type 1} → statement M
 unfolding ftyp
-put-ftyp-spec = tie.close (tie.spec
+put_ftyp_spec = tie.close (tie.spec
     (λ c. search rules)
     (λ c κs. search rules)
     (λ c. search rules)

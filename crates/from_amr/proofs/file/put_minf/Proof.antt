@@ -2,13 +2,13 @@
 use borrow.Author.Rules.{rules}
 use native.Mathlib.Omega.{arith}
 use Rattle.from_amr.specs.Boxes.{smhd}
-use Rattle.from_amr.proofs.Writing.{pen-boxes, pen-close}
+use Rattle.from_amr.proofs.Writing.{pen_boxes, pen_close}
 use Rattle.from_amr.proofs.file.put_minf.Statement.{statement}
 use Rattle.from_amr.proofs.file.put_minf.Tie as tie
 
-pub put-minf-spec : {M : Type 1} → statement M
+pub put_minf_spec : {M : Type 1} → statement M
 unfolding smhd
-put-minf-spec = tie.close (tie.spec
+put_minf_spec = tie.close (tie.spec
     (λ c. search rules)
     (λ c. search rules)
     (λ c κs. search rules)
@@ -20,7 +20,7 @@ put-minf-spec = tie.close (tie.spec
     let d = c.before.before.before.before.before.before in
     let e = d.before.before.before.before in
     let f = e.before.before.before.before in (
-      pen-close _ (pen-boxes _ _ f.put-box.ensures.0 (pen-boxes _ _ e.put-dinf.ensures.0 d.put-stbl.ensures.0))
+      pen_close _ (pen_boxes _ _ f.put-box.ensures.0 (pen_boxes _ _ e.put-dinf.ensures.0 d.put-stbl.ensures.0))
           c.before.before.put-header.ensures,
       omega arith,
       omega arith,

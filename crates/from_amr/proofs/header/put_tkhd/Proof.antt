@@ -1,14 +1,14 @@
 -- Fields in four parts, and then the header.
 use borrow.Author.Rules.{rules}
 use native.Mathlib.Omega.{arith}
-use Rattle.wire.proofs.Writing.{pen-then, pen-is}
-use Rattle.from_amr.proofs.Headers.{tkhd-parts}
-use Rattle.from_amr.proofs.Writing.{pen-close}
+use Rattle.wire.proofs.Writing.{pen_then, pen_is}
+use Rattle.from_amr.proofs.Headers.{tkhd_parts}
+use Rattle.from_amr.proofs.Writing.{pen_close}
 use Rattle.from_amr.proofs.header.put_tkhd.Statement.{statement}
 use Rattle.from_amr.proofs.header.put_tkhd.Tie as tie
 
-pub put-tkhd-spec : {M : Type 1} → statement M
-put-tkhd-spec = tie.close (tie.spec
+pub put_tkhd_spec : {M : Type 1} → statement M
+put_tkhd_spec = tie.close (tie.spec
     (λ c. search rules)
     (λ c. search rules)
     (λ c κs. search rules)
@@ -24,7 +24,7 @@ put-tkhd-spec = tie.close (tie.spec
     let e = d.before.before.before.before.before in
     let f = e.before.before.before.before in
     let g = f.before.before.before.before.before in (
-      pen-close _ (pen-is (tkhd-parts _) (pen-then (pen-then (pen-then g.put-fields.ensures.0 f.put-fields2.ensures.0)
+      pen_close _ (pen_is (tkhd_parts _) (pen_then (pen_then (pen_then g.put-fields.ensures.0 f.put-fields2.ensures.0)
           e.put-matrix.ensures.0) d.put-fields3.ensures.0)) c.before.before.put-header.ensures,
       omega arith,
     )))

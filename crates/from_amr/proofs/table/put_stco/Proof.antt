@@ -1,12 +1,12 @@
 -- One item for all samples.
 use borrow.Author.Rules.{rules}
-use Rattle.from_amr.specs.Boxes.{oneFor}
+use Rattle.from_amr.specs.Boxes.{one_for}
 use Rattle.from_amr.proofs.table.put_stco.Statement.{statement}
 use Rattle.from_amr.proofs.table.put_stco.Tie as tie
 
-pub put-stco-spec : {M : Type 1} → statement M
-unfolding oneFor
-put-stco-spec = tie.close (tie.spec
+pub put_stco_spec : {M : Type 1} → statement M
+unfolding one_for
+put_stco_spec = tie.close (tie.spec
     (λ c. search rules)
     (λ c κs. search rules)
     (λ c. search rules)

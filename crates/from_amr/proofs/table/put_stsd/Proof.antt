@@ -1,15 +1,15 @@
 -- Fields and the entry, and then the header.
 use borrow.Author.Rules.{rules}
 use native.Mathlib.Omega.{arith}
-use Rattle.wire.proofs.Writing.{pen-then}
+use Rattle.wire.proofs.Writing.{pen_then}
 use Rattle.from_amr.specs.Boxes.{stsd}
-use Rattle.from_amr.proofs.Writing.{pen-close}
+use Rattle.from_amr.proofs.Writing.{pen_close}
 use Rattle.from_amr.proofs.table.put_stsd.Statement.{statement}
 use Rattle.from_amr.proofs.table.put_stsd.Tie as tie
 
-pub put-stsd-spec : {M : Type 1} → statement M
+pub put_stsd_spec : {M : Type 1} → statement M
 unfolding stsd
-put-stsd-spec = tie.close (tie.spec
+put_stsd_spec = tie.close (tie.spec
     (λ c. search rules)
     (λ c. search rules)
     (λ c κs. search rules)
@@ -19,4 +19,4 @@ put-stsd-spec = tie.close (tie.spec
     (λ c.
     let d = c.before.before.before.before.before.before in
     let e = d.before.before.before.before in
-    (pen-close _ (pen-then e.put-fields.ensures.0 d.put-entry.ensures.0) c.before.before.put-header.ensures, omega arith)))
+    (pen_close _ (pen_then e.put-fields.ensures.0 d.put-entry.ensures.0) c.before.before.put-header.ensures, omega arith)))

@@ -1,12 +1,12 @@
 -- One item for all samples.
 use borrow.Author.Rules.{rules}
-use Rattle.from_amr.specs.Boxes.{oneFor}
+use Rattle.from_amr.specs.Boxes.{one_for}
 use Rattle.from_amr.proofs.table.put_stts.Statement.{statement}
 use Rattle.from_amr.proofs.table.put_stts.Tie as tie
 
-pub put-stts-spec : {M : Type 1} → statement M
-unfolding oneFor
-put-stts-spec = tie.close (tie.spec
+pub put_stts_spec : {M : Type 1} → statement M
+unfolding one_for
+put_stts_spec = tie.close (tie.spec
     (λ c κs. search rules)
     (λ c. search rules)
     (λ c κs. search rules)

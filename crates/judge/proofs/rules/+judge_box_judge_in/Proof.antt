@@ -2,16 +2,16 @@
 use Prim.Native.Nat.{ℕ, ◌+◌, ◌-◌, ◌*◌, ◌<◌}
 use Rattle.boxes.proofs.Walking.{ran, ended, broke}
 use Rattle.boxes.specs.Boxes.{boxes}
-use Rattle.judge.proofs.Answers.{box-leaf, box-node, judge-shallow, judge-start, end-passed}
-use Rattle.judge.specs.Asked.{ruleBy}
-use Rattle.rule.proofs.Traverse.{Found, found-more}
+use Rattle.judge.proofs.Answers.{box_leaf, box_node, judge_shallow, judge_start, end_passed}
+use Rattle.judge.specs.Asked.{rule_by}
+use Rattle.rule.proofs.Traverse.{Found, found_more}
 use Rattle.rule.specs.declared.Verdict.TheVariants.{Fine}
-use Rattle.rule.specs.Judge.{judgeBox, judgeIn}
+use Rattle.rule.specs.Judge.{judge_box, judge_in}
 use lib.ListN.{length, length-take, length-drop}
 use native.Mathlib.Omega.{arith}
 use mathlib.Core.Path.{sym, ap, ◌∙◌}
 use Rattle.rule.specs.Verdict.{sooner}
-use Rattle.rule.proofs.Places.{sooner-none}
+use Rattle.rule.proofs.Places.{sooner_none}
 use borrow.Author.Rules.{rules}
 use borrow.Fn.Kinds.{In}
 use borrow.Fn.PlainCycle.{Measures, is, falls, and}
@@ -36,54 +36,54 @@ abbrev μ-judge-box : Measures 2 judge-box-kinds.ps ℕ
 abbrev μ-judge-in : Measures 2 judge-in-kinds.ps ℕ
 μ-judge-in κs a = 2 * a.1.1.1.1.1.1.0 + 1
 
-abbrev judge-box-at : ℕ → In 2 judge-box-kinds.ps
-judge-box-at t = and 2 judge-box-kinds.ps (is 2 judge-box-kinds.ps μ-judge-box t) judge-box.Pre
+abbrev judge_box_at : ℕ → In 2 judge-box-kinds.ps
+judge_box_at t = and 2 judge-box-kinds.ps (is 2 judge-box-kinds.ps μ-judge-box t) judge-box.Pre
 
-abbrev judge-box-below : ℕ → In 2 judge-box-kinds.ps
-judge-box-below t = and 2 judge-box-kinds.ps (falls 2 judge-box-kinds.ps ◌<◌ μ-judge-box t) judge-box.Pre
+abbrev judge_box_below : ℕ → In 2 judge-box-kinds.ps
+judge_box_below t = and 2 judge-box-kinds.ps (falls 2 judge-box-kinds.ps ◌<◌ μ-judge-box t) judge-box.Pre
 
-abbrev judge-in-at : ℕ → In 2 judge-in-kinds.ps
-judge-in-at t = and 2 judge-in-kinds.ps (is 2 judge-in-kinds.ps μ-judge-in t) judge-in.Pre
+abbrev judge_in_at : ℕ → In 2 judge-in-kinds.ps
+judge_in_at t = and 2 judge-in-kinds.ps (is 2 judge-in-kinds.ps μ-judge-in t) judge-in.Pre
 
-abbrev judge-in-below : ℕ → In 2 judge-in-kinds.ps
-judge-in-below t = and 2 judge-in-kinds.ps (falls 2 judge-in-kinds.ps ◌<◌ μ-judge-in t) judge-in.Pre
+abbrev judge_in_below : ℕ → In 2 judge-in-kinds.ps
+judge_in_below t = and 2 judge-in-kinds.ps (falls 2 judge-in-kinds.ps ◌<◌ μ-judge-in t) judge-in.Pre
 
-abbrev judge-in-Inv-loop : judge-in-lts.invariant-loop
-judge-in-Inv-loop n file part home base k depth found₀ w₀ found w = Found (judgeBox (ruleBy n (boxes file)) (judgeIn (ruleBy n (boxes file)) (depth - 1)) k) (λ p. Fine) part base (judgeIn (ruleBy n (boxes file)) depth k part home base) found w.at
+abbrev judge_in_Inv_loop : judge-in-lts.invariant_loop
+judge_in_Inv_loop n file part home base k depth found₀ w₀ found w = Found (judge_box (rule_by n (boxes file)) (judge_in (rule_by n (boxes file)) (depth - 1)) k) (λ p. Fine) part base (judge_in (rule_by n (boxes file)) depth k part home base) found w.at
 
-abbrev judge-in-μ-loop : judge-in-lts.decreases-loop
-judge-in-μ-loop n file part home base k depth found₀ w₀ found w = length part - w.at
+abbrev judge_in_μ_loop : judge-in-lts.decreases_loop
+judge_in_μ_loop n file part home base k depth found₀ w₀ found w = length part - w.at
 
 pub +judge-box-judge-in-spec : {M : Type 1} → statement M
 +judge-box-judge-in-spec = close μ-judge-box μ-judge-in
-    (λ t. judge-box-lts.spec (kind-in-reads.Asked, kind-in-reads.Learnt, body-Reads.Asked, body-Reads.Learnt, leaf-by-reads.Asked, leaf-by-reads.Learnt, judge-in-below t, judge-in.Post) (judge-box-at t) judge-box.Post
+    (λ t. judge-box-lts.spec (kind-in-reads.Asked, kind-in-reads.Learnt, body-Reads.Asked, body-Reads.Learnt, leaf-by-reads.Asked, leaf-by-reads.Learnt, judge_in_below t, judge-in.Post) (judge_box_at t) judge-box.Post
     (λ c. search rules)
     (λ c. search rules)
     (λ c κs. search rules)
     (λ c κs. search rules)
     (λ c κs. rw (c.body.ensures, length-take, length-drop) (omega arith))
-    (λ c. let a = c.before.before.before.before.before.before.before.before.args in box-leaf (ruleBy a.n (boxes a.file.now)) _ _ _ _ c.before.before.before.before.before.before.before.before.requires.1.0 c.before.before.before.kind-in.ensures c.before.before.if1.true (rw c.before.body.ensures at c.leaf-by.ensures))
+    (λ c. let a = c.before.before.before.before.before.before.before.before.args in box_leaf (rule_by a.n (boxes a.file.now)) _ _ _ _ c.before.before.before.before.before.before.before.before.requires.1.0 c.before.before.before.kind-in.ensures c.before.before.if1.true (rw c.before.body.ensures at c.leaf_by.ensures))
     (λ c κs. search rules)
     (λ c. search rules)
     (λ c κs. (omega arith, rw (c.body2.ensures, length-take, length-drop) (omega arith)))
-    (λ c. let a = c.before.before.before.before.before.before.before.before.args in box-node (ruleBy a.n (boxes a.file.now)) _ _ _ _ c.before.before.before.before.before.before.before.before.requires.1.0 c.before.before.before.kind-in.ensures c.before.before.if1.false (rw c.before.body2.ensures at c.judge-in.ensures)))
-    (λ t. judge-in-lts.spec (node-by-reads.Asked, node-by-reads.Learnt, step-reads.Asked, step-reads.Learnt, judge-box-below t, judge-box.Post, sooner-reads.Asked, sooner-reads.Learnt) (judge-in-at t) judge-in.Post judge-in-Inv-loop judge-in-μ-loop
-    (λ c. judge-shallow _ _ _ _ _ _ c.if1.true)
+    (λ c. let a = c.before.before.before.before.before.before.before.before.args in box_node (rule_by a.n (boxes a.file.now)) _ _ _ _ c.before.before.before.before.before.before.before.before.requires.1.0 c.before.before.before.kind-in.ensures c.before.before.if1.false (rw c.before.body2.ensures at c.judge-in.ensures)))
+    (λ t. judge-in-lts.spec (node-by-reads.Asked, node-by-reads.Learnt, step-reads.Asked, step-reads.Learnt, judge_box_below t, judge-box.Post, sooner-reads.Asked, sooner-reads.Learnt) (judge_in_at t) judge-in.Post judge_in_Inv_loop judge_in_μ_loop
+    (λ c. judge_shallow _ _ _ _ _ _ c.if1.true)
     (λ c κs. search rules)
-    (λ c. judge-start _ _ _ _ _ _ c.before.if1.false c.Node-by.ensures)
+    (λ c. judge_start _ _ _ _ _ _ c.before.if1.false c.Node-by.ensures)
     (λ c κs. search rules)
     (λ c. search rules)
     (λ c κs. let s = ran _ _ _ _ _ c.before.before.before.step.ensures c.before.b.given.1 in (omega arith, (s.head, s.least, omega arith, omega arith, omega arith)))
     (λ c. search rules)
     (λ c. let s = ran _ _ _ _ _ c.before.before.before.before.before.before.step.ensures c.before.before.before.before.b.given.1 in omega arith)
-    (λ c. found-more _ _ _ _ c.before.before.before.before.before.before.before.loop.invariant (ran _ _ _ _ _ c.before.before.before.before.before.before.step.ensures c.before.before.before.before.b.given.1) c.before.before.judge-box.ensures
-    (sym (sooner-none _) ∙ ap (sooner _) (sym c.enum_told.given.1)))
+    (λ c. found_more _ _ _ _ c.before.before.before.before.before.before.before.loop.invariant (ran _ _ _ _ _ c.before.before.before.before.before.before.step.ensures c.before.before.before.before.b.given.1) c.before.before.judge-box.ensures
+    (sym (sooner_none _) ∙ ap (sooner _) (sym c.enum_told.given.1)))
     (λ c. search rules)
     (λ c κs. search rules)
     (λ c. let s = ran _ _ _ _ _ c.before.before.before.before.before.before.before.before.step.ensures c.before.before.before.before.before.before.b.given.1 in omega arith)
-    (λ c. found-more _ _ _ _ c.before.before.before.before.before.before.before.before.before.loop.invariant (ran _ _ _ _ _ c.before.before.before.before.before.before.before.before.step.ensures c.before.before.before.before.before.before.b.given.1) c.before.before.before.before.judge-box.ensures
+    (λ c. found_more _ _ _ _ c.before.before.before.before.before.before.before.before.before.loop.invariant (ran _ _ _ _ _ c.before.before.before.before.before.before.before.before.step.ensures c.before.before.before.before.before.before.b.given.1) c.before.before.before.before.judge-box.ensures
     (c.sooner.ensures ∙ ap (sooner _) (sym c.before.before.p.given.1)))
     (λ c. search rules)
-    (λ c. end-passed _ c.before.before.before.loop.invariant (ended _ _ _ c.before.before.step.ensures c.enum-told2.given.1).0)
+    (λ c. end_passed _ c.before.before.before.loop.invariant (ended _ _ _ c.before.before.step.ensures c.enum-told2.given.1).0)
     (λ c. search rules)
-    (λ c. end-passed _ c.before.before.before.loop.invariant (broke _ _ _ _ c.before.before.step.ensures c.enum-told3.given.1).0))
+    (λ c. end_passed _ c.before.before.before.loop.invariant (broke _ _ _ _ c.before.before.step.ensures c.enum-told3.given.1).0))

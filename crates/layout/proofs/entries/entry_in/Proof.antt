@@ -3,14 +3,14 @@ use borrow.Author.Rules.{rules}
 use native.Mathlib.Omega.{arith}
 use lib.ListN.{length}
 use Rattle.boxes.proofs.Cutting.{cut_as}
-use Rattle.layout.proofs.Slots.{slot-length}
-use Rattle.movie.proofs.Asking.{placed_at, placed-none}
+use Rattle.layout.proofs.Slots.{slot_length}
+use Rattle.movie.proofs.Asking.{placed_at, placed_none}
 use mathlib.Core.Path.{refl, ap, ◌∙◌}
-use Rattle.layout.proofs.entries.entry_in.Statement.{statement}
-use Rattle.layout.proofs.entries.entry_in.Tie as tie
+use Rattle.layout.proofs.entries.entry_in_lem.Statement.{statement}
+use Rattle.layout.proofs.entries.entry_in_lem.Tie as tie
 
-pub entry-in-spec : {M : Type 1} → statement M
-entry-in-spec = tie.close (tie.spec
+pub entry_in_spec : {M : Type 1} → statement M
+entry_in_spec = tie.close (tie.spec
     (λ c κs. search rules)
     (λ c κs. search rules)
     (λ c. search rules)
@@ -21,7 +21,7 @@ entry-in-spec = tie.close (tie.spec
       arith,
       s.inside,
       ap length c.before.before.before.before.before.before.bytes.ensures,
-      slot-length
+      slot_length
           p.0.lies,
       p.0.lies.order,
       p.0.lies.inside,
@@ -32,4 +32,4 @@ entry-in-spec = tie.close (tie.spec
     placed_at _ _ _ refl (c.before.before.before.before.before.before.bytes.ensures ∙ p.0.is) _
     c.before.before.before.before.before.nth.ensures _ c.before.before.before.b.given.1 (p.0.place (omega arith)))
     (λ c. let p = c.before.before.before.before.before.requires in
-    placed-none _ _ _ refl (c.before.before.before.bytes.ensures ∙ p.0.is) _ c.before.before.nth.ensures c.enum_told.given.1))
+    placed_none _ _ _ refl (c.before.before.before.bytes.ensures ∙ p.0.is) _ c.before.before.nth.ensures c.enum_told.given.1))

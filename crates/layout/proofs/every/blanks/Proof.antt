@@ -3,7 +3,7 @@ use borrow.Author.Rules.{rules}
 use Rattle.layout.proofs.every.blanks.Statement.{statement}
 use Rattle.layout.proofs.every.blanks.Tie as tie
 
-pub blanks-spec : {M : Type 1} → statement M
-blanks-spec = tie.close (tie.spec
+pub blanks_spec : {M : Type 1} → statement M
+blanks_spec = tie.close (tie.spec
     (λ c κs. search rules)
     (λ c. rw c.blank.ensures))

@@ -5,8 +5,8 @@ use Rattle.wire.specs.Numbers.{word}
 use Rattle.layout.proofs.every.told.Statement.{statement}
 use Rattle.layout.proofs.every.told.Tie as tie
 
-pub told-spec : {M : Type 1} → statement M
-told-spec = tie.close (tie.spec
+pub told_spec : {M : Type 1} → statement M
+told_spec = tie.close (tie.spec
     (λ c κs. search rules)
     (λ c κs. search rules)
     (λ c κs. search rules)

@@ -1,26 +1,26 @@
 -- The invariant: each slot is that of the boxes before the walk's place, which are plain.
 use borrow.Author.Rules.{rules}
 use Prim.Native.Nat.{◌-◌}
-use Rattle.boxes.proofs.PlainWalking.{plain-ran, plain-ended}
-use Rattle.layout.proofs.Gathering.{Walked, walked_none, walked-fits, walked-plain, walked_whole}
-use Rattle.layout.specs.Slots.{firstWith, endingOf}
-use Rattle.wire.proofs.Tests.{eq-yea}
+use Rattle.boxes.proofs.PlainWalking.{plain_ran, plain_ended}
+use Rattle.layout.proofs.Gathering.{Walked, walked_none, walked_fits, walked_plain, walked_whole}
+use Rattle.layout.specs.Slots.{first_with, ending_of}
+use Rattle.wire.proofs.Tests.{eq_yea}
 use lib.ListN.{length}
 use mathlib.Core.Path.{refl}
 use native.Mathlib.Omega.{arith}
 use Rattle.layout.proofs.plain.five.Statement.{statement}
 use Rattle.layout.proofs.plain.five.Tie as tie
 
-abbrev Inv : tie.invariant-loop
+abbrev Inv : tie.invariant_loop
 Inv file whole a b c d e part i₀ j₀ k₀ l₀ m₀ w₀ i j k l m w =
-    Walked file part whole w.at 0 (firstWith a) (firstWith b) (firstWith c) (firstWith d) (firstWith e) i j k l m
+    Walked file part whole w.at 0 (first_with a) (first_with b) (first_with c) (first_with d) (first_with e) i j k l m
 
-abbrev μ : tie.decreases-loop
+abbrev μ : tie.decreases_loop
 μ file whole a b c d e part i₀ j₀ k₀ l₀ m₀ w₀ i j k l m w = length part - w.at
 
-pub five-spec : {M : Type 1} → statement M
-unfolding endingOf
-five-spec = tie.close (tie.spec Inv μ
+pub five_spec : {M : Type 1} → statement M
+unfolding ending_of
+five_spec = tie.close (tie.spec Inv μ
     (λ c κs. search rules)
     (λ c κs. search rules)
     (λ c.
@@ -32,36 +32,36 @@ five-spec = tie.close (tie.spec Inv μ
     (λ c κs.
     let t = c.before.before.before in
     let i = t.before.loop.invariant in
-    walked-fits i (plain-ran _ _ _ _ _ t.plain_step.ensures c.before.x.given.1).0 i.first)
+    walked_fits i (plain_ran _ _ _ _ _ t.plain_step.ensures c.before.x.given.1).0 i.first)
     (λ c κs.
     let t = c.before.before.before.before in
     let i = t.before.loop.invariant in
-    walked-fits i (plain-ran _ _ _ _ _ t.plain_step.ensures c.before.before.x.given.1).0 i.second)
+    walked_fits i (plain_ran _ _ _ _ _ t.plain_step.ensures c.before.before.x.given.1).0 i.second)
     (λ c κs.
     let t = c.before.before.before.before.before in
     let i = t.before.loop.invariant in
-    walked-fits i (plain-ran _ _ _ _ _ t.plain_step.ensures c.before.before.before.x.given.1).0 i.third)
+    walked_fits i (plain_ran _ _ _ _ _ t.plain_step.ensures c.before.before.before.x.given.1).0 i.third)
     (λ c κs.
     let t = c.before.before.before.before.before.before in
     let i = t.before.loop.invariant in
-    walked-fits i (plain-ran _ _ _ _ _ t.plain_step.ensures c.before.before.before.before.x.given.1).0 i.fourth)
+    walked_fits i (plain_ran _ _ _ _ _ t.plain_step.ensures c.before.before.before.before.x.given.1).0 i.fourth)
     (λ c κs.
     let t = c.before.before.before.before.before.before.before in
     let i = t.before.loop.invariant in
-    walked-fits i (plain-ran _ _ _ _ _ t.plain_step.ensures c.before.before.before.before.before.x.given.1).0 i.fifth)
+    walked_fits i (plain_ran _ _ _ _ _ t.plain_step.ensures c.before.before.before.before.before.x.given.1).0 i.fifth)
     (λ c.
     let t = c.before.before.before.before.before.before.before.before in
-    let r = (plain-ran _ _ _ _ _ t.plain_step.ensures c.before.before.before.before.before.before.x.given.1).0 in
+    let r = (plain_ran _ _ _ _ _ t.plain_step.ensures c.before.before.before.before.before.before.x.given.1).0 in
     omega arith)
     (λ c.
     let t = c.before.before.before.before.before.before.before.before in
-    let r = plain-ran _ _ _ _ _ t.plain_step.ensures c.before.before.before.before.before.before.x.given.1 in
-    walked-plain t.before.loop.invariant r.0
+    let r = plain_ran _ _ _ _ _ t.plain_step.ensures c.before.before.before.before.before.before.x.given.1 in
+    walked_plain t.before.loop.invariant r.0
     (c.before.before.before.before.note.ensures, c.before.before.before.note2.ensures, c.before.before.note3.ensures, c.before.note4.ensures, c.note5.ensures) r.1)
     (λ c. search rules)
     (λ c z.
     let t = c.before.before in
-    let o = plain-ended _ _ _ t.plain_step.ensures c.enum_told.given.1 in
-    walked_whole t.before.loop.invariant o.0 o.1 (eq-yea _ _ _ _ _ refl refl))
+    let o = plain_ended _ _ _ t.plain_step.ensures c.enum_told.given.1 in
+    walked_whole t.before.loop.invariant o.0 o.1 (eq_yea _ _ _ _ _ refl refl))
     (λ c. search rules)
     (λ c z. absurd (z refl)))

@@ -10,8 +10,8 @@ returns : tie.Need-returns
 returns c =
     let d = c.before.before.before.before.before.before.before.before.before in
     let s : Standing _ _ _ _ _ _ _ = record {
-      in-trak = d.before.before.before.first.ensures;
-      in-mdia = d.before.before.first2.ensures;
+      in_trak = d.before.before.before.first.ensures;
+      in_mdia = d.before.before.first2.ensures;
       left = d.before.first3.ensures;
       right = d.first4.ensures;
       tkhd = c.before.before.before.before.before.before.before.before.first5.ensures;

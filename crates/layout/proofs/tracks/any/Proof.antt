@@ -3,20 +3,20 @@ use borrow.Author.Rules.{rules}
 use mathlib.Core.Path.{◌≡◌, ap}
 use native.Mathlib.Omega.{arith}
 use Rattle.layout.specs.declared.gather.Want.{Want}
-use Rattle.layout.proofs.Gathering.{gathered-as}
+use Rattle.layout.proofs.Gathering.{gathered_as}
 use Rattle.layout.proofs.LayingOut.{laid_out, spread}
 use Rattle.layout.proofs.tracks.any.Statement.{statement}
 use Rattle.layout.proofs.tracks.any.Tie as tie
 
-wanted-requires : tie.Need-wanted-requires
-wanted-requires c κs =
+wanted_requires : tie.Need-wanted-requires
+wanted_requires c κs =
     let f = ap (λ (w : Want). w.code) c.before.first2.ensures in
     let m = ap (λ (w : Want). w.code) c.first3.ensures in
     let d = ap (λ (w : Want). w.code) c.before.before.before.first.ensures in
     (c.before.before.whole.ensures.1, omega arith, omega arith, omega arith, omega arith, omega arith)
 
-wanted-requires-2 : tie.Need-wanted-requires-2
-wanted-requires-2 c κs =
+wanted_requires_2 : tie.Need-wanted-requires-2
+wanted_requires_2 c κs =
     let m = ap (λ (w : Want). w.code) c.before.before.before.before.first4.ensures in
     let a = ap (λ (w : Want). w.code) c.before.before.before.nth.ensures in
     let b = ap (λ (w : Want). w.code) c.before.before.nth2.ensures in
@@ -29,8 +29,8 @@ returns c =
     let v = c.before.before.before.before.before.before.before.before.before.before.before.before in
     let w = c.before.before.before.before.before.before.before.before.before.before.before.before.before.before.before.before.before.before.before in
     let d = w.before.before.before.before.first.ensures in
-    let f = gathered-as (w.before.before.first2.ensures, w.before.first3.ensures, d, d, d) w.wanted.ensures in
-    let m = gathered-as (
+    let f = gathered_as (w.before.before.first2.ensures, w.before.first3.ensures, d, d, d) w.wanted.ensures in
+    let m = gathered_as (
       v.before.before.before.before.before.first4.ensures,
       v.before.before.before.before.nth.ensures,
       v.before.before.before.nth2.ensures,
@@ -51,13 +51,13 @@ any_spec = tie.close (tie.spec
     (λ c κs. search rules)
     (λ c κs. search rules)
     (λ c κs. search rules)
-    wanted-requires
+    wanted_requires
     (λ c κs. search rules)
     (λ c κs. search rules)
     (λ c κs. search rules)
     (λ c κs. search rules)
     (λ c κs. search rules)
-    wanted-requires-2
+    wanted_requires_2
     (λ c κs. search rules)
     (λ c κs. search rules)
     (λ c κs. search rules)

@@ -4,8 +4,8 @@ use native.Mathlib.Omega.{arith}
 use Rattle.layout.proofs.tracks.found.Statement.{statement}
 use Rattle.layout.proofs.tracks.found.Tie as tie
 
-pub found-spec : {M : Type 1} → statement M
-found-spec = tie.close (tie.spec
+pub found_spec : {M : Type 1} → statement M
+found_spec = tie.close (tie.spec
     (λ c κs. search rules)
     (λ c. c.before.before.lay.ensures (omega arith))
     (λ c κs. search rules)

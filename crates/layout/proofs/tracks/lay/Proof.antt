@@ -5,8 +5,8 @@ use Rattle.layout.proofs.LayingOut.{laid_out, spread}
 use Rattle.layout.proofs.tracks.lay.Statement.{statement}
 use Rattle.layout.proofs.tracks.lay.Tie as tie
 
-with-tracks-requires : tie.Need-with-tracks-requires
-with-tracks-requires c κs = let f = c.before.before.before.before.before.three.ensures c.before.before.before.if1.false in (f.second.lies, omega arith)
+with_tracks_requires : tie.Need-with-tracks-requires
+with_tracks_requires c κs = let f = c.before.before.before.before.before.three.ensures c.before.before.before.if1.false in (f.second.lies, omega arith)
 
 returns : tie.Need-returns-4
 returns c z =
@@ -21,8 +21,8 @@ returns c z =
       spread w.before.whole.ensures.0 f m _,
     )
 
-pub lay-spec : {M : Type 1} → statement M
-lay-spec = tie.close (tie.spec
+pub lay_spec : {M : Type 1} → statement M
+lay_spec = tie.close (tie.spec
     (λ c κs. search rules)
     (λ c κs. search rules)
     (λ c κs. search rules)
@@ -30,7 +30,7 @@ lay-spec = tie.close (tie.spec
     (λ c κs. search rules)
     (λ c κs. search rules)
     (λ c z. absurd (omega (arith, c.unlaid2.ensures)))
-    with-tracks-requires
+    with_tracks_requires
     (λ c κs. search rules)
     (λ c z. absurd (omega (arith, c.unlaid3.ensures)))
     (λ c κs. search rules)

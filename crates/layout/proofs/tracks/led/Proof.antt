@@ -1,13 +1,13 @@
 -- The first code is that of `ftyp`, or it isn't.
 use borrow.Author.Rules.{rules}
-use Rattle.wire.proofs.Clauses.{yea, nay, is-eq, not-eq}
+use Rattle.wire.proofs.Clauses.{yea, nay, is_eq_lem, not_eq}
 use mathlib.Core.Path.{sym}
 use native.Mathlib.Omega.{arith}
 use Rattle.layout.proofs.tracks.led.Statement.{statement}
 use Rattle.layout.proofs.tracks.led.Tie as tie
 
-pub led-spec : {M : Type 1} → statement M
-led-spec = tie.close (tie.spec
+pub led_spec : {M : Type 1} → statement M
+led_spec = tie.close (tie.spec
     (λ c κs. search rules)
-    (λ c. nay _ (sym (not-eq _ _ (λ z. omega arith))))
-    (λ c. yea _ (sym (is-eq _ _ (omega arith)))))
+    (λ c. nay _ (sym (not_eq _ _ (λ z. omega arith))))
+    (λ c. yea _ (sym (is_eq_lem _ _ (omega arith)))))

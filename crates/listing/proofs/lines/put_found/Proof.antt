@@ -1,13 +1,13 @@
 -- Both halves of the line.
 use borrow.Author.Rules.{rules}
-use Rattle.listing.proofs.Listed.{found-line}
+use Rattle.listing.proofs.Listed.{found_line}
 use mathlib.Core.Path.{refl}
 use native.Mathlib.Omega.{arith}
 use Rattle.listing.proofs.lines.put_found.Statement.{statement}
 use Rattle.listing.proofs.lines.put_found.Tie as tie
 
-pub put-found-spec : {M : Type 1} → statement M
-put-found-spec = tie.close (tie.spec
+pub put_found_spec : {M : Type 1} → statement M
+put_found_spec = tie.close (tie.spec
     (λ c. search rules)
     (λ c. search rules)
     (λ c. search rules)
@@ -21,4 +21,4 @@ put-found-spec = tie.close (tie.spec
     let q = p.before.before.before.before in
     let s = q.before.before in
     let u = s.before.before.before.before in
-    (found-line _ _ _ _ _ u.requires.0 refl s.word32.ensures.0 q.put-named.ensures.0 p.put-placed.ensures.0, omega arith)))
+    (found_line _ _ _ _ _ u.requires.0 refl s.word32.ensures.0 q.put-named.ensures.0 p.put-placed.ensures.0, omega arith)))

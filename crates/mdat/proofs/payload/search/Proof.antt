@@ -2,9 +2,9 @@
 use borrow.Author.Rules.{rules}
 use Prim.Native.Nat.{◌-◌, ◌≤◌}
 use Rattle.boxes.proofs.Walking.{ran, ended, broke}
-use Rattle.boxes.proofs.PlainWalking.{plain-ran, plain-ended}
-use Rattle.mdat.proofs.Searching.{start-held, start-over}
-use Rattle.mdat.proofs.Starts.{start-past}
+use Rattle.boxes.proofs.PlainWalking.{plain_ran, plain_ended}
+use Rattle.mdat.proofs.Searching.{start_held, start_over}
+use Rattle.mdat.proofs.Starts.{start_past}
 use Rattle.mdat.specs.Search.{Start}
 use lib.ListN.{length}
 use mathlib.Core.Path.{sym, ap, ◌∙◌}
@@ -12,31 +12,31 @@ use native.Mathlib.Omega.{arith}
 use Rattle.mdat.proofs.payload.search.Statement.{statement}
 use Rattle.mdat.proofs.payload.search.Tie as tie
 
-abbrev Inv : tie.invariant-loop
+abbrev Inv : tie.invariant_loop
 Inv file from most offset bytes at₀ i₀ at i = Start file offset at × (i ≤ at) × (i ≤ length file)
 
-abbrev μ : tie.decreases-loop
+abbrev μ : tie.decreases_loop
 μ file from most offset bytes at₀ i₀ at i = most - i
 
-pub search-spec : {M : Type 1} → statement M
-search-spec = tie.close (tie.spec Inv μ
+pub search_spec : {M : Type 1} → statement M
+search_spec = tie.close (tie.spec Inv μ
     (λ c. (c.before.requires, omega arith, omega arith))
     (λ c κs. search rules)
     (λ c. search rules)
-    (λ c κs. let s = (plain-ran _ _ _ _ _ c.before.before.before.plain_step.ensures c.before.b.given.1).0 in omega arith)
-    (λ c κs. let s = (plain-ran _ _ _ _ _ c.before.before.before.before.before.plain_step.ensures c.before.before.before.b.given.1).0 in
+    (λ c κs. let s = (plain_ran _ _ _ _ _ c.before.before.before.plain_step.ensures c.before.b.given.1).0 in omega arith)
+    (λ c κs. let s = (plain_ran _ _ _ _ _ c.before.before.before.before.before.plain_step.ensures c.before.before.before.b.given.1).0 in
     (omega arith, omega arith))
     (λ c. let t = c.before.before.before.before.before.before in
-    let s = (plain-ran _ _ _ _ _ t.plain_step.ensures c.before.before.before.before.b.given.1).0 in
-    rw c.held.ensures (start-held t.before.before.loop.invariant.0 s _ _ (omega arith)))
+    let s = (plain_ran _ _ _ _ _ t.plain_step.ensures c.before.before.before.before.b.given.1).0 in
+    rw c.held.ensures (start_held t.before.before.loop.invariant.0 s _ _ (omega arith)))
     (λ c. search rules)
     (λ c. search rules)
     (λ c. let t = c.before.before.before.before.before in
-    let s = (plain-ran _ _ _ _ _ t.plain_step.ensures c.before.before.before.b.given.1).0 in
-    (start-past t.before.before.loop.invariant.0 s c.before.past.ensures (omega arith), omega arith, omega arith))
+    let s = (plain_ran _ _ _ _ _ t.plain_step.ensures c.before.before.before.b.given.1).0 in
+    (start_past t.before.before.loop.invariant.0 s c.before.past.ensures (omega arith), omega arith, omega arith))
     (λ c. search rules)
     (λ c. let t = c.before.before in
-    record { says = start-over t.before.before.loop.invariant.0 (plain-ended _ _ _ t.plain_step.ensures c.enum_told.given.1).0 _ })
+    record { says = start_over t.before.before.loop.invariant.0 (plain_ended _ _ _ t.plain_step.ensures c.enum_told.given.1).0 _ })
     (λ c. search rules)
     (λ c κs. search rules)
     (λ c. search rules)
@@ -45,16 +45,16 @@ search-spec = tie.close (tie.spec Inv μ
     (omega arith, omega arith))
     (λ c. let t = c.before.before.before.before.before.before in
     let s = ran _ _ _ _ _ t.step.ensures c.before.before.before.before.b2.given.1 in
-    rw c.held2.ensures (start-held t.before.before.before.before.before.loop.invariant.0 s _ _ (omega arith)))
+    rw c.held2.ensures (start_held t.before.before.before.before.before.loop.invariant.0 s _ _ (omega arith)))
     (λ c. search rules)
     (λ c. search rules)
     (λ c. let t = c.before.before.before.before.before in
     let s = ran _ _ _ _ _ t.step.ensures c.before.before.before.b2.given.1 in
-    (start-past t.before.before.before.before.before.loop.invariant.0 s c.before.past2.ensures (omega arith), omega arith, omega arith))
+    (start_past t.before.before.before.before.before.loop.invariant.0 s c.before.past2.ensures (omega arith), omega arith, omega arith))
     (λ c. search rules)
     (λ c. let t = c.before.before in
-    record { says = start-over t.before.before.before.before.before.loop.invariant.0 (ended _ _ _ t.step.ensures c.enum-told3.given.1).0 _ })
+    record { says = start_over t.before.before.before.before.before.loop.invariant.0 (ended _ _ _ t.step.ensures c.enum-told3.given.1).0 _ })
     (λ c. search rules)
     (λ c. let t = c.before.before in
-    record { says = start-over t.before.before.before.before.before.loop.invariant.0 (broke _ _ _ _ t.step.ensures c.enum-told4.given.1).0 _ })
+    record { says = start_over t.before.before.before.before.before.loop.invariant.0 (broke _ _ _ _ t.step.ensures c.enum-told4.given.1).0 _ })
     (λ c. record { says = omega arith }))

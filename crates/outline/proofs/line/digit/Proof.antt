@@ -2,15 +2,15 @@
 use borrow.Author.Rules.{rules}
 use mathlib.Core.Path.{refl}
 use native.Mathlib.Omega.{arith}
-use Rattle.wire.proofs.Tests.{lt-yea, lt-nay}
+use Rattle.wire.proofs.Tests.{lt_yea, lt_nay}
 use Rattle.outline.specs.Lines.{digit}
 use Rattle.outline.proofs.line.digit.Statement.{statement}
 use Rattle.outline.proofs.line.digit.Tie as tie
 
-pub digit-spec : {M : Type 1} → statement M
+pub digit_spec : {M : Type 1} → statement M
 unfolding digit
-digit-spec = tie.close (tie.spec
+digit_spec = tie.close (tie.spec
     (λ c. search rules)
-    (λ c. (lt-yea _ _ _ _ _ (omega arith) refl, omega arith))
+    (λ c. (lt_yea _ _ _ _ _ (omega arith) refl, omega arith))
     (λ c. search rules)
-    (λ c. (lt-nay _ _ _ _ _ (omega arith) refl, omega arith)))
+    (λ c. (lt_nay _ _ _ _ _ (omega arith) refl, omega arith)))

@@ -7,13 +7,13 @@ use mathlib.Core.Path.{refl}
 use native.Mathlib.Omega.{arith}
 use lib.ListN.{length}
 use Rattle.wire.specs.Writing.{Rest}
-use Rattle.wire.proofs.Clauses.{was-yea, was-nay}
-use Rattle.wire.proofs.Writing.{pen-then, pen-is}
-use Rattle.wire.proofs.Resting.{rest_more, rest-last, rest-none}
+use Rattle.wire.proofs.Clauses.{was_yea, was_nay}
+use Rattle.wire.proofs.Writing.{pen_then, pen_is}
+use Rattle.wire.proofs.Resting.{rest_more, rest_last, rest_none}
 use Rattle.boxes.proofs.Walking.{ran, ended, broke}
 use Rattle.outline.specs.Lines.{printed}
-use Rattle.outline.specs.Outline.{wherever, listLines, roundsAt}
-use Rattle.outline.proofs.Rounds.{span-size, body-length, box-last, box-shut, box-holds, from, list_all, list-more, list_open, list-broken, list-end}
+use Rattle.outline.specs.Outline.{wherever, list_lines, rounds_at}
+use Rattle.outline.proofs.Rounds.{span_size, body_length, box_last, box_shut, box_holds, from, list_all, list_more, list_open, list_broken, list_end}
 use Rattle.outline.proofs.list.put_box.Reads as put-box
 use Rattle.outline.proofs.list.put_box.Kinds as put-box-kinds
 use Rattle.outline.proofs.list.+put_box_put_list.Lts-put_box as put-box-lts
@@ -35,33 +35,33 @@ abbrev μ-put-box : Measures 2 put-box-kinds.ps ℕ
 abbrev μ-put-list : Measures 2 put-list-kinds.ps ℕ
 μ-put-list κs a = 2 * (17 - a.1.1.1.1.1.0) + 1
 
-abbrev put-box-at : ℕ → In 2 put-box-kinds.ps
-put-box-at t = and 2 put-box-kinds.ps (is 2 put-box-kinds.ps μ-put-box t) put-box.Pre
+abbrev put_box_at : ℕ → In 2 put-box-kinds.ps
+put_box_at t = and 2 put-box-kinds.ps (is 2 put-box-kinds.ps μ-put-box t) put-box.Pre
 
-abbrev put-box-below : ℕ → In 2 put-box-kinds.ps
-put-box-below t = and 2 put-box-kinds.ps (falls 2 put-box-kinds.ps ◌<◌ μ-put-box t) put-box.Pre
+abbrev put_box_below : ℕ → In 2 put-box-kinds.ps
+put_box_below t = and 2 put-box-kinds.ps (falls 2 put-box-kinds.ps ◌<◌ μ-put-box t) put-box.Pre
 
-abbrev put-list-at : ℕ → In 2 put-list-kinds.ps
-put-list-at t = and 2 put-list-kinds.ps (is 2 put-list-kinds.ps μ-put-list t) put-list.Pre
+abbrev put_list_at : ℕ → In 2 put-list-kinds.ps
+put_list_at t = and 2 put-list-kinds.ps (is 2 put-list-kinds.ps μ-put-list t) put-list.Pre
 
-abbrev put-list-below : ℕ → In 2 put-list-kinds.ps
-put-list-below t = and 2 put-list-kinds.ps (falls 2 put-list-kinds.ps ◌<◌ μ-put-list t) put-list.Pre
+abbrev put_list_below : ℕ → In 2 put-list-kinds.ps
+put_list_below t = and 2 put-list-kinds.ps (falls 2 put-list-kinds.ps ◌<◌ μ-put-list t) put-list.Pre
 
 -- the lines from the walk's place on are left
-abbrev put-list-Inv-loop : put-list-lts.invariant-loop
-put-list-Inv-loop out₀ from₀ part k place depth at₀ w₀ out at w =
-    let whole = printed (listLines wherever (roundsAt depth) k depth place part) in
-    (w.at ≤ length part) × Rest whole (printed (from wherever (roundsAt depth - 1) k depth place part w.at)) out₀ from₀ out at × (at ≤ from₀ + 40 * w.at)
+abbrev put_list_Inv_loop : put-list-lts.invariant_loop
+put_list_Inv_loop out₀ from₀ part k place depth at₀ w₀ out at w =
+    let whole = printed (list_lines wherever (rounds_at depth) k depth place part) in
+    (w.at ≤ length part) × Rest whole (printed (from wherever (rounds_at depth - 1) k depth place part w.at)) out₀ from₀ out at × (at ≤ from₀ + 40 * w.at)
 
-abbrev put-list-μ-loop : put-list-lts.decreases-loop
-put-list-μ-loop out₀ from₀ part k place depth at₀ w₀ out at w = length part - w.at
+abbrev put_list_μ_loop : put-list-lts.decreases_loop
+put_list_μ_loop out₀ from₀ part k place depth at₀ w₀ out at w = length part - w.at
 
 pub +put-box-put-list-spec : {M : Type 1} → statement M
 +put-box-put-list-spec = close μ-put-box μ-put-list
     (λ t.
     put-box-lts.spec
-    (put-box-reads.Asked, put-box-reads.Learnt, opens-as-reads.Asked, opens-as-reads.Learnt, body-Reads.Asked, body-Reads.Learnt, put-list-below t, put-list.Post)
-    (put-box-at t)
+    (put-box-reads.Asked, put-box-reads.Learnt, opens-as-reads.Asked, opens-as-reads.Learnt, body-Reads.Asked, body-Reads.Learnt, put_list_below t, put-list.Post)
+    (put_box_at t)
     put-box.Post
     (λ c. search rules)
     (λ c κs. search rules)
@@ -69,20 +69,20 @@ pub +put-box-put-list-spec : {M : Type 1} → statement M
     (λ c.
     let l = c.before.before.before in
     let a = l.before.before.before.before.before in
-    (pen-is (box-last _ 0 _ _ _ _ (omega arith) (span-size a.requires.1.0) refl) l.put-box.ensures.0, omega arith))
+    (pen_is (box_last _ 0 _ _ _ _ (omega arith) (span_size a.requires.1.0) refl) l.put-box.ensures.0, omega arith))
     (λ c κs. search rules)
     (λ c. search rules)
     (λ c.
     let l = c.before.before.before.before.before in
     let a = l.before.before.before.before.before in
-    let e = box-shut _ (roundsAt (a.args.depth + 1)) _ _ _ _ (omega arith) (span-size a.requires.1.0) c.before.opens_as.ensures c.if2.true in
-    (pen-is e l.put-box.ensures.0, omega arith))
+    let e = box_shut _ (rounds_at (a.args.depth + 1)) _ _ _ _ (omega arith) (span_size a.requires.1.0) c.before.opens_as.ensures c.if2.true in
+    (pen_is e l.put-box.ensures.0, omega arith))
     (λ c κs. search rules)
     (λ c. search rules)
     (λ c. search rules)
     (λ c κs.
     let a = c.before.before.before.before.before.before.before.before.before.before.before.before.before in
-    let n = body-length a.requires.1.0 c.before.body.ensures in
+    let n = body_length a.requires.1.0 c.before.body.ensures in
     (omega arith, (omega (arith, n), omega arith, omega (arith, n))))
     (λ c. search rules)
     (λ c.
@@ -91,15 +91,15 @@ pub +put-box-put-list-spec : {M : Type 1} → statement M
     let a = l.before.before.before.before.before in
     let i = a.requires.1.0 in
     let k = y.before.before in
-    let e = box-holds _ _ _ _ _ _ (omega arith) (span-size i) k.before.opens_as.ensures k.if2.false i.head y.body.ensures in
-    (pen-is e (pen-then l.put-box.ensures.0 c.before.before.put-list.ensures.0), omega (arith, body-length i y.body.ensures))))
+    let e = box_holds _ _ _ _ _ _ (omega arith) (span_size i) k.before.opens_as.ensures k.if2.false i.head y.body.ensures in
+    (pen_is e (pen_then l.put-box.ensures.0 c.before.before.put-list.ensures.0), omega (arith, body_length i y.body.ensures))))
     (λ t.
     put-list-lts.spec
-    (step-reads.Asked, step-reads.Learnt, may-have-reads.Asked, may-have-reads.Learnt, put-broken-reads.Asked, put-broken-reads.Learnt, put-box-below t, put-box.Post)
-    (put-list-at t)
+    (step-reads.Asked, step-reads.Learnt, may-have-reads.Asked, may-have-reads.Learnt, put-broken-reads.Asked, put-broken-reads.Learnt, put_box_below t, put-box.Post)
+    (put_list_at t)
     put-list.Post
-    put-list-Inv-loop
-    put-list-μ-loop
+    put_list_Inv_loop
+    put_list_μ_loop
     (λ c. (omega arith, list_all _ _ _ _ _ _ _ _ (omega arith), omega arith))
     (λ c κs. search rules)
     (λ c. search rules)
@@ -111,8 +111,8 @@ pub +put-box-put-list-spec : {M : Type 1} → statement M
     let m = c.before.before.before.before.before in
     let u = m.before.before.before in
     let s = ran _ _ _ _ _ u.before.before.step.ensures u.b.given.1 in
-    let e = list_open _ _ _ _ _ _ s (was-nay _ _ m.if1.true m.before.may-have.ensures) in
-    (rest-last u.before.before.before.loop.invariant.1 (pen-is e c.before.before.put-broken.ensures.0), omega arith))
+    let e = list_open _ _ _ _ _ _ s (was_nay _ _ m.if1.true m.before.may-have.ensures) in
+    (rest_last u.before.before.before.loop.invariant.1 (pen_is e c.before.before.put-broken.ensures.0), omega arith))
     (λ c κs.
     let u = c.before.before.before.before in
     let s = ran _ _ _ _ _ u.before.before.step.ensures u.b.given.1 in
@@ -125,14 +125,14 @@ pub +put-box-put-list-spec : {M : Type 1} → statement M
     let m = c.before.before.before.before in
     let u = m.before.before.before in
     let s = ran _ _ _ _ _ u.before.before.step.ensures u.b.given.1 in
-    let e = list-more _ _ _ _ _ _ s (was-yea _ _ m.if1.false m.before.may-have.ensures) in
+    let e = list_more _ _ _ _ _ _ s (was_yea _ _ m.if1.false m.before.may-have.ensures) in
     (omega arith, rest_more u.before.before.before.loop.invariant.1 e c.before.before.put-box.ensures.0, omega arith))
     (λ c. search rules)
     (λ c. search rules)
     (λ c.
     let u = c.before.before in
     let v = ended _ _ _ u.step.ensures c.enum_told.given.1 in
-    (rest-none u.before.loop.invariant.1 (list-end _ _ _ _ _ _ v.0 v.1), omega arith))
+    (rest_none u.before.loop.invariant.1 (list_end _ _ _ _ _ _ v.0 v.1), omega arith))
     (λ c. search rules)
     (λ c. let u = c.before.before in let v = broke _ _ _ _ u.before.before.step.ensures u.p.given.1 in omega arith)
     (λ c κs. let u = c.before.before in let v = broke _ _ _ _ u.before.before.step.ensures u.p.given.1 in omega arith)
@@ -140,5 +140,5 @@ pub +put-box-put-list-spec : {M : Type 1} → statement M
     (λ c.
     let u = c.before.before.before.before.before in
     let v = broke _ _ _ _ u.before.before.step.ensures u.p.given.1 in
-    let e = list-broken _ _ _ _ _ _ v.0 v.1 v.2 in
-    (rest-last u.before.before.before.loop.invariant.1 (pen-is e c.before.before.put-broken2.ensures.0), omega arith)))
+    let e = list_broken _ _ _ _ _ _ v.0 v.1 v.2 in
+    (rest_last u.before.before.before.loop.invariant.1 (pen_is e c.before.before.put-broken2.ensures.0), omega arith)))

@@ -38,7 +38,7 @@ use denote.Triple.Table.{entered, cited}
 use denote.Triple.Walked.{says, Stays, stay_none, walk_of, Goes-none, ends_at, walked, walk_Meets}
 use denote.Exit.{yes}
 use denote.Triple.Clauses.{Clauses, ensured, lasts}
-use Rattle.mdat.specs.Samples.{sampleBytes}
+use Rattle.mdat.specs.Samples.{sample_bytes}
 use Rattle.sample_walk.specs.declared.walk.Sample.{Sample}
 use Rattle.read_samples.specs.declared.held.Samples.{Samples}
 use Rattle.read_samples.proofs.Holder.{Row, vals, tells, file, Lent, Own, typed, lends}
@@ -74,8 +74,8 @@ module _ {M : Type 1} {𝓤 : Ura M} (𝓛 : Logic 𝓤) (mem : Memory → SProp
     abbrev Slice : RattleType
     Slice = ShrSlice (named 0) κ u8
 
-    abbrev is-bytes : Bor (List ℕ) → Type 0
-    is-bytes r = r.now ≡ sampleBytes d.file.now x
+    abbrev is_bytes : Bor (List ℕ) → Type 0
+    is_bytes r = r.now ≡ sample_bytes d.file.now x
 
     abbrev token : Item 𝓤
     token = ‵ (flft κ q) ⊛ ‵ ftrue
@@ -86,11 +86,11 @@ module _ {M : Type 1} {𝓤 : Ura M} (𝓛 : Logic 𝓤) (mem : Memory → SProp
     abbrev Pre : SProp 𝓤
     Pre = on_entry 𝓛 bytes.signature (κ, tt) (q, tt) (d, (x, tt)) at
 
-    abbrev from-here : (walk_of 𝓛 bytes.ended stayed clauses).Ghost
-    from-here = (((κ, tt), (q, tt), tt, (d, (x, tt)), at), tt)
+    abbrev from_here : (walk_of 𝓛 bytes.ended stayed clauses).Ghost
+    from_here = (((κ, tt), (q, tt), tt, (d, (x, tt)), at), tt)
 
     abbrev Post : Val → SProp 𝓤
-    Post = (walk_of 𝓛 bytes.ended stayed clauses).post from-here
+    Post = (walk_of 𝓛 bytes.ended stayed clauses).post from_here
 
     -- what the callee is passed
     abbrev passed : Vals of.signature (κ, tt)
@@ -114,14 +114,14 @@ module _ {M : Type 1} {𝓤 : Ura M} (𝓛 : Logic 𝓤) (mem : Memory → SProp
         move ! (0 ∷ 2 ∷ []) $ fjoin ! $ move ! (2 ∷ 0 ∷ []) $ use2 𝓛 (raw (BytesOf.pre to)) asked $ frame ! $ done !
 
     -- of what the callee tells, the clause alone: it has no `&mut`, so what is said of last values is dropped
-    said : (r : Bor (List ℕ)) → ent 𝓤 (Told r) (fact 𝓤 (is-bytes r))
-    said r = ex_e 𝓤 _ (λ ws. snd∗ 𝓤 (sem 𝓛 (lasts of.ended (κ, tt) (d.file, (x, tt)) ws)) (fact 𝓤 (is-bytes r)))
+    said : (r : Bor (List ℕ)) → ent 𝓤 (Told r) (fact 𝓤 (is_bytes r))
+    said r = ex_e 𝓤 _ (λ ws. snd∗ 𝓤 (sem 𝓛 (lasts of.ended (κ, tt) (d.file, (x, tt)) ws)) (fact 𝓤 (is_bytes r)))
 
     module _ (g : Is S.the_row x (S'.lowered x ∷ [])) where
-      exits : (r : Bor (List ℕ)) (u : Val) → is-bytes r → ent 𝓤 (⋆ 𝓛 (‵ (Slice.own r (u ∷ [])) ∷ token ∷ ‵ (Own (κ, tt) d) ∷ [])) (Post u)
+      exits : (r : Bor (List ℕ)) (u : Val) → is_bytes r → ent 𝓤 (⋆ 𝓛 (‵ (Slice.own r (u ∷ [])) ∷ token ∷ ‵ (Own (κ, tt) d) ∷ [])) (Post u)
       exits r u e =
           qed 𝓛 (‵ (Slice.own r (u ∷ [])) ∷ token ∷ ‵ (Own (κ, tt) d) ∷ []) ∵
-          suffices ! _ (ends_at 𝓛 bytes.ended stayed clauses from-here u r (tt, (tt, tt)) (tt, (tt, tt))) $ says ! e $
+          suffices ! _ (ends_at 𝓛 bytes.ended stayed clauses from_here u r (tt, (tt, tt)) (tt, (tt, tt))) $ says ! e $
           move ! (1 ∷ []) $ frame ! $ nothing ! $ owned ! S.the_row (Is S.the_row) (LL.makes S.the_type S'.the_plain 𝓛) x _ g $
           fjoin ! $ move ! (2 ∷ 0 ∷ []) $ fjoin ! $ frame ! $ done !
 
@@ -137,7 +137,7 @@ module _ {M : Type 1} {𝓤 : Ura M} (𝓛 : Logic 𝓤) (mem : Memory → SProp
             calls_at ! fm BytesOf known to
             (and_then ! (load ! (from ! (stop !)) (look ! 2 refl)) (and_then ! (load ! (from ! (stop !)) (look ! 4 refl)) (no_more !))) (λ u.
             use1 𝓛 (later (some (λ (r : Bor (List ℕ)). (token ⊛ ‵ (Slice.own r (u ∷ []))) ⊛ raw (Told r)))) (id⊢ 𝓤 _) $ await ! tt $ pick ! (λ r.
-            split ! $ move ! (1 ∷ []) $ use1 𝓛 (raw (fact 𝓤 (is-bytes r))) (said r) $ heard ! (is-bytes r) (λ e. split ! $ move ! (1 ∷ []) $
+            split ! $ move ! (1 ∷ []) $ use1 𝓛 (raw (fact 𝓤 (is_bytes r))) (said r) $ heard ! (is_bytes r) (λ e. split ! $ move ! (1 ∷ []) $
             -- [the result; the token; what the struct owns; _3; …; _2; …; _1; …; room for _0; …]
             peeks ! Slice (Is Slice) (shows 𝓛 Slice) r (u ∷ []) (λ is.
             land ! (from ! (stop !)) (init ! 9 refl ((shr_slice_Lawful 𝓛 (named 0) κ u8).typed r _ is).0) $
@@ -152,9 +152,9 @@ module _ {M : Type 1} {𝓤 : Ura M} (𝓛 : Logic 𝓤) (mem : Memory → SProp
       (λ κs. (tells κs, (LL.tells S.the_type S'.the_laws, tt))) (λ κs qs bounds a g are. via 𝓤 _ (fst∗ 𝓤 _ (emp 𝓤))
       (walk κs.0 qs.0 a.0 a.1.0 are.1.0 𝓣.C 𝓣.Λ (fm_of 𝓤 H 𝓛.laws 𝓣) known (typed κs a.0 𝓛 are.0))))
 
-pub bytes-spec : {M : Type 1} → stated.statement M
+pub bytes_spec : {M : Type 1} → stated.statement M
 unfolding code.routine tables_of
-bytes-spec 𝓤 𝓛 𝓜 𝓡 =
+bytes_spec 𝓤 𝓛 𝓜 𝓡 =
     entered 𝓤 𝓛.H (triple_of 𝓛 bytes.signature (bytes.spec 𝓛 𝓜.mem 𝓡.run))
     (tables 𝓤 𝓛.H 𝓜 𝓡 code.env).C (tables 𝓤 𝓛.H 𝓜 𝓡 code.env).Λ #held·bytes code.function (code.unfolded 𝓤 𝓛.H 𝓜 𝓡)
     (meets 𝓛 𝓜.mem 𝓡.run (tables_of 𝓤 𝓛.H 𝓜 (tables 𝓤 𝓛.H 𝓜 𝓡 code.env))

@@ -78,16 +78,16 @@ module _ {M : Type 1} {𝓤 : Ura M} (𝓛 : Logic 𝓤) (mem : Memory → SProp
     abbrev Pre : SProp 𝓤
     Pre = on_entry 𝓛 made.signature (κ, tt) (q, tt) (s, (p, tt)) at
 
-    abbrev from-here : (walk_of 𝓛 made.ended stayed clauses).Ghost
-    from-here = (((κ, tt), (q, tt), tt, (s, (p, tt)), at), tt)
+    abbrev from_here : (walk_of 𝓛 made.ended stayed clauses).Ghost
+    from_here = (((κ, tt), (q, tt), tt, (s, (p, tt)), at), tt)
 
     abbrev Post : Val → SProp 𝓤
-    Post = (walk_of 𝓛 made.ended stayed clauses).post from-here
+    Post = (walk_of 𝓛 made.ended stayed clauses).post from_here
 
     exits : Is S.the_row p (S'.lowered p ∷ []) → ent 𝓤 Pre (Post (T'.lowered d))
     exits g =
         qed 𝓛 ((‵ (flft κ q) ⊛ ‵ ftrue) ∷ ‵ (owns (Slice ∷ S.the_row ∷ []) (s, (p, tt)) at) ∷ []) ∵
-        suffices ! _ (ends_at 𝓛 made.ended stayed clauses from-here (T'.lowered d) d (tt, (tt, tt)) (tt, (tt, tt))) $ says ! (refl, refl) $ frame ! $
+        suffices ! _ (ends_at 𝓛 made.ended stayed clauses from_here (T'.lowered d) d (tt, (tt, tt)) (tt, (tt, tt))) $ says ! (refl, refl) $ frame ! $
         fsplit ! $ use1 𝓛 (‵ Own ⊛ ‵ Own) ((shr_slice_copy 𝓛 (named 0) κ u8).twice s (v ∷ [])) $ split ! $ move ! (0 ∷ 2 ∷ []) $ fjoin ! $ frame ! $
         -- [what the file owns]: what the fields own together, of it and of the stand's facts, is what the struct owns
         nothing ! $ owned ! S.the_row (Is S.the_row) (LL.makes S.the_type S'.the_plain 𝓛) p _ g $ fjoin ! $ move ! (1 ∷ 0 ∷ []) $ fjoin ! $
@@ -114,9 +114,9 @@ module _ {M : Type 1} {𝓤 : Ura M} (𝓛 : Logic 𝓤) (mem : Memory → SProp
       (λ κs. (shr_slice_Tells (named 0) κs.0 u8, (LL.tells S.the_type S'.the_laws, tt)))
       (λ κs qs bounds a g are. via 𝓤 _ (fst∗ 𝓤 _ (emp 𝓤)) (walk κs.0 qs.0 a.0 a.1.0 𝓣.C 𝓣.Λ are.0 are.1.0)))
 
-pub made-spec : {M : Type 1} → stated.statement M
+pub made_spec : {M : Type 1} → stated.statement M
 unfolding code.routine tables_of
-made-spec 𝓤 𝓛 𝓜 𝓡 =
+made_spec 𝓤 𝓛 𝓜 𝓡 =
     entered 𝓤 𝓛.H (triple_of 𝓛 made.signature (made.spec 𝓛 𝓜.mem 𝓡.run))
     (tables 𝓤 𝓛.H 𝓜 𝓡 code.env).C (tables 𝓤 𝓛.H 𝓜 𝓡 code.env).Λ #held·made code.function (code.unfolded 𝓤 𝓛.H 𝓜 𝓡)
     (meets 𝓛 𝓜.mem 𝓡.run (tables_of 𝓤 𝓛.H 𝓜 (tables 𝓤 𝓛.H 𝓜 𝓡 code.env)))

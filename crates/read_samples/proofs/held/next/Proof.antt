@@ -75,8 +75,8 @@ module _ {M : Type 1} {𝓤 : Ura M} (𝓛 : Logic 𝓤) (mem : Memory → SProp
     abbrev mach : Val
     mach = T'.lowered d
 
-    abbrev is-next : Next → Type 0
-    is-next r = NextAs d.file.now d.at r
+    abbrev is_next : Next → Type 0
+    is_next r = NextAs d.file.now d.at r
 
     abbrev token : Item 𝓤
     token = ‵ (flft κ q) ⊛ ‵ ftrue
@@ -84,11 +84,11 @@ module _ {M : Type 1} {𝓤 : Ura M} (𝓛 : Logic 𝓤) (mem : Memory → SProp
     abbrev Pre : SProp 𝓤
     Pre = on_entry 𝓛 next.signature (κ, tt) (q, tt) (d, tt) (mach ∷ [], tt)
 
-    abbrev from-here : (walk_of 𝓛 next.ended stayed clauses).Ghost
-    from-here = (((κ, tt), (q, tt), tt, (d, tt), (mach ∷ [], tt)), tt)
+    abbrev from_here : (walk_of 𝓛 next.ended stayed clauses).Ghost
+    from_here = (((κ, tt), (q, tt), tt, (d, tt), (mach ∷ [], tt)), tt)
 
     abbrev Post : Val → SProp 𝓤
-    Post = (walk_of 𝓛 next.ended stayed clauses).post from-here
+    Post = (walk_of 𝓛 next.ended stayed clauses).post from_here
 
     -- what the callee is passed
     abbrev passed : Vals step.signature (κ, tt)
@@ -113,13 +113,13 @@ module _ {M : Type 1} {𝓤 : Ura M} (𝓛 : Logic 𝓤) (mem : Memory → SProp
         move ! (2 ∷ 0 ∷ []) $ use2 𝓛 (raw (NextAt.pre to)) (asked ready) $ frame ! $ done !
 
     -- of what the callee tells, the clause alone: it has no `&mut`, so what is said of last values is dropped
-    said : (r : Next) → ent 𝓤 (Told r) (fact 𝓤 (is-next r))
-    said r = ex_e 𝓤 _ (λ ws. snd∗ 𝓤 (sem 𝓛 (lasts step.ended (κ, tt) (d.file, (d.at, tt)) ws)) (fact 𝓤 (is-next r)))
+    said : (r : Next) → ent 𝓤 (Told r) (fact 𝓤 (is_next r))
+    said r = ex_e 𝓤 _ (λ ws. snd∗ 𝓤 (sem 𝓛 (lasts step.ended (κ, tt) (d.file, (d.at, tt)) ws)) (fact 𝓤 (is_next r)))
 
-    exits : (r : Next) (u : Val) → is-next r → ent 𝓤 (⋆ 𝓛 (‵ ((N.the_row).own_val r (u ∷ [])) ∷ token ∷ ‵ (Own (κ, tt) d) ∷ [])) (Post u)
+    exits : (r : Next) (u : Val) → is_next r → ent 𝓤 (⋆ 𝓛 (‵ ((N.the_row).own_val r (u ∷ [])) ∷ token ∷ ‵ (Own (κ, tt) d) ∷ [])) (Post u)
     exits r u e =
         qed 𝓛 (‵ ((N.the_row).own_val r (u ∷ [])) ∷ token ∷ ‵ (Own (κ, tt) d) ∷ []) ∵
-        suffices ! _ (ends_at 𝓛 next.ended stayed clauses from-here u r (tt, tt) (tt, tt)) $ says ! e $
+        suffices ! _ (ends_at 𝓛 next.ended stayed clauses from_here u r (tt, tt) (tt, tt)) $ says ! e $
         move ! (1 ∷ []) $ frame ! $ nothing ! $ move ! (2 ∷ 0 ∷ []) $ fjoin ! $ frame ! $ done !
 
     module _ (C : Calls 𝓤 H) (Λ : Loops 𝓤 H) (fm : FmC 𝓤 H 𝓛.laws C) (known : Triple 𝓤 (C #stand·next-at) NextAt) where
@@ -136,7 +136,7 @@ module _ {M : Type 1} {𝓤 : Ura M} (𝓛 : Logic 𝓤) (mem : Memory → SProp
           calls_at ! fm NextAt known to
           (and_then ! (load ! (from ! (stop !)) (look ! 4 refl)) (and_then ! (load ! (from ! (stop !)) (look ! 2 refl)) (no_more !))) (λ u.
           use1 𝓛 (later (some (λ (r : Next). (token ⊛ ‵ ((N.the_row).own_val r (u ∷ []))) ⊛ raw (Told r)))) (id⊢ 𝓤 _) $ await ! tt $ pick ! (λ r.
-          split ! $ move ! (1 ∷ []) $ use1 𝓛 (raw (fact 𝓤 (is-next r))) (said r) $ heard ! (is-next r) (λ e. split ! $ move ! (1 ∷ []) $
+          split ! $ move ! (1 ∷ []) $ use1 𝓛 (raw (fact 𝓤 (is_next r))) (said r) $ heard ! (is_next r) (λ e. split ! $ move ! (1 ∷ []) $
           -- [the result; the token; what the struct owns; _3; …; _2; …; _1; …; room for _0; …]
           peeks ! N.the_row (Is N.the_row) (shows 𝓛 N.the_row) r (u ∷ []) (λ is.
           land ! (from ! (stop !)) (init ! 9 refl ((EL.lawful N.the_type N'.the_laws 𝓛 tt).typed r _ is).0) $
@@ -150,9 +150,9 @@ module _ {M : Type 1} {𝓤 : Ura M} (𝓛 : Logic 𝓤) (mem : Memory → SProp
       (walked 𝓛 next.ended stayed clauses (Runs 𝓣.C 𝓣.Λ) (λ κs. (vals κs, tt)) (λ κs. (tells κs, tt)) (λ κs qs bounds a g are. needs 𝓤 _ _ (λ ready.
       walk κs.0 qs.0 a.0 𝓣.C 𝓣.Λ (fm_of 𝓤 H 𝓛.laws 𝓣) known ready (stand_of κs a.0 are.0) (typed κs a.0 𝓛 are.0))))
 
-pub next-spec : {M : Type 1} → stated.statement M
+pub next_spec : {M : Type 1} → stated.statement M
 unfolding code.routine tables_of
-next-spec 𝓤 𝓛 𝓜 𝓡 =
+next_spec 𝓤 𝓛 𝓜 𝓡 =
     entered 𝓤 𝓛.H (triple_of 𝓛 next.signature (next.spec 𝓛 𝓜.mem 𝓡.run))
     (tables 𝓤 𝓛.H 𝓜 𝓡 code.env).C (tables 𝓤 𝓛.H 𝓜 𝓡 code.env).Λ #held·next code.function (code.unfolded 𝓤 𝓛.H 𝓜 𝓡)
     (meets 𝓛 𝓜.mem 𝓡.run (tables_of 𝓤 𝓛.H 𝓜 (tables 𝓤 𝓛.H 𝓜 𝓡 code.env))

@@ -62,16 +62,16 @@ module _ {M : Type 1} {𝓤 : Ura M} (𝓛 : Logic 𝓤) (mem : Memory → SProp
     abbrev Pre : SProp 𝓤
     Pre = on_entry 𝓛 number.signature (κ, tt) (q, tt) (d, tt) (mach ∷ [], tt)
 
-    abbrev from-here : (walk_of 𝓛 number.ended stayed clauses).Ghost
-    from-here = (((κ, tt), (q, tt), tt, (d, tt), (mach ∷ [], tt)), tt)
+    abbrev from_here : (walk_of 𝓛 number.ended stayed clauses).Ghost
+    from_here = (((κ, tt), (q, tt), tt, (d, tt), (mach ∷ [], tt)), tt)
 
     abbrev Post : Val → SProp 𝓤
-    Post = (walk_of 𝓛 number.ended stayed clauses).post from-here
+    Post = (walk_of 𝓛 number.ended stayed clauses).post from_here
 
     exits : n < 2 ^ 64 → ent 𝓤 Pre (Post (vint w64 n))
     exits fits =
         qed 𝓛 ((‵ (flft κ q) ⊛ ‵ ftrue) ∷ ‵ (owns (Row (κ, tt) ∷ []) (d, tt) (mach ∷ [], tt)) ∷ []) ∵
-        suffices ! _ (ends_at 𝓛 number.ended stayed clauses from-here (vint w64 n) n (tt, tt) (tt, tt)) $ says ! refl $
+        suffices ! _ (ends_at 𝓛 number.ended stayed clauses from_here (vint w64 n) n (tt, tt) (tt, tt)) $ says ! refl $
         frame ! $ frame ! $ owned ! usize (Is usize) (uint_Makes 𝓛 w64) n _ (refl, fits) $ done !
 
     walk : (C : Calls 𝓤 H) (Λ : Loops 𝓤 H) → Holds (has_ty (T'.mir (named 0)) mach) × WT mach → ent 𝓤 Pre (Runs C Λ (mach ∷ []) Post)
@@ -90,9 +90,9 @@ module _ {M : Type 1} {𝓤 : Ura M} (𝓛 : Logic 𝓤) (mem : Memory → SProp
       (walked 𝓛 number.ended stayed clauses (Runs 𝓣.C 𝓣.Λ) (λ κs. (vals κs, tt)) (λ κs. (tells κs, tt))
       (λ κs qs bounds a g are. via 𝓤 _ (fst∗ 𝓤 _ (emp 𝓤)) (walk κs.0 qs.0 a.0 𝓣.C 𝓣.Λ (typed κs a.0 𝓛 are.0))))
 
-pub number-spec : {M : Type 1} → stated.statement M
+pub number_spec : {M : Type 1} → stated.statement M
 unfolding code.routine tables_of
-number-spec 𝓤 𝓛 𝓜 𝓡 =
+number_spec 𝓤 𝓛 𝓜 𝓡 =
     entered 𝓤 𝓛.H (triple_of 𝓛 number.signature (number.spec 𝓛 𝓜.mem 𝓡.run))
     (tables 𝓤 𝓛.H 𝓜 𝓡 code.env).C (tables 𝓤 𝓛.H 𝓜 𝓡 code.env).Λ #held·number code.function (code.unfolded 𝓤 𝓛.H 𝓜 𝓡)
     (meets 𝓛 𝓜.mem 𝓡.run (tables_of 𝓤 𝓛.H 𝓜 (tables 𝓤 𝓛.H 𝓜 𝓡 code.env)))

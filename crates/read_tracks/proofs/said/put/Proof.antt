@@ -1,6 +1,6 @@
 -- The four numbers stand at the front.
 use borrow.Author.Rules.{rules}
-use Rattle.read_tracks.proofs.Reading.{wrote-said}
+use Rattle.read_tracks.proofs.Reading.{wrote_said}
 use lib.ListN.{length-set}
 use native.Mathlib.Omega.{arith}
 use Rattle.read_tracks.proofs.said.put.Statement.{statement}
@@ -13,4 +13,4 @@ put_spec = tie.close (tie.spec
     (λ c. simp length-set (omega arith))
     (λ c. simp length-set (omega arith))
     (λ c. search rules)
-    (λ c. wrote-said _ _ (omega arith)))
+    (λ c. wrote_said _ _ (omega arith)))

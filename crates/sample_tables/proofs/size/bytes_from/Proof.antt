@@ -6,8 +6,8 @@ use native.Mathlib.Omega.{arith}
 use Rattle.sample_tables.proofs.size.bytes_from.Statement.{statement}
 use Rattle.sample_tables.proofs.size.bytes_from.Tie as tie
 
-pub bytes-from-spec : {M : Type 1} → statement M
-bytes-from-spec = tie.close (tie.spec
+pub bytes_from_spec : {M : Type 1} → statement M
+bytes_from_spec = tie.close (tie.spec
     (λ c κs. search rules)
     (λ c κs. search rules)
     (λ c κs. record { few = omega arith; listed = λ z. omega arith })

@@ -2,10 +2,10 @@ use borrow.Author.Rules.{rules}
 use Rattle.test_calls.proofs.feed.run.Statement.{statement}
 use Rattle.test_calls.proofs.feed.run.Tie as tie
 
-abbrev Inv : tie.invariant-loop
+abbrev Inv : tie.invariant_loop
 Inv path file left₀ left = Unit {0}
 
-abbrev μ : tie.decreases-loop
+abbrev μ : tie.decreases_loop
 μ path file left₀ left = left
 
 pub run_spec : {M : Type 1} → statement M

@@ -4,14 +4,14 @@ use lib.ListN.{length}
 use Rattle.test_calls.proofs.group.make_all.Statement.{statement}
 use Rattle.test_calls.proofs.group.make_all.Tie as tie
 
-abbrev Inv : tie.invariant-loop
+abbrev Inv : tie.invariant_loop
 Inv file calls at₀ at = at ≤ length calls
 
-abbrev μ : tie.decreases-loop
+abbrev μ : tie.decreases_loop
 μ file calls at₀ at = length calls - at
 
-pub make-all-spec : {M : Type 1} → statement M
-make-all-spec = tie.close (tie.spec Inv μ
+pub make_all_spec : {M : Type 1} → statement M
+make_all_spec = tie.close (tie.spec Inv μ
     (λ c. search rules)
     (λ c. search rules)
     (λ c κs. search rules)

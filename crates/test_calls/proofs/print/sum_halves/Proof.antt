@@ -4,14 +4,14 @@ use lib.ListN.{length}
 use Rattle.test_calls.proofs.print.sum_halves.Statement.{statement}
 use Rattle.test_calls.proofs.print.sum_halves.Tie as tie
 
-abbrev Inv : tie.invariant-loop
+abbrev Inv : tie.invariant_loop
 Inv list sum₀ at₀ t4 sum at = (sum < 2147483648) × (at ≤ length list)
 
-abbrev μ : tie.decreases-loop
+abbrev μ : tie.decreases_loop
 μ list sum₀ at₀ t4 sum at = length list - at
 
-pub sum-halves-spec : {M : Type 1} → statement M
-sum-halves-spec = tie.close (tie.spec Inv μ
+pub sum_halves_spec : {M : Type 1} → statement M
+sum_halves_spec = tie.close (tie.spec Inv μ
     (λ c. search rules)
     (λ c. search rules)
     (λ c. search rules)

@@ -4,14 +4,14 @@ use lib.ListN.{length}
 use Rattle.test_parts.proofs.feed.show_all.Statement.{statement}
 use Rattle.test_parts.proofs.feed.show_all.Tie as tie
 
-abbrev Inv : tie.invariant-loop
+abbrev Inv : tie.invariant_loop
 Inv what cases at₀ at = at ≤ length cases
 
-abbrev μ : tie.decreases-loop
+abbrev μ : tie.decreases_loop
 μ what cases at₀ at = length cases - at
 
-pub show-all-spec : {M : Type 1} → statement M
-show-all-spec = tie.close (tie.spec Inv μ
+pub show_all_spec : {M : Type 1} → statement M
+show_all_spec = tie.close (tie.spec Inv μ
     (λ c. search rules)
     (λ c. search rules)
     (λ c κs. search rules)

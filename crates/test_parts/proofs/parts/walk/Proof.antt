@@ -7,14 +7,14 @@ use native.Mathlib.Omega.{arith}
 use Rattle.test_parts.proofs.parts.walk.Statement.{statement}
 use Rattle.test_parts.proofs.parts.walk.Tie as tie
 
-abbrev Inv : tie.invariant-loop
+abbrev Inv : tie.invariant_loop
 Inv part w₀ w = w.at ≤ length part
 
-abbrev μ : tie.decreases-loop
+abbrev μ : tie.decreases_loop
 μ part w₀ w = length part - w.at
 
-pub walk-spec : {M : Type 1} → statement M
-walk-spec = tie.close (tie.spec Inv μ
+pub walk_spec : {M : Type 1} → statement M
+walk_spec = tie.close (tie.spec Inv μ
     (λ c. search rules)
     (λ c κs. search rules)
     (λ c. search rules)

@@ -6,8 +6,8 @@ use native.Mathlib.Omega.{arith}
 use Rattle.wire.proofs.lend.front.Statement.{statement}
 use Rattle.wire.proofs.lend.front.Tie as tie
 
-pub front-spec : {M : Type 1} → statement M
-front-spec = tie.close (tie.spec
+pub front_spec : {M : Type 1} → statement M
+front_spec = tie.close (tie.spec
     (λ c. search rules)
     (λ c. search rules)
     (λ c. search rules)

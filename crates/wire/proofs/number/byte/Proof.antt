@@ -4,8 +4,8 @@ use native.Mathlib.Omega.{arith}
 use Rattle.wire.proofs.number.byte.Statement.{statement}
 use Rattle.wire.proofs.number.byte.Tie as tie
 
-pub byte-spec : {M : Type 1} → statement M
-byte-spec = tie.close (tie.spec
+pub byte_spec : {M : Type 1} → statement M
+byte_spec = tie.close (tie.spec
     (λ c. search rules)
     (λ c κs. search rules)
     (λ c. search rules)

@@ -5,8 +5,8 @@ use native.Mathlib.Omega.{arith}
 use Rattle.wire.proofs.number.word16.Statement.{statement}
 use Rattle.wire.proofs.number.word16.Tie as tie
 
-pub word16-spec : {M : Type 1} → statement M
-word16-spec = tie.close (tie.spec
+pub word16_spec : {M : Type 1} → statement M
+word16_spec = tie.close (tie.spec
     (λ c. search rules)
     (λ c κs. search rules)
     (λ c. search rules)

@@ -5,8 +5,8 @@ use native.Mathlib.Omega.{arith}
 use Rattle.wire.proofs.number.word32.Statement.{statement}
 use Rattle.wire.proofs.number.word32.Tie as tie
 
-pub word32-spec : {M : Type 1} → statement M
-word32-spec = tie.close (tie.spec
+pub word32_spec : {M : Type 1} → statement M
+word32_spec = tie.close (tie.spec
     (λ c. search rules)
     (λ c κs. search rules)
     (λ c. search rules)

@@ -1,7 +1,7 @@
 -- The invariant: the first i bytes of src are put.
 use borrow.Author.Rules.{rules}
 use Prim.Native.Nat.{◌-◌, ◌≤◌}
-use Rattle.wire.proofs.Writing.{put-none, put-more}
+use Rattle.wire.proofs.Writing.{put_none, put_more}
 use Rattle.wire.specs.Writing.{put}
 use lib.ListN.{length, take, length-set}
 use lib.Seq.{take-length}
@@ -10,15 +10,15 @@ use native.Mathlib.Omega.{arith}
 use Rattle.wire.proofs.pen.lay.Statement.{statement}
 use Rattle.wire.proofs.pen.lay.Tie as tie
 
-abbrev Inv : tie.invariant-loop
+abbrev Inv : tie.invariant_loop
 Inv out₀ at src i₀ out i = (i ≤ length src) × (out ≡ put out₀ at (take i src)) × (length out ≡ length out₀)
 
-abbrev μ : tie.decreases-loop
+abbrev μ : tie.decreases_loop
 μ out₀ at src i₀ out i = length src - i
 
-pub lay-spec : {M : Type 1} → statement M
-lay-spec = tie.close (tie.spec Inv μ
-    (λ c. (omega arith, sym (put-none _ _), refl))
+pub lay_spec : {M : Type 1} → statement M
+lay_spec = tie.close (tie.spec Inv μ
+    (λ c. (omega arith, sym (put_none _ _), refl))
     (λ c. search rules)
     (λ c. search rules)
     (λ c. search rules)
@@ -26,7 +26,7 @@ lay-spec = tie.close (tie.spec Inv μ
     (λ c. search rules)
     (λ c. let l = c.before.before in let a = l.before.args in (
       omega arith,
-      rw l.loop.invariant.1 (put-more a.out.now a.at a.src.now l.loop.i (omega arith) (omega arith)),
+      rw l.loop.invariant.1 (put_more a.out.now a.at a.src.now l.loop.i (omega arith) (omega arith)),
       simp length-set
           l.loop.invariant.2,
     ))

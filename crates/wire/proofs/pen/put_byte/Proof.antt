@@ -1,15 +1,15 @@
 use borrow.Author.Rules.{rules}
-use Rattle.wire.proofs.Writing.{pen-put, pen-past, put_one}
+use Rattle.wire.proofs.Writing.{pen_put, pen_past, put_one}
 use mathlib.Core.Path.{refl}
 use native.Mathlib.Omega.{arith}
 use Rattle.wire.proofs.pen.put_byte.Statement.{statement}
 use Rattle.wire.proofs.pen.put_byte.Tie as tie
 
-pub put-byte-spec : {M : Type 1} → statement M
-put-byte-spec = tie.close (tie.spec
+pub put_byte_spec : {M : Type 1} → statement M
+put_byte_spec = tie.close (tie.spec
     (λ c. search rules)
     (λ c. search rules)
     (λ c. search rules)
-    (λ c. pen-put _ _ refl (omega arith) (put_one _ _ _ (omega arith)))
+    (λ c. pen_put _ _ refl (omega arith) (put_one _ _ _ (omega arith)))
     (λ c. search rules)
-    (λ c. pen-past _ _ refl (omega arith)))
+    (λ c. pen_past _ _ refl (omega arith)))
