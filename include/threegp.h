@@ -27,9 +27,6 @@
      40  this is no dump of AMR or wideband AMR with one channel
      41  the frame here has a padding bit set, is of an unknown type or is cut short
      42  there are more than 65,536 frames
-     50  a descriptor or a number of the esds does not fit, or a length takes over four bytes
-     51  a descriptor of the esds is missing, is one too many or is out of order
-     52  a fixed number of the esds is not as it must be
      60  this is not an ftyp and right after it one mdat with size 0 or past the end, and nothing else
      61  no whole good frame stands at the start of the mdat
 
@@ -111,18 +108,6 @@ uint64_t threegp_record_read(const uint8_t *entry, size_t length, uint64_t relea
 /* The entry of such fields, in a release as above. Value: its length; 117 bytes suffice.
    Refusals: 21 (another count of fields, a number that doesn't fit, or a broken rule), 25. Stack: 360. */
 uint64_t threegp_record_write(const uint64_t *fields, size_t count, uint64_t release, uint8_t *out, size_t room);
-
-/* What stands in the `esds` of an entry (from 1, in file order), an `mp4v` or `mp4a`: kind (1 `mp4v`, 2 `mp4a`), ES number, object type, stream type,
-   buffer size, maximum rate, average rate, 1 where specific information is there and else 0, the place of its contents in the file, and their length
-   (both 0 where it isn't there). Value 10. docs/ESDS.md has more.
-   Refusals: 1 to 10, 20 (also an entry of another kind), 50, 51, 52, 25 (out has fewer than 10 numbers). Stack: 0. */
-uint64_t threegp_esds_read(const uint8_t *file, size_t length, uint64_t entry, uint64_t *out, size_t room);
-
-/* The `esds` box of such fields, the first eight of what threegp_esds_read gives, and of these contents of the specific information; its lengths have as few
-   bytes as they can. Value: its length; 46 bytes more than the contents suffice.
-   Refusals: 20 (another count of fields, or another kind), 50 (a number that doesn't fit its place, an eighth field over 1, contents where it is 0, or contents
-   too long for four length bytes), 52 (the object type or the stream type is not the one of the kind), 25. Stack: 0. */
-uint64_t threegp_esds_write(const uint64_t *fields, size_t count, const uint8_t *specific, size_t length, uint8_t *out, size_t room);
 
 /* The printed listing of a file; a refused one has a listing of one line. Value: the text's length; 4,096 bytes suffice.
    Refusals: 25. Stack: 20416. */

@@ -1,10 +1,12 @@
 -- How the two calls keep their promises. Assumes nothing.
-use Prim.Native.Nat.{ℕ}
+use Prim.Native.Nat.{ℕ, ◌+◌, ◌≤◌}
+use native.Mathlib.Omega.{arith}
 use mathlib.Core.Path.{◌≡◌, refl, sym, ap, ◌∙◌}
 use mathlib.Core.Bool.{Bool, true, false}
 use mathlib.Core.List.{List, [], ◌∷◌, ◌++◌}
 use lib.Dec.{ltb}
 use lib.ListN.{length, drop}
+use lib.Seq.{sets, sets-eq}
 use Rattle.wire.specs.Tests.{pick, if_lt}
 use Rattle.release.specs.declared.Release.{Release}
 use Rattle.entry_records.specs.declared.field.Record.{Record}
@@ -18,8 +20,13 @@ use Rattle.rule.specs.declared.Answer.{Answer}
 use Rattle.rule.specs.declared.Answer.TheVariants.{Done, Refused}
 use Rattle.rule.specs.Results.{asked, answer_in, left_in, Exact}
 use Rattle.rule.specs.Results.Result.{gives}
-use Rattle.rule.proofs.Results.{exact_refuses}
+use Rattle.rule.proofs.Results.{exact_refuses, exact_wrote}
 use Rattle.entry_fields.specs.Numbers.{record_of, is_record, read_result, write_result}
+
+-- ---- numbers into a list
+
+pub put_fits : (ns out : List ℕ) → length ns ≤ length out → Exact (gives ns) out (Done (length ns)) (sets out 0 ns)
+put_fits ns out h = let z : 0 + length ns ≡ length ns = omega arith in exact_wrote ns out h (record { span = refl; is = rw z at (sets-eq ns out 0 (omega arith)) })
 
 -- ---- the reader
 

@@ -4,12 +4,12 @@ use native.Mathlib.Omega.{arith}
 use mathlib.Core.Path.{◌≡◌, refl, sym, ap, ◌∙◌}
 use mathlib.Core.List.{List, [], ◌∷◌}
 use lib.ListN.{length, drop, set, length-drop}
-use lib.Seq.{drop-length}
+use lib.Seq.{drop-length, sets-eq}
 use Rattle.wire.proofs.Tests.{eq_yea, eq_nay}
 use Rattle.rule.specs.declared.Answer.TheVariants.{Done, Refused}
 use Rattle.rule.specs.Results.{Exact}
 use Rattle.rule.specs.Results.Result.{gives}
-use Rattle.rule.proofs.Results.{exact_short, exact_wrote, exact_puts}
+use Rattle.rule.proofs.Results.{exact_short, exact_wrote}
 use Rattle.sample_walk.specs.declared.walk.Sample.{Sample}
 use Rattle.modes.specs.declared.Failing.{Failing}
 use Rattle.modes.specs.Track.{failing_from, failing_numbers}
@@ -57,4 +57,4 @@ module _ (f : Failing) (out : List ℕ) where
     fails_short h = rw (← two) (exact_short _ out h)
 
     pub fails_told : 2 ≤ length out → Exact (gives (failing_numbers f)) out (Done 2) (set (set out 0 f.number) 1 f.why)
-    fails_told h = rw (← two) (exact_puts _ out h)
+    fails_told h = rw (← two) (exact_wrote _ out h (record { span = refl; is = sets-eq (f.number ∷ f.why ∷ []) out 0 h }))

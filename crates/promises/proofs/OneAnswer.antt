@@ -15,7 +15,6 @@ use Rattle.sheet_table.specs.Table.{table_result}
 use Rattle.listing.specs.Listing.{listing_result}
 use Rattle.outline.specs.Outline.{outline_result}
 use Rattle.entry_fields.specs.Numbers.{read_result, write_result}
-use Rattle.esds.specs.Calls.{esds_read, esds_write}
 use Rattle.edit_shift.specs.Shift.{shift_result}
 use Rattle.edit_replace.specs.Replace.{replace_result}
 use Rattle.edit_move.specs.Moving.{move_result}
@@ -39,9 +38,6 @@ module _ (file : List ℕ) where
 
   pub one_modes : (t : ℕ) → One (modes_result file t)
   one_modes t = one _
-
-  pub one_esds_read : (i : ℕ) → One (esds_read file i)
-  one_esds_read i = one _
 
   pub one_sheet : One (sheet_result file)
   one_sheet = one _
@@ -69,6 +65,3 @@ one_read release entry = one _
 
 pub one_write : (release : Release) (fields : List ℕ) → One (write_result release fields)
 one_write release fields = one _
-
-pub one_esds_write : (fields specific : List ℕ) → One (esds_write fields specific)
-one_esds_write fields specific = one _

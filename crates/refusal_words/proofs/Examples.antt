@@ -11,8 +11,7 @@ read :
     × (refused_text 11 0 ≡ text "refused 11: no such refusal\n")
     × (refused_text 41 19 ≡ text "refused 41 at 19: the frame here has a padding bit set, is of an unknown type or is cut short\n")
     × (refused_text 42 0 ≡ text "refused 42: there are more than 65,536 frames\n")
-    × (refused_text 51 0 ≡ text "refused 51: a descriptor of the esds is missing, is one too many or is out of order\n")
     × (refused_text 60 0 ≡ text "refused 60: this is not an ftyp and right after it one mdat with size 0 or past the end, and nothing else\n")
     × (refused_text 61 0 ≡ text "refused 61: no whole good frame stands at the start of the mdat\n")
 unfolding if_eq if_le if_lt decimal labelled words_in refusal_words place_words refused_text
-read = (refl, refl, refl, refl, refl, refl, refl, refl)
+read = (refl, refl, refl, refl, refl, refl, refl)

@@ -14,7 +14,7 @@ abbrev ◌means◌ : ℕ → String → Meaning
 n means w = record { number = n; words = w }
 
 infix 60 ◌means◌
--- all refusals: of the file by its rules, of what was asked for, of the result, of the sheet, of the dump, of the esds and of the recording that broke off
+-- all refusals: of the file by its rules, of what was asked for, of the result, of the sheet, of the dump and of the recording that broke off
 abbrev pub meanings : List Meaning
 meanings =
     (1 means "the length is not 8 to 1,048,576 bytes")
@@ -37,9 +37,6 @@ meanings =
     ∷ (40 means "this is no dump of AMR or wideband AMR with one channel")
     ∷ (41 means "the frame here has a padding bit set, is of an unknown type or is cut short")
     ∷ (42 means "there are more than 65,536 frames")
-    ∷ (50 means "a descriptor or a number of the esds does not fit, or a length takes over four bytes")
-    ∷ (51 means "a descriptor of the esds is missing, is one too many or is out of order")
-    ∷ (52 means "a fixed number of the esds is not as it must be")
     ∷ (60 means "this is not an ftyp and right after it one mdat with size 0 or past the end, and nothing else")
     ∷ (61 means "no whole good frame stands at the start of the mdat")
     ∷ []

@@ -72,17 +72,6 @@ fn put_words(out: &mut [u8], at: usize, n: usize) -> usize
             b"the frame here has a padding bit set, is of an unknown type or is cut short",
         ),
         42 => put_part(out, at, b"there are more than 65,536 frames"),
-        50 => put_part(
-            out,
-            at,
-            b"a descriptor or a number of the esds does not fit, or a length takes over four bytes",
-        ),
-        51 => put_part(
-            out,
-            at,
-            b"a descriptor of the esds is missing, is one too many or is out of order",
-        ),
-        52 => put_part(out, at, b"a fixed number of the esds is not as it must be"),
         60 => put_part(
             out,
             at,

@@ -3,11 +3,12 @@ use Prim.Native.Nat.{ℕ, ◌+◌, ◌*◌, ◌≤◌}
 use mathlib.Core.Path.{◌≡◌, refl, ap, ◌∙◌}
 use mathlib.Core.List.{List, [], ◌∷◌}
 use lib.ListN.{length, set}
+use lib.Seq.{sets-eq}
 use Rattle.clocks.specs.Clocks.{order_number}
 use Rattle.rule.specs.declared.Answer.{Answer}
 use Rattle.rule.specs.declared.Answer.TheVariants as answer
 use Rattle.rule.specs.Results.{Result, Exact, Reports}
-use Rattle.rule.proofs.Results.{exact_refuses, exact_puts}
+use Rattle.rule.proofs.Results.{exact_refuses, exact_wrote}
 use Rattle.newer.specs.declared.Part.{Part}
 use Rattle.newer.specs.declared.Outcome.{Outcome}
 use Rattle.newer.specs.declared.Outcome.TheVariants.{Found, Refused}
@@ -26,7 +27,7 @@ reports_for_c e x = record { call = for_c e x.exact; report = x.report }
 -- ---- four numbers
 
 pub part_fits : (f : Part) (out : List ℕ) {o : ℕ} → o ≡ order_number f.order → 4 ≤ length out → Exact (newer_result (Found f)) out (answer.Done 4) (set (set (set (set out 0 o) 1 f.file) 2 f.place) 3 f.span)
-part_fits f out e h = rw e (exact_puts _ out h)
+part_fits f out e h = rw e (exact_wrote _ out h (record { span = refl; is = sets-eq (order_number f.order ∷ f.file ∷ f.place ∷ f.span ∷ []) out 0 h }))
 
 module _ (o : Outcome) (out : List ℕ) where
   pub outcome_found : (f : Part) → o ≡ Found f → {a : Answer} {left : List ℕ} → Exact (newer_result (Found f)) out a left → Exact (newer_result o) out a left

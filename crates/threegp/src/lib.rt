@@ -15,7 +15,6 @@ ghost use Rattle.outline.specs.Outline.{outline_result};
 ghost use Rattle.newer.specs.declared.Outcome.TheVariants.{Found};
 ghost use Rattle.newer.specs.Newer.{newest_of};
 ghost use Rattle.entry_fields.specs.Numbers.{read_result, write_result};
-ghost use Rattle.esds.specs.Calls.{esds_read, esds_write};
 ghost use Rattle.edit_shift.specs.Shift.{shift_result};
 ghost use Rattle.edit_replace.specs.Replace.{replace_result};
 ghost use Rattle.edit_move.specs.Moving.{move_result};
@@ -179,22 +178,6 @@ pub extern "C" fn threegp_record_write(numbers: &[u64], release: u64, out: &mut 
     ensures { ForC (write_result (release_named release) numbers.now) out.old result out.new }
 {
     pack(entry_fields::write(numbers, release::of_number(release), out))
-}
-
-// What the descriptors say in the `esds` of an entry of a file.
-#[unsafe(no_mangle)]
-pub extern "C" fn threegp_esds_read(file: &[u8], entry: u64, out: &mut [u64]) -> u64
-    ensures { ForC (esds_read file.now entry) out.old result out.new }
-{
-    pack(esds::read(file, entry as usize, out))
-}
-
-// The `esds` of values.
-#[unsafe(no_mangle)]
-pub extern "C" fn threegp_esds_write(numbers: &[u64], specific: &[u8], out: &mut [u8]) -> u64
-    ensures { ForC (esds_write numbers.now specific.now) out.old result out.new }
-{
-    pack(esds::write(numbers, specific, out))
 }
 
 // The printed listing of a file.

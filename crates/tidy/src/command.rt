@@ -1,10 +1,9 @@
 // The first argument, and the arguments that its word takes.
-use crate::job;
 use crate::job::Job;
+use crate::{compare, job};
 use frames::codec::Codec;
 use tidy_edits::edit::Edit;
 use tidy_numbers::{minutes, parse};
-use tidy_reads::compare;
 use tidy_words::{help, tell, word};
 use wire::compare::same;
 
@@ -25,28 +24,34 @@ fn shift() -> usize {
     with_files(Job::Make(Edit::Shift(z.value)), 3, 4)
 }
 
-// The job of a word that takes the number of an entry or a track.
-fn job_on(number: usize, n: usize) -> Job {
-    match number {
-        word::MODES => Job::Modes(n),
-        word::ESDS => Job::Esds(n),
-        word::TABLE => Job::Table(n),
-        _ => Job::Record(n),
+fn modes() -> usize {
+    let track = parse::argument(2);
+    if track.fault != parse::NOTHING {
+        return tell::FAILED;
     }
+    with_files(Job::Modes(track.value as usize), 3, 4)
 }
 
-// The changes of a record stand before the last two arguments.
-fn numbered(number: usize, count: usize) -> usize {
+fn table() -> usize {
+    let track = parse::argument(2);
+    if track.fault != parse::NOTHING {
+        return tell::FAILED;
+    }
+    with_files(Job::Table(track.value as usize), 3, 4)
+}
+
+// The changes stand before the last two arguments.
+fn record(count: usize) -> usize {
     let i = parse::argument(2);
     if i.fault != parse::NOTHING {
         return tell::FAILED;
     }
-    let n = i.value as usize;
+    let entry = i.value as usize;
     if count < 6 {
-        return with_files(job_on(number, n), 3, 4);
+        return with_files(Job::Record(entry), 3, 4);
     }
     let end = count - 2;
-    with_files(Job::Change { entry: n, end }, end, count - 1)
+    with_files(Job::Change { entry, end }, end, count - 1)
 }
 
 // The file doesn't say which codec its frames are of.
@@ -93,10 +98,7 @@ fn by_short(word: &[u8], number: usize, count: usize) -> usize {
         return with_files(Job::Outline, 2, 3);
     }
     if number == word::MODES && count == 4 {
-        return numbered(number, count);
-    }
-    if number == word::ESDS && count == 4 {
-        return numbered(number, count);
+        return modes();
     }
     if number == word::MOVE && count == 4 {
         return with_files(Job::Make(Edit::Move), 2, 3);
@@ -119,7 +121,7 @@ fn by_word(word: &[u8], count: usize) -> usize {
         return shift();
     }
     if number == word::TABLE && count == 5 {
-        return numbered(number, count);
+        return table();
     }
     if number == word::SALVAGE && count == 5 {
         return salvage(word);
@@ -128,7 +130,7 @@ fn by_word(word: &[u8], count: usize) -> usize {
         return newer();
     }
     if number == word::RECORD && 4 <= count && count != 5 {
-        return numbered(number, count);
+        return record(count);
     }
     by_short(word, number, count)
 }

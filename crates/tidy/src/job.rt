@@ -1,9 +1,9 @@
 // What is done with one file, once it is read.
+use crate::{list, speech};
 use frames::codec::Codec;
 use tidy_edits::edit::Edit;
 use tidy_edits::{edit, record, rescue};
 use tidy_files::input;
-use tidy_reads::{descriptors, list, speech};
 use tidy_words::tell;
 use wire::lend;
 
@@ -13,7 +13,6 @@ pub enum Job {
     List,
     Outline,
     Modes(usize),
-    Esds(usize),
     Make(Edit),
     Table(usize),
     Dump,
@@ -43,7 +42,6 @@ fn apply(job: Job, from: &[u8], file: &[u8], to: &[u8]) -> usize {
         Job::List => list::run(file),
         Job::Outline => list::outline(file),
         Job::Modes(track) => speech::run(file, track),
-        Job::Esds(i) => descriptors::run(file, i),
         Job::Make(edit) => edit::run(edit, file, to),
         Job::Table(track) => table(track, from, file, to),
         Job::Dump => dump(from, file, to),

@@ -1,6 +1,9 @@
 // Lists, outlines, checks, shifts, moves, changes, compares, makes and salvages 3GP files, as its first argument says.
 mod command;
+mod compare;
 mod job;
+mod list;
+mod speech;
 
 use tidy_words::tell;
 

@@ -5,12 +5,22 @@ use tidy_files::{input, output};
 use tidy_words::{line, tell};
 use wire::lend;
 
+// How many there are of what is counted: one of it has no s.
+fn put_count(out: &mut [u8], at: usize, n: usize, what: &[u8]) -> usize {
+    let a = line::add_number(out, at, n);
+    let b = line::add(out, a, what);
+    if n == 1 {
+        return b;
+    }
+    line::add(out, b, b"s")
+}
+
 // A place is told only where something was dropped.
 fn put_dropped(out: &mut [u8], at: usize, bytes: usize, place: usize) -> usize {
     if bytes == 0 {
         return line::add(out, at, b"nothing");
     }
-    let a = line::add_count(out, at, bytes, b" byte");
+    let a = put_count(out, at, bytes, b" byte");
     let b = line::add(out, a, b", from place ");
     let c = line::add_number(out, b, place);
     line::add(out, c, b" on")
@@ -19,7 +29,7 @@ fn put_dropped(out: &mut [u8], at: usize, bytes: usize, place: usize) -> usize {
 // What was kept comes first: a member asks for that.
 fn put_report(out: &mut [u8], report: &[u64; 4]) -> usize {
     let a = line::add(out, 0, b"kept ");
-    let b = line::add_count(out, a, report[1] as usize, b" frame");
+    let b = put_count(out, a, report[1] as usize, b" frame");
     let c = line::add(out, b, b"; dropped ");
     let d = put_dropped(out, c, report[2] as usize, report[3] as usize);
     let e = line::add(out, d, b"; the size of the mdat was ");

@@ -12,7 +12,6 @@ fn put_edits(to: i32) -> usize {
         tidy list FILE                             what the file holds\n\
         tidy outline FILE                          every box of the file: its code, place, size and depth\n\
         tidy modes T FILE                          whether the frames of track T are as its descriptions say\n\
-        tidy esds N FILE                           what stands in the esds of entry N\n\
         tidy shift MINUTES FILE OUT                every time less so many minutes\n\
         tidy move FILE OUT                         moov right after ftyp\n",
     )
@@ -47,7 +46,7 @@ fn put_all(to: i32) -> usize {
     put_others(to)
 }
 
-// More on the first seven words.
+// More on the first six words.
 fn put_first(to: i32, number: usize) -> usize {
     match number {
         word::LIST => print(
@@ -77,16 +76,6 @@ fn put_first(to: i32, number: usize) -> usize {
             a wrong count of frames: not as many as its description says; the track's last sample may have fewer, but not none;\n\
             a frame of a mode that its description doesn't allow: record shows the modes.\n\
             The exit status is 1 where a sample fails, too.\n",
-        ),
-        word::ESDS => print(
-            to,
-            b"\
-            tidy esds N FILE\n\
-            Entry N is counted from 1, as list does. It is an mp4v or mp4a.\n\
-            Prints a line each: its kind, ES number, object type, stream type, buffer size, maximum rate and average rate, in decimal,\n\
-            and how many bytes of specific information there are and at which place in the file, or none.\n\
-            Refused are an esds with a descriptor that doesn't fit (50), a missing or surplus part (51) and a wrong fixed number (52);\n\
-            list accepts such a file.\n",
         ),
         word::SHIFT => print(
             to,

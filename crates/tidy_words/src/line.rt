@@ -25,16 +25,6 @@ pub fn add_number(out: &mut [u8], at: usize, n: usize) -> usize {
     decimal::put_decimal(out, at, n)
 }
 
-// How many there are of what is counted: one of it has no s.
-pub fn add_count(out: &mut [u8], at: usize, n: usize, what: &[u8]) -> usize {
-    let a = add_number(out, at, n);
-    let b = add(out, a, what);
-    if n == 1 {
-        return b;
-    }
-    add(out, b, b"s")
-}
-
 // A time in words, in brackets. What no file can hold has no date here.
 pub fn add_date(out: &mut [u8], at: usize, time: usize) -> usize {
     if LATEST < time {

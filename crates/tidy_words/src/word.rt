@@ -7,25 +7,23 @@ pub const OUTLINE: usize = 1;
 
 pub const MODES: usize = 2;
 
-pub const ESDS: usize = 3;
+pub const SHIFT: usize = 3;
 
-pub const SHIFT: usize = 4;
+pub const MOVE: usize = 4;
 
-pub const MOVE: usize = 5;
+pub const RECORD: usize = 5;
 
-pub const RECORD: usize = 6;
+pub const NEWER: usize = 6;
 
-pub const NEWER: usize = 7;
+pub const SHEET: usize = 7;
 
-pub const SHEET: usize = 8;
+pub const TABLE: usize = 8;
 
-pub const TABLE: usize = 9;
+pub const AMR: usize = 9;
 
-pub const AMR: usize = 10;
+pub const SALVAGE: usize = 10;
 
-pub const SALVAGE: usize = 11;
-
-pub const HELP: usize = 12;
+pub const HELP: usize = 11;
 
 // The number of a word; that of none where there is no such word.
 pub fn number(text: &[u8]) -> usize {
@@ -34,7 +32,6 @@ pub fn number(text: &[u8]) -> usize {
         list      \
         outline   \
         modes     \
-        esds      \
         shift     \
         move      \
         record    \

@@ -15,11 +15,11 @@ use Rattle.modes.proofs.Failings.{Passing, passing_none, passing_all, passing_no
 use Rattle.modes.proofs.first_failing.Statement.{statement}
 use Rattle.modes.proofs.first_failing.Tie as tie
 
-abbrev Inv : tie.invariant_loop
+abbrev Inv : tie.invariant-loop
 Inv file list stsc stsz stco n walk₀ walk =
     (n ≡ sample_count stsz) × Before stsc stsz stco walk × Passing (why_of file (boxes list)) (samples_at stsc stsz stco) walk.number
 
-abbrev μ : tie.decreases_loop
+abbrev μ : tie.decreases-loop
 μ file list stsc stsz stco n walk₀ walk = length (samples_at stsc stsz stco) - walk.number
 
 pub first_failing_spec : {M : Type 1} → statement M

@@ -1,6 +1,7 @@
 -- `numbers::put_h263` meets its contract. Assumes nothing.
 use borrow.Author.Rules.{rules}
-use Rattle.rule.proofs.Results.{exact_short, exact_puts}
+use Rattle.rule.proofs.Results.{exact_short}
+use Rattle.entry_fields.proofs.Answering.{put_fits}
 use lib.ListN.{length-set}
 use native.Mathlib.Omega.{arith}
 use Rattle.entry_fields.proofs.numbers.put_h263.Statement.{statement}
@@ -21,4 +22,4 @@ put_h263_spec = tie.close (tie.spec
     (λ c. simp length-set (omega arith))
     (λ c. simp length-set (omega arith))
     (λ c. search rules)
-    (λ c. exact_puts _ _ (omega arith)))
+    (λ c. put_fits _ _ (omega arith)))

@@ -7,10 +7,10 @@ use Rattle.modes.proofs.Bits.{Setting, setting_none, setting_all, setting_less, 
 use Rattle.modes.proofs.sample.all_set.Statement.{statement}
 use Rattle.modes.proofs.sample.all_set.Tie as tie
 
-abbrev Inv : tie.invariant_loop
+abbrev Inv : tie.invariant-loop
 Inv modes codec part at₀ at = Setting modes codec part at
 
-abbrev μ : tie.decreases_loop
+abbrev μ : tie.decreases-loop
 μ modes codec part at₀ at = length part - at
 
 pub all_set_spec : {M : Type 1} → statement M

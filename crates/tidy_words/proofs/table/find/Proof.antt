@@ -4,10 +4,10 @@ use Prim.Native.Nat.{◌-◌, ◌≤◌}
 use Rattle.tidy_words.proofs.table.find.Statement.{statement}
 use Rattle.tidy_words.proofs.table.find.Tie as tie
 
-abbrev Inv : tie.invariant_loop
+abbrev Inv : tie.invariant-loop
 Inv table text i₀ i = i ≤ 16
 
-abbrev μ : tie.decreases_loop
+abbrev μ : tie.decreases-loop
 μ table text i₀ i = 16 - i
 
 pub find_spec : {M : Type 1} → statement M

@@ -5,10 +5,10 @@ use lib.ListN.{length}
 use Rattle.tidy_words.proofs.table.find_byte.Statement.{statement}
 use Rattle.tidy_words.proofs.table.find_byte.Tie as tie
 
-abbrev Inv : tie.invariant_loop
+abbrev Inv : tie.invariant-loop
 Inv text byte at₀ at = at ≤ length text
 
-abbrev μ : tie.decreases_loop
+abbrev μ : tie.decreases-loop
 μ text byte at₀ at = length text - at
 
 pub find_byte_spec : {M : Type 1} → statement M
