@@ -5,20 +5,20 @@ ghost use Rattle.clocks.specs.Clocks.{order_number, zoned_of};
 ghost use Rattle.clocks.specs.Zones.{Near, leaves as leaves_of, compared};
 
 // A zone in seconds, of which one number is 0.
-#[derive(Drop)]
+#[derive(Clone, Copy)]
 pub struct Zone {
     pub ahead: usize,
     pub behind: usize,
 }
 
-#[derive(Drop)]
+#[derive(Clone, Copy)]
 pub enum Zoned {
     Seconds(Zone),
     NoZone,
 }
 
 // What the first of two times is.
-#[derive(Drop)]
+#[derive(Clone, Copy)]
 pub enum Order {
     Earlier,
     Same,

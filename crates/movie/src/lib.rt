@@ -83,7 +83,7 @@ pub fn scale(track: &[u8]) -> usize
 }
 
 // Ticks of the movie: never added to ticks of the media, nor compared with them.
-#[derive(Drop)]
+#[derive(Clone, Copy)]
 pub struct MovieTicks(pub u64);
 
 // How long it is, in ticks of the movie.

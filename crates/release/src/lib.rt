@@ -8,7 +8,7 @@ ghost use Rattle.release.specs.Releases.{most_frames, release_named, release_in,
 use boxes::seek;
 use compatible::listed;
 
-#[derive(Drop)]
+#[derive(Clone, Copy)]
 pub enum Release {
     Release4,
     Release6,

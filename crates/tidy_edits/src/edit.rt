@@ -4,7 +4,7 @@ use tidy_files::{input, output, time};
 use tidy_words::{line, tell};
 use wire::lend;
 
-#[derive(Drop)]
+#[derive(Clone, Copy)]
 pub enum Edit {
     Move,
     Shift(i64),

@@ -10,7 +10,7 @@ const MOST: u64 = 9223372036854775807;
 
 const MINUS: usize = 45;
 
-#[derive(Drop)]
+#[derive(Clone, Copy)]
 pub struct Minutes {
     pub fault: usize,
     pub value: i64,

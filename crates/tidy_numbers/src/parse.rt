@@ -15,7 +15,7 @@ const NO_DIGIT: u64 = 16;
 // The largest number.
 const MOST: u64 = 18446744073709551615;
 
-#[derive(Drop)]
+#[derive(Clone, Copy)]
 pub struct Number {
     pub fault: usize,
     pub value: u64,
