@@ -1,4 +1,6 @@
 // Clocks: times of 1904, and a zone's minutes, which may be negative.
+#![tactic(auto)]
+
 ghost use Rattle.std.specs.Prelude.{◌≡◌, ◌+◌, ◌^◌, ◌<◌};
 ghost use Rattle.wire.specs.Clauses.{one_if};
 ghost use Rattle.clocks.specs.Clocks.{order_number, zoned_of};

@@ -1,4 +1,6 @@
 // Dates: times of 1904 as people read them, in universal time.
+#![tactic(auto)]
+
 mod calendar;
 
 ghost use Rattle.std.specs.Prelude.{◌≡◌, ◌∷◌, ◌+◌, ◌^◌, ◌≤◌, ◌<◌};

@@ -1,4 +1,6 @@
 // The release whose rules a file or a record is held to, and the brands that tell it.
+#![tactic(auto)]
+
 pub mod compatible;
 
 ghost use Rattle.std.specs.Prelude.{◌≡◌};
