@@ -6,13 +6,13 @@ use mathlib.Core.Path.{refl}
 use native.Mathlib.Omega.{arith}
 use Rattle.refusal_words.proofs.put_place.Goals as goal
 
-pub shape_of-out-then-n-le10 : goal.shape_of-out-then-n-le10
+pub returns-then-n-le10 : goal.returns-then-n-le10
 unfolding place_words
-shape_of-out-then-n-le10 c = (pen_is (le_yea _ _ _ _ _ (omega arith) refl) c.put_labelled.ensures.0, omega arith)
+returns-then-n-le10 c = (pen_is (le_yea _ _ _ _ _ (omega arith) refl) c.put_labelled.ensures.0, omega arith)
 
-pub shape_of-out-then-n-eq41 : goal.shape_of-out-then-n-eq41
+pub returns-then-n-eq41 : goal.returns-then-n-eq41
 unfolding place_words
-shape_of-out-then-n-eq41 c = (pen_is (le_nay _ _ _ _ _ (omega arith) (eq_yea _ _ _ _ _ (omega arith) refl)) c.put_labelled-then-n-eq41.ensures.0, omega arith)
+returns-then-n-eq41 c = (pen_is (le_nay _ _ _ _ _ (omega arith) (eq_yea _ _ _ _ _ (omega arith) refl)) c.put_labelled-then-n-eq41.ensures.0, omega arith)
 
 pub returns : goal.returns
 unfolding place_words

@@ -94,4 +94,4 @@ returns-in-61 c = row_put c.in-61.is c.put_part-in-61.ensures
 
 pub returns-in_default : goal.returns-in_default
 unfolding if_eq words_in refusal_words
-returns-in_default c = none_put c.in_default.rest c.put_part-in_default.ensures
+returns-in_default c = none_put c.in_default.in_default-own.rest c.put_part-in_default.ensures

@@ -4,8 +4,8 @@ use Rattle.wire.proofs.Writing.{pen_then, pen_is}
 use Rattle.outline.proofs.Printing.{code_stands, code_hex}
 use Rattle.outline.proofs.line.put_code.Goals as goal
 
-pub shape_of-out-then-all_print-ne0 : goal.shape_of-out-then-all_print-ne0
-shape_of-out-then-all_print-ne0 c =
+pub returns-then-all_print-ne0 : goal.returns-then-all_print-ne0
+returns-then-all_print-ne0 c =
     (pen_is (code_stands _ c.all_print.ensures c.if-all_print-ne0.true) c.put_number.ensures.0, omega arith)
 
 pub returns : goal.returns
