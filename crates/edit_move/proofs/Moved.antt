@@ -1,5 +1,5 @@
 -- What code writes is the file with its `moov` closed and second, and every chunk offset as far into its payload as it was. Assumes nothing.
-use Prim.Native.Nat.{ℕ, ◌+◌, ◌≤◌}
+use Prim.Native.Nat.{ℕ, ◌≤◌}
 use native.Mathlib.Omega.{arith}
 use mathlib.Core.Path.{◌≡◌, refl, sym, ap, ◌∙◌}
 use mathlib.Core.Bool.{true}
@@ -11,7 +11,7 @@ use Rattle.wire.specs.Writing.{Wrote, Put}
 use Rattle.wire.proofs.Writing.{pen_front}
 use Rattle.boxes.specs.declared.walk.BoxAt.{BoxAt}
 use Rattle.boxes.specs.Box.{size, write}
-use Rattle.boxes.specs.Boxes.{boxes, total, after}
+use Rattle.boxes.specs.Boxes.{boxes, total}
 use Rattle.boxes.specs.Rewrite.{edit_in, in_body}
 use Rattle.boxes.specs.Walk.{payload, box_at}
 use Rattle.boxes.specs.Words.{reword_leaf, moved}

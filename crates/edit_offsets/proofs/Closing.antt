@@ -9,8 +9,8 @@ use Rattle.wire.proofs.Tests.{eq_yea, eq_nay, eq_or}
 use Rattle.codes.specs.Codes.{MOOV}
 use Rattle.boxes.specs.declared.walk.Form.{Form}
 use Rattle.boxes.specs.declared.walk.Form.TheVariants.{Plain, Wide, Open}
-use Rattle.boxes.specs.Box.{Box, head_of, head, size, write}
-use Rattle.boxes.specs.Boxes.{boxes, total}
+use Rattle.boxes.specs.Box.{Box, head_of, size, write}
+use Rattle.boxes.specs.Boxes.{total}
 use Rattle.boxes.specs.Containers.{FILE, kind_in}
 use Rattle.boxes.specs.Seek.{count}
 use Rattle.boxes.specs.Kin.{All2, Leaf, Formed, KinBox, Kin}

@@ -2,9 +2,8 @@
 use Prim.Native.Nat.{ℕ, ◌+◌, ◌<◌}
 use native.Mathlib.Omega.{arith}
 use mathlib.Core.Path.{◌≡◌, refl, sym, ap, ◌∙◌}
-use mathlib.Core.Bool.{true, false}
 use mathlib.Core.List.{List, [], ◌∷◌, ◌++◌, map, append_assoc}
-use lib.ListN.{length, take, drop}
+use lib.ListN.{length}
 use lib.Seq.{take_at, drop_at}
 use Rattle.wire.proofs.Lists.{drop_past}
 use Rattle.wire.specs.Tests.{pick}
@@ -15,7 +14,7 @@ use Rattle.codes.specs.Codes.{MOOV}
 use Rattle.boxes.specs.declared.walk.BoxAt.{BoxAt}
 use Rattle.boxes.specs.declared.walk.Form.{Form}
 use Rattle.boxes.specs.declared.walk.Form.TheVariants.{Plain, Wide, Open}
-use Rattle.boxes.specs.Box.{Box, is_open, head_of, header_by, size, header, write}
+use Rattle.boxes.specs.Box.{Box, is_open, head_of, size, header, write}
 use Rattle.boxes.specs.Boxes.{boxes, total, after}
 use Rattle.boxes.specs.Walk.{box_at}
 use Rattle.boxes.specs.Seek.{count, meant, Cut}
@@ -25,7 +24,7 @@ use Rattle.boxes.proofs.Numbered.{count_append}
 use Rattle.boxes.proofs.Placing.{length_write, total_before}
 use Rattle.boxes.proofs.Cutting.{cut_size}
 use Rattle.boxes.proofs.InMoov.{OneMoov}
-use Rattle.edit_offsets.specs.Close.{shut_form, form_after, shut_box, closed, closed_at}
+use Rattle.edit_offsets.specs.Close.{shut_form, shut_box, closed, closed_at}
 use Rattle.edit_offsets.proofs.Closing.{form_moov, form_other, form_head, shut_size, shut_total, shut_count}
 use Rattle.edit_offsets.proofs.ClosedFile.{boxes_closed}
 

@@ -1,5 +1,5 @@
 -- The answer of a shift, as code tells it. Assumes nothing.
-use Prim.Native.Nat.{ℕ, ◌≤◌, ◌<◌}
+use Prim.Native.Nat.{ℕ, ◌<◌}
 use native.Mathlib.Omega.{arith}
 use mathlib.Core.Path.{◌≡◌, refl, sym, ◌∙◌}
 use mathlib.Core.Bool.{true, false}
@@ -15,7 +15,6 @@ use Rattle.clocks.specs.declared.Zone.{Zone}
 use Rattle.clocks.specs.declared.Zoned.{Zoned}
 use Rattle.clocks.specs.declared.Zoned.TheVariants.{Seconds, NoZone}
 use Rattle.clocks.specs.Clocks.{zone_fine, zone_of, zoned_of, may_shift}
-use Rattle.clocks.specs.Zones.{leaves}
 use Rattle.clocks.proofs.Signed.{zone_found, zone_missing}
 use Rattle.rule.specs.declared.Answer.{Answer}
 use Rattle.rule.specs.declared.Answer.TheVariants.{Refused}

@@ -10,7 +10,7 @@ use lib.Seq.{sets, sets-eq}
 use Rattle.wire.specs.Tests.{pick, if_lt}
 use Rattle.release.specs.declared.Release.{Release}
 use Rattle.entry_records.specs.declared.field.Record.{Record}
-use Rattle.entry_records.specs.declared.field.Record.TheVariants.{Speech, Picture, Broken}
+use Rattle.entry_records.specs.declared.field.Record.TheVariants.{Broken}
 use Rattle.entry_records.specs.declared.record.Written.{Written}
 use Rattle.entry_records.specs.declared.record.Written.TheVariants as written
 use Rattle.entry_records.specs.Fields.{fields_rule}

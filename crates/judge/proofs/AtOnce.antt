@@ -23,7 +23,7 @@ use Rattle.rule_tracks.specs.Six.{six_rule}
 use Rattle.rule_tracks.specs.Seven.{seven_rule}
 use Rattle.rule_tracks.specs.Eight.{eight_rule}
 use Rattle.rule_tracks.proofs.KeptEight.{eight_says}
-use Rattle.rule_entries.specs.Ten.{ten, ten_rule}
+use Rattle.rule_entries.specs.Ten.{ten}
 use Rattle.rule_entries.proofs.Kept.{ten_says}
 use Rattle.rule_all.specs.All.{also, rules_to_nine, SureBefore}
 use Rattle.rule_all.proofs.All.{also_first, also_second}

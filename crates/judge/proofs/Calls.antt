@@ -7,7 +7,7 @@ use mathlib.Core.List.{List, map}
 use Rattle.wire.specs.Clauses.{every}
 use Rattle.rule.specs.declared.Answer.{Answer}
 use Rattle.rule.specs.declared.Answer.TheVariants as answer
-use Rattle.rule.specs.Results.{Result, asked, answer_in, Exact}
+use Rattle.rule.specs.Results.{asked, answer_in, Exact}
 use Rattle.rule.specs.Results.Result.{gives, refuses}
 use Rattle.rule.proofs.Results.{Gave, exact_refuses, refused_not, gives_done, asked_done}
 use Rattle.layout.specs.declared.every.Tracks.{Tracks}

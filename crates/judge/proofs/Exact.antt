@@ -15,8 +15,6 @@ use Rattle.rule.proofs.Places.{placed_says}
 use Rattle.rule.proofs.Acceptance.{each_says, fine_all, all_fine}
 use Rattle.rule_shape.specs.Two.{tiled_rule, shut_in}
 use Rattle.rule_shape.specs.Three.{three_rule}
-use Rattle.rule_lists.specs.Five.{five_rule}
-use Rattle.rule_lists.specs.Nine.{nine_rule}
 use Rattle.rule_lists.proofs.Rules.{five_says, nine_says}
 use Rattle.rule_headers.proofs.Rule4.{four_says}
 use Rattle.rule_tracks.specs.Six.{six_rule}

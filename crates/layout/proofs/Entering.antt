@@ -9,7 +9,6 @@ use Rattle.codes.specs.Codes.{MOOV, TRAK}
 use Rattle.boxes.specs.Boxes.{boxes}
 use Rattle.boxes.specs.Seek.{ANY, count, find, start_in}
 use Rattle.boxes.proofs.Placing.{total_is}
-use Rattle.boxes.proofs.Reading.All.{some}
 use Rattle.movie.specs.Movie.{movie, tracks, track}
 use Rattle.movie.specs.Stsds.{Stsd, stsds_from, stsds}
 use Rattle.movie.specs.Entries.{entries_in, entries}

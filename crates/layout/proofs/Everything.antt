@@ -1,15 +1,14 @@
 -- Every track of a file, and one that isn't there. Assumes nothing.
-use Prim.Native.Nat.{ℕ, ◌+◌, ◌≤◌, ◌<◌}
+use Prim.Native.Nat.{ℕ, ◌≤◌, ◌<◌}
 use native.Mathlib.Omega.{arith}
-use mathlib.Core.Path.{◌≡◌, refl, sym, ap, subst, ◌∙◌}
-use mathlib.Core.List.{List, []}
+use mathlib.Core.Path.{◌≡◌, refl, sym, ap, subst}
+use mathlib.Core.List.{List}
 use lib.ListN.{length}
 use Rattle.codes.specs.Codes.{TRAK, TKHD, MDIA, MDHD, HDLR, MINF, STBL, STSD, STTS}
 use Rattle.boxes.specs.Boxes.{boxes}
 use Rattle.boxes.specs.Seek.{find}
 use Rattle.boxes.proofs.Numbered.{nth_none, found_short}
 use Rattle.movie.specs.Ways.{follow}
-use Rattle.wire.specs.Numbers.{word}
 use Rattle.wire.proofs.Numbers.{word_out}
 use Rattle.movie.specs.Movie.{movie, tracks, track, mdia, minf, handler, scale, movie_ticks}
 use Rattle.layout.specs.declared.gather.Slot.{Slot}

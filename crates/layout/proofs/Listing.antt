@@ -1,23 +1,19 @@
 -- The list of a track, past the front of its `stsd`. Assumes nothing.
 use Prim.Native.Nat.{ℕ, ◌+◌, ◌-◌, ◌≤◌, ◌<◌}
 use native.Mathlib.Omega.{arith}
-use mathlib.Core.Path.{◌≡◌, refl, sym, ap, subst, ◌∙◌}
-use mathlib.Core.List.{List, []}
-use lib.ListN.{length, take, drop, length-drop, drop_of_length-le}
+use mathlib.Core.Path.{◌≡◌, sym, ap, subst, ◌∙◌}
+use mathlib.Core.List.{List}
+use lib.ListN.{length, take, drop, length-drop}
 use lib.Seq.{take_all}
-use Rattle.codes.specs.Codes.{MOOV, TRAK, MDIA, MINF, STBL, STSD}
+use Rattle.codes.specs.Codes.{MOOV, TRAK}
 use Rattle.boxes.specs.Boxes.{FRONT, boxes}
-use Rattle.boxes.specs.Seek.{ANY, count, find, start_in}
-use Rattle.boxes.proofs.Numbered.{nth_none, found_short}
+use Rattle.boxes.specs.Seek.{ANY, count, start_in}
 use Rattle.movie.specs.Ways.{to_stsd, follow, start_along}
-use Rattle.movie.specs.Movie.{movie, tracks, track, mdia, minf}
+use Rattle.movie.specs.Movie.{movie, track}
 use Rattle.movie.specs.Named.{list_in, list_start}
 use Rattle.layout.specs.declared.gather.Slot.{Slot}
-use Rattle.layout.specs.declared.track.Track.{Track}
-use Rattle.layout.specs.declared.tracks.Movie.{Movie}
 use Rattle.layout.specs.Slots.{slot_in, nowhere, Lies}
-use Rattle.layout.specs.Track.{At, StsdPlaced}
-use Rattle.layout.specs.Tracks.{track_slot, Spread}
+use Rattle.layout.specs.Track.{At}
 use Rattle.layout.specs.Entries.{ListAt}
 use Rattle.layout.proofs.Slots.{slot_part, slot_length}
 use Rattle.layout.proofs.Few.{nil_of, no_boxes, none_counted}

@@ -11,7 +11,7 @@ use Rattle.layout.specs.declared.gather.Slot.{Slot}
 use Rattle.layout.specs.declared.track.Track.{Track}
 use Rattle.layout.specs.declared.every.ReadTrack.{ReadTrack}
 use Rattle.layout.specs.declared.every.Tracks.{Tracks}
-use Rattle.layout.specs.Slots.{slot_in, nowhere, Lies}
+use Rattle.layout.specs.Slots.{slot_in, nowhere}
 use Rattle.layout.specs.Track.{At}
 
 -- a track without boxes

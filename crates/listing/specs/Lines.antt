@@ -1,5 +1,5 @@
 -- The lines of the listing, each with its newline.
-use Rattle.std.specs.Prelude.{ℕ, ◌+◌, List, ◌++◌, length}
+use Rattle.std.specs.Prelude.{ℕ, List, ◌++◌, length}
 use Rattle.wire.specs.Tests.{if_eq}
 use Rattle.wire.specs.Numbers.{bytes, word}
 use Rattle.wire.specs.Text.{text}

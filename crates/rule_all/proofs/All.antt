@@ -2,11 +2,10 @@
 use Prim.Native.Nat.{ℕ, zero, suc}
 use native.Mathlib.Omega.{arith}
 use mathlib.Core.Path.{◌≡◌, refl}
-use mathlib.Core.Bool.{Bool, true, false}
+use mathlib.Core.Bool.{Bool, true}
 use mathlib.Core.List.{List}
-use Rattle.wire.specs.Tests.{pick}
 use Rattle.wire.proofs.Tests.{both}
-use Rattle.boxes.specs.Boxes.{boxes, after}
+use Rattle.boxes.specs.Boxes.{after}
 use Rattle.boxes.specs.Containers.{kind_in}
 use Rattle.boxes.proofs.Every.{all_map, all_with}
 use Rattle.rule.specs.Rule.{Rule, all_in}

@@ -11,7 +11,7 @@ use Rattle.boxes.specs.Boxes.{FRONT, boxes}
 use Rattle.boxes.specs.Containers.{FILE, DEPTH}
 use Rattle.boxes.specs.Seek.{count, nth}
 use Rattle.movie.specs.Movie.{tracks, track}
-use Rattle.movie.specs.Stsds.{Stsd, stsds_from}
+use Rattle.movie.specs.Stsds.{Stsd}
 use Rattle.movie.proofs.Stsds.{Each, each_from}
 use Rattle.movie.proofs.Stsds.Each.{none as no_more, more}
 use Rattle.layout.specs.Tracks.{Framed}

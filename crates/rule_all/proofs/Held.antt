@@ -4,7 +4,7 @@ use mathlib.Core.Path.{◌≡◌, refl}
 use mathlib.Core.Bool.{true}
 use mathlib.Core.List.{List}
 use borrow.Author.Tests.{ne_eqb}
-use Rattle.wire.specs.Tests.{pick, if_eq}
+use Rattle.wire.specs.Tests.{if_eq}
 use Rattle.wire.proofs.Tests.{eq_or}
 use Rattle.codes.specs.Codes.{FTYP, MOOV, MVHD, TRAK, TKHD, MDIA, MDHD, HDLR, MINF, DINF, DREF, STBL, STSD, STTS, STSC, STSZ, STCO}
 use Rattle.boxes.specs.Box.{Box}

@@ -1,10 +1,9 @@
 -- A step of the walk over the tracks, from where the boxes of the next one stand; and a file in doubt. Assumes nothing.
 use Prim.Native.Nat.{ℕ, ◌+◌, ◌≤◌, ◌<◌}
 use native.Mathlib.Omega.{arith}
-use mathlib.Core.Path.{◌≡◌, refl}
+use mathlib.Core.Path.{◌≡◌}
 use mathlib.Core.List.{List}
-use Rattle.boxes.specs.Boxes.{boxes}
-use Rattle.movie.specs.Movie.{tracks, track}
+use Rattle.movie.specs.Movie.{tracks}
 use Rattle.layout.specs.declared.gather.Slot.{Slot}
 use Rattle.layout.specs.declared.track.Track.{Track}
 use Rattle.layout.specs.declared.tracks.Movie.{Movie}

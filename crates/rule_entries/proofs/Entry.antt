@@ -7,9 +7,8 @@ use lib.ListN.{length, take, drop, length-append}
 use lib.Seq.{take_at}
 use Rattle.wire.specs.Numbers.{Bytes}
 use Rattle.wire.specs.Clauses.{one_if}
-use Rattle.codes.specs.Codes.{MOOV, TRAK}
+use Rattle.codes.specs.Codes.{TRAK}
 use Rattle.wire.proofs.Clauses.{was_yea, was_nay}
-use Rattle.wire.proofs.Tests.{eq_yea, eq_nay}
 use Rattle.boxes.specs.declared.walk.Walk.{Walk}
 use Rattle.boxes.specs.declared.walk.BoxAt.{BoxAt}
 use Rattle.boxes.specs.Box.{Box, head, size, header}

@@ -1,10 +1,9 @@
 -- Rule 10: acceptance without places, and what keeps it. Assumes nothing.
 use Prim.Native.Nat.{ℕ, suc, ◌+◌}
 use mathlib.Core.Path.{◌≡◌, refl, ◌∙◌}
-use mathlib.Core.Bool.{Bool, true, false}
+use mathlib.Core.Bool.{true}
 use mathlib.Core.List.{List, [], ◌∷◌}
 use lib.ListN.{drop}
-use Rattle.wire.specs.Tests.{pick, if_eq}
 use Rattle.wire.specs.Numbers.{word}
 use Rattle.codes.specs.Codes.{MOOV, TRAK, MDIA, MDHD, HDLR, DINF, DREF, STBL, STSD}
 use Rattle.wire.proofs.Tests.{both, through}

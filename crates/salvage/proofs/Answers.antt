@@ -1,5 +1,5 @@
 -- The refusals of a file that is given to salvage, and what is known where it isn't refused, branch by branch of the code. Assumes nothing.
-use Prim.Native.Nat.{ℕ, ◌-◌, ◌≤◌, ◌<◌}
+use Prim.Native.Nat.{ℕ, ◌≤◌, ◌<◌}
 use native.Mathlib.Omega.{arith}
 use mathlib.Core.Path.{◌≡◌, ap, ◌∙◌}
 use mathlib.Core.Bool.{true, false}
@@ -12,7 +12,7 @@ use Rattle.rule.specs.Results.{length_fine}
 use Rattle.rule.proofs.Results.{test_not, test_so, reports_refused, length_fine_lem}
 use Rattle.frames.specs.declared.codec.Codec.{Codec}
 use Rattle.frames.specs.declared.run.Run.{Run}
-use Rattle.frames.specs.Frames.{frames_to, frames}
+use Rattle.frames.specs.Frames.{frames_to}
 use Rattle.frames.specs.Modes.{RunOf}
 use Rattle.from_amr.specs.Dump.{MOST_FRAMES}
 use Rattle.salvage.specs.Unfinished.{unfinished}

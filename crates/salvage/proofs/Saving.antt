@@ -28,7 +28,7 @@ use Rattle.salvage.specs.Unfinished.{size_field, behind_ftyp}
 use Rattle.salvage.specs.Salvage.{payload_of, kept_frames, kept, dropped, first_dropped, report_of, salvaged, salvage_result, Salvages}
 use Rattle.salvage.specs.Found.{Found}
 use Rattle.salvage.proofs.Keeping.{kept_dropped, kept_again}
-use Rattle.salvage.proofs.Fronts.{such, payload_is}
+use Rattle.salvage.proofs.Fronts.{payload_is}
 
 -- ---- the refusals, and what is written
 

@@ -5,7 +5,7 @@ use mathlib.Core.Path.{◌≡◌, refl, ap}
 use mathlib.Core.List.{List, [], ◌∷◌}
 use lib.ListN.{length, take, drop, length-append, length-take, length-drop}
 use Rattle.wire.specs.Numbers.{word}
-use Rattle.sheet.specs.Sheet.{SLOT, slots, bodies}
+use Rattle.sheet.specs.Sheet.{SLOT, bodies}
 use Rattle.sheet_table.specs.Form.{first_of, read}
 
 pub read_none : (n : ℕ) (xs ys : List ℕ) → n ≡ 0 → read n xs ys ≡ []

@@ -1,4 +1,3 @@
-use Prim.Native.Nat.{◌-◌}
 use Rattle.boxes.proofs.Walking.{ran, ended, broke}
 use Rattle.edit_shift.proofs.Asking.{timely_none, timely_more, timely_bad, timely_all}
 use native.Mathlib.Omega.{arith}

@@ -1,4 +1,3 @@
-use Prim.Native.Nat.{◌-◌}
 use Rattle.judge.proofs.Order.{passed_more, passed_bad, passed_all}
 use Rattle.judge.proofs.AtOnce.{sure_passed}
 use native.Mathlib.Omega.{arith}

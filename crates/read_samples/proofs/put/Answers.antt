@@ -1,4 +1,3 @@
-use Prim.Native.Nat.{◌-◌}
 use native.Mathlib.Omega.{arith}
 use Rattle.sample_walk.proofs.Walks.{start_before, step_gives, step_ends, gives_more}
 use Rattle.read_samples.proofs.Counting.{samples_count}

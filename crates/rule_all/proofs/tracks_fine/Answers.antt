@@ -1,4 +1,3 @@
-use Prim.Native.Nat.{◌-◌}
 use native.Mathlib.Omega.{arith}
 use Rattle.rule_all.proofs.Judging.{inside}
 use Rattle.rule_all.proofs.Running.{run_none, run_end, run_broken}

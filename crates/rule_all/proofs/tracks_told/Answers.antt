@@ -1,4 +1,4 @@
-use Prim.Native.Nat.{◌-◌, ◌<◌}
+use Prim.Native.Nat.{◌<◌}
 use native.Mathlib.Omega.{arith}
 use Rattle.layout.proofs.Filling.{filled_none, filled_more, filled_all}
 use Rattle.rule_all.proofs.Judging.{inside}

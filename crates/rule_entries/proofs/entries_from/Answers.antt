@@ -1,4 +1,3 @@
-use Prim.Native.Nat.{◌-◌}
 use Rattle.boxes.proofs.Walking.{ran, ended, broke}
 use Rattle.rule_entries.proofs.Entry.{entries_none, entries_more, entries_bad, entries_over}
 use native.Mathlib.Omega.{arith}

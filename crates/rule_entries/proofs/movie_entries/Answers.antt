@@ -1,4 +1,3 @@
-use Prim.Native.Nat.{◌-◌}
 use Rattle.boxes.proofs.Walking.{ran, ended, broke}
 use Rattle.rule_entries.proofs.Entry.{box_judged, no_end, stsds_none, stsds_over}
 use Rattle.rule.proofs.Traverse.{found_more}

@@ -1,4 +1,3 @@
-use Prim.Native.Nat.{◌-◌}
 use Rattle.rule_shape.proofs.Shape.{asked_none, asked_more, asked_bad, asked_all}
 use Rattle.wire.proofs.Clauses.{yea, nay}
 use native.Mathlib.Omega.{arith}

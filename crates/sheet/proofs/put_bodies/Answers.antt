@@ -1,8 +1,6 @@
-use Prim.Native.Nat.{◌-◌}
 use native.Mathlib.Omega.{arith}
 use mathlib.Core.Path.{ap, ◌∙◌}
 use lib.ListN.{length}
-use Rattle.movie.specs.Movie.{tracks}
 use Rattle.layout.proofs.Entering.{list_got}
 use Rattle.layout.proofs.Slots.{slot_length}
 use Rattle.sheet.proofs.Bodies.{bodies_start, bodies_more, bodies_all}

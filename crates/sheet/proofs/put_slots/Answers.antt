@@ -1,4 +1,3 @@
-use Prim.Native.Nat.{◌-◌}
 use Rattle.movie.specs.Entries.{entries}
 use Rattle.sheet.proofs.Writing.{slots_start, slots_more}
 use mathlib.Core.Path.{◌≡◌}

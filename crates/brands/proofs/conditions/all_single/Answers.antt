@@ -1,9 +1,7 @@
-use Prim.Native.Nat.{◌-◌}
 use Rattle.brands.proofs.Counting.{single_none, single_more, single_fails}
 use Rattle.movie.specs.Movie.{tracks}
 use Rattle.wire.proofs.Clauses.{yea, nay}
 use mathlib.Core.Path.{◌≡◌, refl, sym}
-use mathlib.Core.Bool.{true}
 use native.Mathlib.Omega.{arith}
 use Rattle.brands.proofs.conditions.all_single.Goals as goal
 

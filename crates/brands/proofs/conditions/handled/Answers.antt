@@ -1,4 +1,3 @@
-use Prim.Native.Nat.{◌-◌}
 use Rattle.brands.proofs.Counting.{handled_none, handled_more}
 use Rattle.brands.specs.Brands.{handled_to}
 use Rattle.movie.specs.Movie.{tracks}

@@ -1,9 +1,7 @@
-use Prim.Native.Nat.{◌-◌}
 use Rattle.brands.proofs.Counting.{plain_none, plain_more, plain_fails}
 use Rattle.movie.specs.Movie.{tracks}
 use Rattle.wire.proofs.Clauses.{yea, nay}
 use mathlib.Core.Path.{◌≡◌, refl, sym}
-use mathlib.Core.Bool.{true}
 use native.Mathlib.Omega.{arith}
 use Rattle.brands.proofs.conditions.no_avc1_in.Goals as goal
 

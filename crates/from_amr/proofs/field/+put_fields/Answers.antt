@@ -1,5 +1,4 @@
 -- One field and then the others; fewer numbers are left each time.
-use Prim.Native.Nat.{◌-◌}
 use native.Mathlib.Omega.{arith}
 use Rattle.from_amr.proofs.Writing.{span_more, fields_end, fields_next}
 use Rattle.from_amr.proofs.field.+put_fields.Goals as goal

@@ -1,4 +1,3 @@
-use Prim.Native.Nat.{◌-◌}
 use native.Mathlib.Omega.{arith}
 use Rattle.wire.proofs.Lists.{tail_is}
 use Rattle.from_amr.proofs.Sizing.{sizing_none, sizing_more, sizing_last}

@@ -1,10 +1,8 @@
-use Prim.Native.Nat.{◌-◌}
 use Rattle.boxes.proofs.Walking.{ran, ended, broke}
 use Rattle.boxes.specs.Boxes.{boxes}
 use Rattle.judge.proofs.Answers.{box_leaf, box_node, judge_shallow, judge_start, end_passed}
 use Rattle.judge.specs.Asked.{rule_by}
 use Rattle.rule.proofs.Traverse.{found_more}
-use Rattle.rule.specs.Judge.{judge_box, judge_in}
 use lib.ListN.{length-take, length-drop}
 use native.Mathlib.Omega.{arith}
 use mathlib.Core.Path.{sym, ap, ◌∙◌}

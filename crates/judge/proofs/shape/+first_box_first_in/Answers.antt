@@ -1,4 +1,3 @@
-use Prim.Native.Nat.{◌-◌}
 use Rattle.boxes.proofs.Walking.{ran, ended, broke}
 use Rattle.boxes.specs.Walk.{box_at}
 use Rattle.judge.proofs.Answers.{box_leaf, box_node, judge_shallow}

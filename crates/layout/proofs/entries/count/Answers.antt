@@ -1,4 +1,3 @@
-use Prim.Native.Nat.{◌-◌}
 use native.Mathlib.Omega.{arith}
 use Rattle.layout.proofs.Entering.{list_of}
 use Rattle.layout.proofs.Tallying.{tally_none, tally_fits, tally_more, tally_end}

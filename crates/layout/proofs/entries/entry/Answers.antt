@@ -1,4 +1,3 @@
-use Prim.Native.Nat.{◌-◌}
 use native.Mathlib.Omega.{arith}
 use Rattle.movie.proofs.Naming.{named_in}
 use Rattle.layout.proofs.Entering.{left_none, left_more, left_in, left_end, list_of}

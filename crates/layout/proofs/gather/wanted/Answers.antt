@@ -1,4 +1,3 @@
-use Prim.Native.Nat.{◌-◌}
 use Rattle.boxes.proofs.Walking.{ran, ended, broke}
 use Rattle.layout.proofs.Noting.{going_fits}
 use Rattle.layout.proofs.Gathering.{walked_none, walked_fits, walked_more, walked_whole, walked_torn}

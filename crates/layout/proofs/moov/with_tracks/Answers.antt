@@ -1,4 +1,3 @@
-use Prim.Native.Nat.{◌-◌}
 use Rattle.boxes.proofs.PlainWalking.{plain_ran, plain_ended}
 use Rattle.layout.proofs.Gathering.{walked_none, walked_fits, walked_plain, walked_whole}
 use Rattle.layout.specs.Slots.{ending_of, Gathered}

@@ -1,4 +1,3 @@
-use Prim.Native.Nat.{◌-◌}
 use Rattle.listing.proofs.Listed.{few_tracks, entries_start, entries_more, entries_all}
 use native.Mathlib.Omega.{arith}
 use Rattle.listing.proofs.lines.put_entries.Goals as goal

@@ -1,4 +1,3 @@
-use Prim.Native.Nat.{◌-◌}
 use Rattle.listing.proofs.Listed.{few_tracks, tracks_none, tracks_more}
 use Rattle.movie.specs.Movie.{tracks}
 use mathlib.Core.Path.{◌≡◌, refl}

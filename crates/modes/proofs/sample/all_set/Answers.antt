@@ -1,4 +1,3 @@
-use Prim.Native.Nat.{◌-◌}
 use Rattle.wire.proofs.Lists.{tail_is}
 use Rattle.modes.proofs.Bits.{setting_none, setting_all, setting_less, setting_not, setting_more}
 use Rattle.modes.proofs.sample.all_set.Goals as goal

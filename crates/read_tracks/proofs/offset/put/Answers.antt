@@ -1,5 +1,4 @@
 use borrow.Author.Rules.{rules}
-use Prim.Native.Nat.{◌-◌}
 use Rattle.read_tracks.proofs.Reading.{offsets_none, offsets_more, offsets_all}
 use lib.ListN.{length-set}
 use native.Mathlib.Omega.{arith}

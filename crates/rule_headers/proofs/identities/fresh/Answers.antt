@@ -1,8 +1,5 @@
-use Prim.Native.Nat.{◌-◌}
 use Rattle.rule_headers.proofs.Fresh.{fresh_none, fresh_more, fresh_again}
-use Rattle.rule_headers.specs.Identities.{identity}
 use Rattle.wire.proofs.Clauses.{yea, nay}
-use mathlib.Core.Bool.{true}
 use mathlib.Core.Path.{◌≡◌, sym, ◌∙◌}
 use native.Mathlib.Omega.{arith}
 use Rattle.rule_headers.proofs.identities.fresh.Goals as goal

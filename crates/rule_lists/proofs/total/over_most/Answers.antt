@@ -1,4 +1,3 @@
-use Prim.Native.Nat.{◌-◌}
 use Rattle.boxes.proofs.Walking.{ran, ended, broke}
 use Rattle.rule_lists.proofs.Totals.{counted_none, counted_more, counted_over, counted_all}
 use native.Mathlib.Omega.{arith}

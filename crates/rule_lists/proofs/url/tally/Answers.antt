@@ -1,4 +1,3 @@
-use Prim.Native.Nat.{◌-◌}
 use native.Mathlib.Omega.{arith}
 use Rattle.boxes.proofs.PlainWalking.{plain_ran, plain_ended}
 use Rattle.wire.proofs.Clauses.{was_yea, was_nay}

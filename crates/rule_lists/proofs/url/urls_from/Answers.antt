@@ -1,4 +1,3 @@
-use Prim.Native.Nat.{◌-◌}
 use Rattle.boxes.proofs.Walking.{ran, ended, broke}
 use Rattle.boxes.specs.Box.{Box}
 use Rattle.rule_lists.specs.Nine.{is_url, url_at}
