@@ -1,6 +1,7 @@
 // The fields of a record, a line each.
 use crate::field;
 use entry_heads::kind;
+use tidy_words::tell::To;
 use tidy_words::{line, tell};
 use wire::lend;
 
@@ -59,8 +60,8 @@ fn put_record(out: &mut [u8], numbers: &[u64; 11]) -> usize {
 }
 
 // Prints a record.
-pub fn print(numbers: &[u64; 11]) -> usize {
+pub fn print(rt: HostRuntime, numbers: &[u64; 11]) -> usize {
     let mut text = [0u8; 512];
     let n = put_record(&mut text, numbers);
-    tell::print(1, lend::front(&text, n))
+    tell::print(rt, To::Output, lend::front(&text, n))
 }

@@ -1,4 +1,5 @@
 // Numbers in text: decimal, or hexadecimal behind 0x.
+use tidy_words::argument as words;
 use tidy_words::tell;
 use wire::{lend, number};
 
@@ -15,7 +16,7 @@ const NO_DIGIT: u64 = 16;
 // The largest number.
 const MOST: u64 = 18446744073709551615;
 
-#[derive(Drop)]
+#[derive(Clone, Copy)]
 pub struct Number {
     pub fault: usize,
     pub value: u64,
@@ -100,25 +101,25 @@ pub fn unsigned(text: &[u8]) -> Number {
 }
 
 // Says what is wrong with a number.
-pub fn tell(fault: usize, text: &[u8]) {
+pub fn tell(rt: HostRuntime, fault: usize, text: &[u8]) {
     if fault == NO_NUMBER {
-        tell::wrong(b"not a number: ", text);
+        tell::wrong(rt, b"not a number: ", text);
     }
     if fault == TOO_LARGE {
-        tell::wrong(b"too large a number: ", text);
+        tell::wrong(rt, b"too large a number: ", text);
     }
 }
 
 // The number that a text is; what is wrong with it is told.
-pub fn told(text: &[u8]) -> Number {
+pub fn told(rt: HostRuntime, text: &[u8]) -> Number {
     let r = unsigned(text);
-    tell(r.fault, text);
+    tell(rt, r.fault, text);
     r
 }
 
 // The number that an argument is.
-pub fn argument(i: usize) -> Number {
-    let mut text = io::buffer();
-    let n = os::arg(i, &mut text);
-    told(&text[..n])
+pub fn argument(rt: HostRuntime, i: usize) -> Number {
+    let mut text = words::room();
+    let n = words::fetch(rt, i, &mut text);
+    told(rt, &text[..n])
 }
