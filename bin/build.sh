@@ -10,19 +10,19 @@ outdated() {
     return 1
 }
 
-# build NAME: sets program, and proves and builds it where it is outdated; each crate is told as it is proved.
+# build NAME WORD...: sets program, and proves and builds it where it is outdated; each crate is told as it is proved. rt runs what it builds: with these words it succeeds.
 build() {
-    local log=$home/target/$1.log
-    program=$home/target/bin/$1
+    local name=$1 log=$home/target/$1.log
+    program=$home/crates/$name/out/$name
     outdated "$program" || return 0
-    echo "$1: proved and built first, which takes some minutes" >&2
-    # a crate that is proved already is only linked again where its stamp is gone
-    [ -x "$program" ] || rm -f "$home/target/stamp/$1"
+    shift
+    echo "$name: proved and built first, which takes some minutes" >&2
     mkdir -p "$home/target"
-    if ! (set -o pipefail && cd "$home" && rt check "$1" 2>&1 | tee "$log" | sed -un "/unchanged/d; s/^rt: \([a-z0-9_]* proved\)/$1: \1/p" >&2); then
+    if ! (set -o pipefail && cd "$home/crates/$name" && rt run -- "$@" </dev/null 2>&1 >/dev/null | tee "$log" | sed -un "s/^rt: \([a-z0-9_]* proved\)/$name: \1/p" >&2); then
         tail -n 20 "$log" >&2
         exit 2
     fi
+    # a program that changed nothing is not linked anew
     touch "$program"
 }
 
@@ -32,7 +32,7 @@ find_kit() {
     kit='' emulator=''
     [ ! -e "$place" ] || read -r kit <"$place" || true
     if [ ! -x "$kit/toolchain/lib/ld-linux-x86-64.so.2" ]; then
-        kit=$(dirname "$(dirname "$(rt doc)")")
+        kit=$(dirname "$(rt doc)")
         mkdir -p "$home/target"
         printf '%s\n' "$kit" 2>/dev/null >"$place" || true
     fi
