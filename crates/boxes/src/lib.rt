@@ -1,4 +1,6 @@
 // Boxes of a lent part: walking over them, finding them, and rewriting their bodies.
+#![tactic(auto)]
+
 pub mod containers;
 pub mod seek;
 pub mod walk;

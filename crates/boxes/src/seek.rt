@@ -11,13 +11,13 @@ use crate::walk::{BoxAt, Step, Walk};
 // Any box is meant by this number.
 pub const ANY: usize = 0;
 
-#[derive(Drop)]
+#[derive(Clone, Copy)]
 pub enum Tiling {
     Whole,
     Torn(usize),
 }
 
-#[derive(Drop)]
+#[derive(Clone, Copy)]
 pub enum Seen {
     At(BoxAt),
     Missing,

@@ -15,7 +15,7 @@ pub const WIDE_HEAD: usize = 16;
 pub const FRONT: usize = 8;
 
 // How a header says the size of its box: in its size field; in eight bytes more, after a 1; or by a 0 that it reaches to the end.
-#[derive(Drop)]
+#[derive(Clone, Copy)]
 pub enum Form {
     Plain,
     Wide,
@@ -45,13 +45,13 @@ pub fn is_open(form: Form) -> usize
 }
 
 // The place that a walk has come to.
-#[derive(Drop)]
+#[derive(Clone, Copy)]
 pub struct Walk {
     pub at: usize,
 }
 
 // A box in a part: where it starts, its header's form and length, how long all of it is, and its code.
-#[derive(Drop)]
+#[derive(Clone, Copy)]
 pub struct BoxAt {
     pub at: usize,
     pub form: Form,
@@ -60,7 +60,7 @@ pub struct BoxAt {
     pub code: usize,
 }
 
-#[derive(Drop)]
+#[derive(Clone, Copy)]
 pub enum Step {
     Found(BoxAt, Walk),
     End,
@@ -68,7 +68,7 @@ pub enum Step {
 }
 
 // What a header says: its form and length, and how long all of its box is.
-#[derive(Drop)]
+#[derive(Clone, Copy)]
 struct Says {
     form: Form,
     head: usize,

@@ -11,7 +11,7 @@ use crate::{seek, walk};
 use wire::{number, pen};
 
 // One turn: past the first `skip` bytes, into the n-th box of a code.
-#[derive(Drop)]
+#[derive(Clone, Copy)]
 pub struct Turn {
     pub skip: usize,
     pub code: usize,

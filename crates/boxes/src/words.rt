@@ -10,7 +10,7 @@ use crate::walk::{BoxAt, Step, Walk};
 use wire::number;
 
 // The numbers in `span` bytes from place `from` on, in the boxes of a code in a kind of container.
-#[derive(Drop)]
+#[derive(Clone, Copy)]
 pub struct Target {
     pub kind: usize,
     pub code: usize,
@@ -19,7 +19,7 @@ pub struct Target {
 }
 
 // Three of them, each for a kind of container, so that one walk does for all; one alone is said three times.
-#[derive(Drop)]
+#[derive(Clone, Copy)]
 pub struct Targets {
     pub one: Target,
     pub two: Target,
@@ -27,7 +27,7 @@ pub struct Targets {
 }
 
 // Below the limit a number goes up by `low`, from it on up by `high` and down by `less`.
-#[derive(Drop)]
+#[derive(Clone, Copy)]
 pub struct By {
     pub limit: usize,
     pub low: usize,

@@ -18,7 +18,7 @@ use layout::{entries, every, gather};
 use release::compatible;
 
 // Whether `isom`, and whether it or `avc1` is listed; what `3gp4` and `3gp5`, what `3gp6`, and what `3gr6` asks.
-#[derive(Drop)]
+#[derive(Clone, Copy)]
 pub struct Own {
     pub isom: usize,
     pub base: usize,

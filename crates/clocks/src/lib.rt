@@ -1,24 +1,26 @@
 // Clocks: times of 1904, and a zone's minutes, which may be negative.
+#![tactic(auto)]
+
 ghost use Rattle.std.specs.Prelude.{◌≡◌, ◌+◌, ◌^◌, ◌<◌};
 ghost use Rattle.wire.specs.Clauses.{one_if};
 ghost use Rattle.clocks.specs.Clocks.{order_number, zoned_of};
 ghost use Rattle.clocks.specs.Zones.{Near, leaves as leaves_of, compared};
 
 // A zone in seconds, of which one number is 0.
-#[derive(Drop)]
+#[derive(Clone, Copy)]
 pub struct Zone {
     pub ahead: usize,
     pub behind: usize,
 }
 
-#[derive(Drop)]
+#[derive(Clone, Copy)]
 pub enum Zoned {
     Seconds(Zone),
     NoZone,
 }
 
 // What the first of two times is.
-#[derive(Drop)]
+#[derive(Clone, Copy)]
 pub enum Order {
     Earlier,
     Same,

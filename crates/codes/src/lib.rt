@@ -1,4 +1,5 @@
 // The four-byte codes of the format, as numbers.
+#![tactic(auto)]
 
 // The boxes of rule 3, and `mdat`.
 pub const FTYP: usize = 0x66747970;

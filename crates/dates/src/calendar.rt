@@ -4,7 +4,7 @@ ghost use Rattle.dates.specs.Calendar.{leap_days, year_days, month_days, year_sp
 ghost use Rattle.dates.specs.Dates.{FallsIn};
 
 // Of years or months one after another the one in which a day falls, and the days since its start.
-#[derive(Drop)]
+#[derive(Clone, Copy)]
 pub struct Fall {
     pub span: usize,
     pub since: usize,

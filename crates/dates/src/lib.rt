@@ -1,4 +1,6 @@
 // Dates: times of 1904 as people read them, in universal time.
+#![tactic(auto)]
+
 mod calendar;
 
 ghost use Rattle.std.specs.Prelude.{◌≡◌, ◌∷◌, ◌+◌, ◌^◌, ◌≤◌, ◌<◌};
@@ -9,7 +11,7 @@ ghost use Rattle.dates.specs.DateText.{two_digits, date_text, time_text};
 use wire::pen;
 
 // A day of the calendar, and a time of that day. Month and day are counted from 1.
-#[derive(Drop)]
+#[derive(Clone, Copy)]
 pub struct Date {
     pub year: usize,
     pub month: usize,

@@ -1,4 +1,6 @@
 // Numbers as they are printed, by total writers.
+#![tactic(auto)]
+
 ghost use Rattle.std.specs.Prelude.{◌+◌, ◌^◌, ◌≤◌, ◌<◌, length};
 ghost use Rattle.wire.specs.Writing.{Put};
 ghost use Rattle.decimal.specs.Decimal.{decimal, labelled};

@@ -9,14 +9,14 @@ use crate::length::Length;
 use wire::{lend, number, pen};
 
 // Its tag, its header's length, and its whole one.
-#[derive(Drop)]
+#[derive(Clone, Copy)]
 pub struct Descriptor {
     pub tag: usize,
     pub head: usize,
     pub span: usize,
 }
 
-#[derive(Drop)]
+#[derive(Clone, Copy)]
 pub enum Front {
     Found(Descriptor),
     Loose,

@@ -9,7 +9,7 @@ use wire::{number, pen};
 const MOST: usize = 4;
 
 // A number, and how many bytes say it.
-#[derive(Drop)]
+#[derive(Clone, Copy)]
 pub enum Length {
     Says(usize, usize),
     Broken,

@@ -7,7 +7,7 @@ use crate::descriptor::Front;
 use crate::{descriptor, part};
 
 // Of what was read so far: whether all fit, 1 or 0; and the last part, OTHER where one came that isn't wanted there.
-#[derive(Drop)]
+#[derive(Clone, Copy)]
 pub struct Reading {
     pub fits: usize,
     pub last: usize,

@@ -14,14 +14,14 @@ use movie::entry;
 use movie::entry::Spot;
 
 // A track's box in `moov`, the box of one of its entries in their list, and the entry's number there, from 0.
-#[derive(Drop)]
+#[derive(Clone, Copy)]
 pub struct Place {
     pub trak: BoxAt,
     pub entry: BoxAt,
     pub nth: usize,
 }
 
-#[derive(Drop)]
+#[derive(Clone, Copy)]
 pub enum Placing {
     At(Place),
     Nowhere,

@@ -10,7 +10,7 @@ use release::Release;
 use wire::{number, test};
 
 // A `samr` or `sawb` entry, by its kind.
-#[derive(Drop)]
+#[derive(Clone, Copy)]
 pub struct Amr {
     pub kind: usize,
     pub reference: usize,
@@ -23,7 +23,7 @@ pub struct Amr {
 }
 
 // The rates of a `bitr`: given is 1 where one follows, and else 0, and so are the two rates.
-#[derive(Drop)]
+#[derive(Clone, Copy)]
 pub struct Rates {
     pub given: usize,
     pub average: usize,
@@ -31,7 +31,7 @@ pub struct Rates {
 }
 
 // An `s263` entry.
-#[derive(Drop)]
+#[derive(Clone, Copy)]
 pub struct H263 {
     pub reference: usize,
     pub width: usize,
@@ -44,7 +44,7 @@ pub struct H263 {
 }
 
 // A record, or none: what breaks the rule.
-#[derive(Drop)]
+#[derive(Clone, Copy)]
 pub enum Record {
     Speech(Amr),
     Picture(H263),

@@ -10,7 +10,7 @@ use entry_rules::entry::Around;
 use release::Release;
 use wire::number;
 
-#[derive(Drop)]
+#[derive(Clone, Copy)]
 pub enum Written {
     Done(usize),
     BadFields,

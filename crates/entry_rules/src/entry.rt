@@ -10,7 +10,7 @@ use release::Release;
 use wire::{lend, number};
 
 // What stands around an entry: a track with its time scale, its handler and its count of data references, or nothing.
-#[derive(Drop)]
+#[derive(Clone, Copy)]
 pub enum Around {
     Track {
         scale: usize,

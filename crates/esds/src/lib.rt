@@ -28,7 +28,7 @@ use wire::{lend, number};
 const BEFORE: usize = 12;
 
 // What an `esds` says, or a refusal with its number and place.
-#[derive(Drop)]
+#[derive(Clone, Copy)]
 pub enum Opened {
     Found(Esds),
     Refused(usize, usize),

@@ -14,7 +14,7 @@ use wire::pen;
 const TOO_LONG: usize = 268435456;
 
 // How many bytes the contents of the decoder configuration and of the ES descriptor have, and the whole box.
-#[derive(Drop)]
+#[derive(Clone, Copy)]
 pub struct Sizes {
     pub configuration: usize,
     pub es: usize,

@@ -10,7 +10,7 @@ use entry_heads::kind;
 use wire::{number, test};
 
 // The kind of the entry, the ES number, what the decoder configuration says, and 1 where specific information is there, else 0.
-#[derive(Drop)]
+#[derive(Clone, Copy)]
 pub struct Values {
     pub kind: usize,
     pub number: usize,
@@ -23,7 +23,7 @@ pub struct Values {
 }
 
 // The values, and the place and the length of the specific information, both 0 where it isn't there.
-#[derive(Drop)]
+#[derive(Clone, Copy)]
 pub struct Esds {
     pub values: Values,
     pub place: usize,

@@ -2,7 +2,7 @@
 ghost use Rattle.std.specs.Prelude.{◌≡◌, ◌<◌};
 ghost use Rattle.frames.specs.Codecs.{codec_named, data_bytes};
 
-#[derive(Drop)]
+#[derive(Clone, Copy)]
 pub enum Codec {
     Amr,
     Wideband,

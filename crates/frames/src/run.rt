@@ -9,7 +9,7 @@ use crate::codec::Codec;
 use wire::number;
 
 // How many frames, the bytes that they take, and their modes.
-#[derive(Drop)]
+#[derive(Clone, Copy)]
 pub struct Run {
     pub count: usize,
     pub bytes: usize,

@@ -17,7 +17,7 @@ use layout::every::Tracks;
 use rule::Verdict;
 
 // A file is accepted, or refused with a number and a place.
-#[derive(Drop)]
+#[derive(Clone, Copy)]
 pub enum Judgement {
     Accepted,
     Refused(usize, usize),
@@ -67,7 +67,7 @@ pub fn judge(file: &[u8]) -> Judgement
 }
 
 // The judgement, and where the file is accepted what its tracks say.
-#[derive(Drop)]
+#[derive(Clone, Copy)]
 pub struct JudgedTracks {
     pub answer: Judgement,
     pub tracks: Tracks,

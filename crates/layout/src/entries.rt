@@ -15,7 +15,7 @@ use boxes::{seek, walk};
 use movie::entry::{EntryAt, Named};
 
 // How many tracks there are, and of the first four what stands past the front of their `stsd`s, with the count of entries in it.
-#[derive(Drop)]
+#[derive(Clone, Copy)]
 pub struct Lists {
     pub tracks: usize,
     pub one: Slot,

@@ -10,7 +10,7 @@ use crate::{gather, track, tracks};
 use wire::number;
 
 // A track's handler, time scale and length in movie ticks, and the payloads of its `stsd` and `stts`.
-#[derive(Drop)]
+#[derive(Clone, Copy)]
 pub struct ReadTrack {
     pub handler: usize,
     pub scale: usize,
@@ -20,7 +20,7 @@ pub struct ReadTrack {
 }
 
 // How many tracks there are, and the first four; one that isn't there has no boxes.
-#[derive(Drop)]
+#[derive(Clone, Copy)]
 pub struct Tracks {
     pub count: usize,
     pub one: ReadTrack,

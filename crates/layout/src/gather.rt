@@ -8,7 +8,7 @@ use boxes::walk;
 use boxes::walk::{BoxAt, Step, Walk};
 
 // How many boxes have a code, and where in the file the payload of one of them stands.
-#[derive(Drop)]
+#[derive(Clone, Copy)]
 pub struct Slot {
     pub n: usize,
     pub from: usize,
@@ -16,14 +16,14 @@ pub struct Slot {
 }
 
 // A box by its code and its number, from 0.
-#[derive(Drop)]
+#[derive(Clone, Copy)]
 pub struct Want {
     pub code: usize,
     pub nth: usize,
 }
 
 // What there is of five, and how the container ends: boxes don't tile it, 0; they do, 1; and one of them is open, 2.
-#[derive(Drop)]
+#[derive(Clone, Copy)]
 pub struct Five {
     pub a: Slot,
     pub b: Slot,

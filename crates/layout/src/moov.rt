@@ -9,14 +9,14 @@ use crate::gather::{Five, Slot, Want};
 use boxes::walk::{BoxAt, Step, Walk};
 
 // Where the payload of a box starts and ends in the file.
-#[derive(Drop)]
+#[derive(Clone, Copy)]
 pub struct Ends {
     pub from: usize,
     pub to: usize,
 }
 
 // How many tracks there are, and where the first four of them stand.
-#[derive(Drop)]
+#[derive(Clone, Copy)]
 pub struct Four {
     pub n: usize,
     pub one: Ends,

@@ -7,7 +7,7 @@ use crate::gather::Slot;
 use crate::{gather, plain};
 
 // The boxes that rule 3 names; and 1 where each stands there alone, and plain boxes tile each container, else 0.
-#[derive(Drop)]
+#[derive(Clone, Copy)]
 pub struct Track {
     pub shaped: usize,
     pub tkhd: Slot,

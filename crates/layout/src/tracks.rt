@@ -11,7 +11,7 @@ use crate::gather::{Five, Slot, Want};
 use crate::{gather, moov, plain};
 
 // The boxes that rule 3 names, the first `mdat`, the first four tracks, how many there are, and whether all is as rules 2 and 3 want it: 1, or another number.
-#[derive(Drop)]
+#[derive(Clone, Copy)]
 pub struct Movie {
     pub shaped: usize,
     pub tracks: usize,

@@ -9,14 +9,14 @@ use crate::index;
 use boxes::walk::{BoxAt, Step, Walk};
 
 // The bytes from a place to another; none where it ends before it starts.
-#[derive(Drop)]
+#[derive(Clone, Copy)]
 pub struct Payload {
     pub start: usize,
     pub end: usize,
 }
 
 // Where so many bytes lie: in this payload, in none, or too far to be found without an index.
-#[derive(Drop)]
+#[derive(Clone, Copy)]
 pub enum Looked {
     In(Payload),
     Out,

@@ -23,7 +23,7 @@ use sample_walk::walk::{Sample, SampleStep, SampleWalk};
 use wire::lend;
 
 // The first sample that fails, from 1, and why; 0 and 0 where none does.
-#[derive(Drop)]
+#[derive(Clone, Copy)]
 pub struct Failing {
     pub number: usize,
     pub why: usize,

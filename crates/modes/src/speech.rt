@@ -12,7 +12,7 @@ use frames::codec::Codec;
 use wire::number;
 
 // The codec, the mode set, and the frames per sample.
-#[derive(Drop)]
+#[derive(Clone, Copy)]
 pub struct Speech {
     pub codec: Codec,
     pub modes: usize,

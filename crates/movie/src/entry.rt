@@ -14,7 +14,7 @@ use boxes::{seek, walk};
 use wire::{lend, number};
 
 // An entry: its track, from 1; its number there, from 0; its place in the file; its length.
-#[derive(Drop)]
+#[derive(Clone, Copy)]
 pub struct EntryAt {
     pub track: usize,
     pub nth: usize,
@@ -22,14 +22,14 @@ pub struct EntryAt {
     pub span: usize,
 }
 
-#[derive(Drop)]
+#[derive(Clone, Copy)]
 pub enum Named {
     At(EntryAt),
     Missing,
 }
 
 // A track and a number there, both from 0.
-#[derive(Drop)]
+#[derive(Clone, Copy)]
 pub enum Spot {
     In(usize, usize),
     Past,

@@ -1,4 +1,6 @@
 // The movie of a file: its tracks and what they say.
+#![tactic(auto)]
+
 pub mod entry;
 
 ghost use Rattle.std.specs.Prelude.{◌≡◌, ◌*◌, ◌^◌, ◌≤◌, ◌<◌, length};
@@ -83,7 +85,7 @@ pub fn scale(track: &[u8]) -> usize
 }
 
 // Ticks of the movie: never added to ticks of the media, nor compared with them.
-#[derive(Drop)]
+#[derive(Clone, Copy)]
 pub struct MovieTicks(pub u64);
 
 // How long it is, in ticks of the movie.

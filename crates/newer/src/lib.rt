@@ -13,7 +13,7 @@ use movie::entry::Named;
 use wire::{lend, number};
 
 // What the first file is, and where the entry of the later one is: in file 1 or 2, at a place there, so long.
-#[derive(Drop)]
+#[derive(Clone, Copy)]
 pub struct Part {
     pub order: Order,
     pub file: usize,
@@ -22,7 +22,7 @@ pub struct Part {
 }
 
 // A refusal of 1 to 10 names the file, 1 or 2; any other has file 0.
-#[derive(Drop)]
+#[derive(Clone, Copy)]
 pub enum Outcome {
     Found(Part),
     Refused {

@@ -13,7 +13,7 @@ use sample_walk::walk::{Sample, SampleStep, SampleWalk};
 use wire::lend;
 
 // Where three tables of a track stand in a file, and a walk by sample over them.
-#[derive(Drop)]
+#[derive(Clone, Copy)]
 pub struct Stand {
     pub stsc: Slot,
     pub stsz: Slot,
@@ -22,14 +22,14 @@ pub struct Stand {
 }
 
 // Before the first sample of a track, or a refusal.
-#[derive(Drop)]
+#[derive(Clone, Copy)]
 pub enum Stood {
     At(Stand),
     Refused(usize, usize),
 }
 
 // A sample, and where the walk stands after it.
-#[derive(Drop)]
+#[derive(Clone, Copy)]
 pub enum Next {
     Found(Sample, Stand),
     End,

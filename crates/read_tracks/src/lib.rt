@@ -48,7 +48,7 @@ fn is_track(file: &[u8], count: usize, track: usize) -> usize
 }
 
 // A track's length in media ticks, or a refusal.
-#[derive(Drop)]
+#[derive(Clone, Copy)]
 pub enum MediaLength {
     Ticks(MediaTicks),
     Refused(usize, usize),
@@ -78,7 +78,7 @@ pub fn media_ticks(file: &[u8], track: usize) -> MediaLength
 }
 
 // A track's length in movie ticks, or a refusal.
-#[derive(Drop)]
+#[derive(Clone, Copy)]
 pub enum MovieLength {
     Ticks(MovieTicks),
     Refused(usize, usize),
@@ -134,7 +134,7 @@ pub fn track(file: &[u8], track: usize, out: &mut [u64]) -> Answer
 }
 
 // Where the boxes of a track stand, or no such track.
-#[derive(Drop)]
+#[derive(Clone, Copy)]
 pub enum NumberedTrack {
     At(Track),
     Missing,

@@ -12,7 +12,7 @@ use movie::MovieTicks;
 use sample_tables::time::MediaTicks;
 
 // A track's handler, its length in media ticks, their time scale, its length in movie ticks.
-#[derive(Drop)]
+#[derive(Clone, Copy)]
 pub struct Said {
     pub handler: usize,
     pub media: MediaTicks,

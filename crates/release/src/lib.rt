@@ -1,4 +1,6 @@
 // The release whose rules a file or a record is held to, and the brands that tell it.
+#![tactic(auto)]
+
 pub mod compatible;
 
 ghost use Rattle.std.specs.Prelude.{◌≡◌};
@@ -8,7 +10,7 @@ ghost use Rattle.release.specs.Releases.{most_frames, release_named, release_in,
 use boxes::seek;
 use compatible::listed;
 
-#[derive(Drop)]
+#[derive(Clone, Copy)]
 pub enum Release {
     Release4,
     Release6,

@@ -23,7 +23,7 @@ use rule_lists::total;
 use wire::number;
 
 // What a track says: before which rule it is sure to be fine, its ID, and how many sample entries it has.
-#[derive(Drop)]
+#[derive(Clone, Copy)]
 pub struct TrackSays {
     pub sure: usize,
     pub identity: usize,
@@ -31,7 +31,7 @@ pub struct TrackSays {
 }
 
 // The same of the tracks so far: before which rule, how many sample entries, and the last three IDs.
-#[derive(Drop)]
+#[derive(Clone, Copy)]
 pub struct SoFar {
     pub sure: usize,
     pub total: usize,
@@ -41,7 +41,7 @@ pub struct SoFar {
 }
 
 // Before which rule a file is sure to be fine, and its tracks.
-#[derive(Drop)]
+#[derive(Clone, Copy)]
 pub struct SureTracks {
     pub sure: usize,
     pub tracks: Tracks,

@@ -6,7 +6,7 @@ ghost use Rattle.sample_tables.specs.Chunks.{offset_at, extent_of, samples_over,
 use crate::{run, size, table};
 
 // A chunk: its number from 0, its offset in the file, its first sample from 0, how many it has, and their description.
-#[derive(Drop)]
+#[derive(Clone, Copy)]
 pub struct Chunk {
     pub nth: usize,
     pub offset: usize,
@@ -16,21 +16,21 @@ pub struct Chunk {
 }
 
 // Where a chunk lies in the file.
-#[derive(Drop)]
+#[derive(Clone, Copy)]
 pub struct Extent {
     pub offset: usize,
     pub bytes: usize,
 }
 
 // Before a chunk: its number, its run and its first sample.
-#[derive(Drop)]
+#[derive(Clone, Copy)]
 pub struct ChunkWalk {
     pub chunk: usize,
     pub run: usize,
     pub sample: usize,
 }
 
-#[derive(Drop)]
+#[derive(Clone, Copy)]
 pub enum ChunkStep {
     Found(Chunk, ChunkWalk),
     End,

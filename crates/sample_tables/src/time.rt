@@ -7,7 +7,7 @@ use crate::table;
 use wire::number;
 
 // A number of the units that `mdhd` says: never added to or compared with movie ticks.
-#[derive(Drop)]
+#[derive(Clone, Copy)]
 pub struct MediaTicks(pub u64);
 
 // The samples that `stts` counts.

@@ -8,7 +8,7 @@ use sample_tables::table;
 use sample_tables::time::MediaTicks;
 
 // Before an item of `stts`: its number, the first sample that it counts, and the tick at which that sample starts.
-#[derive(Drop)]
+#[derive(Clone, Copy)]
 pub struct Clock {
     pub item: usize,
     pub sample: usize,
@@ -16,7 +16,7 @@ pub struct Clock {
 }
 
 // A clock that was asked for a sample: the tick at which it starts, or the clock one item on where the sample lies past the item.
-#[derive(Drop)]
+#[derive(Clone, Copy)]
 pub enum Turned {
     At(MediaTicks),
     Behind(Clock),

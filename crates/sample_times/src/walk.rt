@@ -10,14 +10,14 @@ use sample_tables::chunk::{Chunk, ChunkStep, ChunkWalk};
 use sample_tables::time::MediaTicks;
 
 // Before a chunk, with a clock that isn't past the chunk's first sample.
-#[derive(Drop)]
+#[derive(Clone, Copy)]
 pub struct TimedWalk {
     pub walk: ChunkWalk,
     pub clock: Clock,
 }
 
 // A chunk, its first tick and the walk after it; or the walk with its clock one item on; or no chunk.
-#[derive(Drop)]
+#[derive(Clone, Copy)]
 pub enum TimedStep {
     Found(Chunk, MediaTicks, TimedWalk),
     Ticking(TimedWalk),

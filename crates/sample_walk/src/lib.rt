@@ -1,2 +1,4 @@
 // The walk by sample.
+#![tactic(auto)]
+
 pub mod walk;

@@ -7,7 +7,7 @@ use sample_tables::chunk::{ChunkStep, ChunkWalk};
 use sample_tables::size;
 
 // A sample: its place in the file, how many bytes it has, and the number of its description, from 1.
-#[derive(Drop)]
+#[derive(Clone, Copy)]
 pub struct Sample {
     pub place: usize,
     pub bytes: usize,
@@ -16,7 +16,7 @@ pub struct Sample {
 
 // Before a sample: its number from 0, the walk past its chunk, and where in the file and of which description it is. Past the last sample of
 // a chunk only the first two count.
-#[derive(Drop)]
+#[derive(Clone, Copy)]
 pub struct SampleWalk {
     pub number: usize,
     pub chunks: ChunkWalk,
@@ -24,7 +24,7 @@ pub struct SampleWalk {
     pub description: usize,
 }
 
-#[derive(Drop)]
+#[derive(Clone, Copy)]
 pub enum SampleStep {
     Found(Sample, SampleWalk),
     End,

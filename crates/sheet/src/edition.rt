@@ -3,7 +3,7 @@ ghost use Rattle.std.specs.Prelude.{◌≡◌, ◌≤◌};
 ghost use Rattle.sheet.specs.Sheet.{Second, edition_for, bodies_at};
 
 // What byte 0 is, and how many slots there are.
-#[derive(Drop)]
+#[derive(Clone, Copy)]
 pub struct Edition {
     pub number: usize,
     pub slots: usize,

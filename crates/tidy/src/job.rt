@@ -8,7 +8,7 @@ use tidy_words::tell;
 use wire::lend;
 
 // A record is that of an entry; its changes are the arguments from 3 to an end.
-#[derive(Drop)]
+#[derive(Clone, Copy)]
 pub enum Job {
     List,
     Outline,

@@ -1,9 +1,0 @@
-use borrow.Author.Rules.{rules}
-use Rattle.sample_times.proofs.walk.TimedWalk.start.Statement.{statement}
-use Rattle.sample_times.proofs.walk.TimedWalk.start.Tie as tie
-
-pub start_spec : {M : Type 1} → statement M
-start_spec = tie.close (tie.spec
-    (λ c κs. search rules)
-    (λ c κs. search rules)
-    (λ c. cc))
