@@ -14,7 +14,9 @@ fail() {
 make_archive() {
     outdated "$archive" || return 0
     echo 'host: the library is proved and built first, which takes some minutes' >&2
-    said=$(cd "$home" && rt staticlib threegp 2>&1) || fail "the library could not be built: $said"
+    said=$(cd "$home/crates/threegp_c" && rt lib 2>&1) || fail "the library could not be built: $said"
+    mkdir -p "${archive%/*}"
+    cp "$home/crates/threegp_c/out/libthreegp_c.a" "$archive"
 }
 
 # Sets compiler, prefix (of the tools that belong to it) and run (what the programs are started with).
