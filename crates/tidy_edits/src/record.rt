@@ -76,14 +76,7 @@ fn first(numbers: &[u64; 11], n: usize) -> &[u64] {
 }
 
 // The file with the record of these numbers, of its release.
-fn make(
-    rt: HostRuntime,
-    file: &[u8],
-    i: usize,
-    numbers: &[u64; 11],
-    n: usize,
-    to: &[u8],
-) -> usize {
+fn make(rt: HostRuntime, file: &[u8], i: usize, numbers: &[u64; 11], n: usize, to: &[u8]) -> usize {
     let mut entry = [0u8; 128];
     match entry_fields::write(first(numbers, n), release::of_file(file), &mut entry) {
         Answer::Done(m) => replace(

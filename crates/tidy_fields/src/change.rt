@@ -20,7 +20,11 @@ fn refuse(rt: HostRuntime, words: &[u8], what: &[u8]) -> usize {
 // Says that a field is not to be changed.
 fn refuse_field(rt: HostRuntime, name: &[u8]) -> usize {
     if field::is_outside(name) == 1 {
-        return refuse(rt, b"not a field of the record, so it is not changed: ", name);
+        return refuse(
+            rt,
+            b"not a field of the record, so it is not changed: ",
+            name,
+        );
     }
     refuse(rt, b"no such field in this record: ", name)
 }
@@ -75,7 +79,13 @@ fn change_rates(rt: HostRuntime, numbers: &mut [u64; 11], text: &[u8]) -> usize 
             text,
         );
     }
-    set_rates(rt, numbers, 1, lend::front(text, n), lend::rest(text, n + 1))
+    set_rates(
+        rt,
+        numbers,
+        1,
+        lend::front(text, n),
+        lend::rest(text, n + 1),
+    )
 }
 
 fn change(rt: HostRuntime, numbers: &mut [u64; 11], name: &[u8], text: &[u8]) -> usize {

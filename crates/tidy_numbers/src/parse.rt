@@ -1,6 +1,5 @@
 // Numbers in text: decimal, or hexadecimal behind 0x.
-use tidy_words::argument as words;
-use tidy_words::tell;
+use tidy_words::{argument as words, tell};
 use wire::{lend, number};
 
 // What is wrong with a number.
