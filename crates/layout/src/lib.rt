@@ -1,4 +1,6 @@
 // Where the boxes of a file stand: one walk over a container finds all that is asked of it.
+#![tactic(auto)]
+
 pub mod entries;
 pub mod every;
 pub mod gather;

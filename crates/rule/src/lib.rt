@@ -1,4 +1,6 @@
 // The verdict of a rule, and the answer of a call.
+#![tactic(auto)]
+
 ghost use Rattle.std.specs.Prelude.{◌≡◌};
 ghost use Rattle.rule.specs.Verdict.{sooner as sooner_of};
 

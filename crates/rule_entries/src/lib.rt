@@ -1,4 +1,6 @@
 // Rule 10 of a release: the sample entries of a file, each judged with what its track says.
+#![tactic(auto)]
+
 ghost use Rattle.std.specs.Prelude.{◌≡◌, ◌+◌, ◌^◌, ◌<◌, ◌≤◌, [], ◌∷◌, length};
 ghost use Rattle.wire.specs.Clauses.{one_if};
 ghost use Rattle.boxes.specs.Box.{head_of};

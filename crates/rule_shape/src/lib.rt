@@ -1,4 +1,6 @@
 // Rules 2 and 3 and refusal 23 of one container: which boxes it has to have, or may not have, and which form they may have.
+#![tactic(auto)]
+
 ghost use Rattle.std.specs.Prelude.{◌≡◌, ◌≤◌, ◌<◌};
 ghost use Rattle.wire.specs.Clauses.{one_if};
 ghost use Rattle.boxes.specs.Boxes.{boxes};

@@ -1,4 +1,6 @@
 // Rules 6 to 8: the sample tables of a track. Each answer is 1 or 0.
+#![tactic(auto)]
+
 ghost use Rattle.std.specs.Prelude.{◌≡◌, ◌+◌, ◌^◌, ◌<◌, length};
 ghost use Rattle.wire.specs.Clauses.{one_if};
 ghost use Rattle.boxes.specs.Boxes.{boxes};

@@ -1,0 +1,12 @@
+-- What is past its end, or nothing.
+use mathlib.Core.Path.{refl, sym, ◌∙◌}
+use Rattle.descriptors.specs.Trees.{after_first}
+use Rattle.descriptors.proofs.Trees.{tree_end}
+use Rattle.descriptors.proofs.Firsts.{after_first_lem, not_there}
+use Rattle.descriptors.proofs.first.after.Goals as goal
+
+pub returns-in-Found : goal.returns-in-Found
+returns-in-Found c = after_first_lem k _ c.read.ensures c.in-Found.is c.rest.ensures
+
+pub returns-in-Loose : goal.returns-in-Loose
+returns-in-Loose c = tree_end k _ refl ∙ sym (not_there k _ c.read.ensures c.in-Loose.is after_first refl)

@@ -1,0 +1,12 @@
+-- That of the one at the front, or 0.
+use native.Mathlib.Omega.{arith}
+use mathlib.Core.Path.{refl, sym}
+use Rattle.descriptors.specs.Trees.{first_head}
+use Rattle.descriptors.proofs.Firsts.{first_ends, first_head_lem, not_there}
+use Rattle.descriptors.proofs.first.head.Goals as goal
+
+pub returns-in-Found : goal.returns-in-Found
+returns-in-Found c = ((λ k. first_head_lem k _ c.read.ensures c.in-Found.is), (first_ends 0 _ c.read.ensures c.in-Found.is).most)
+
+pub returns-in-Loose : goal.returns-in-Loose
+returns-in-Loose c = ((λ k. sym (not_there k _ c.read.ensures c.in-Loose.is first_head refl)), omega arith)

@@ -1,0 +1,39 @@
+-- `field::h263_rule` meets its contract. Assumes nothing.
+use Rattle.entry_records.specs.Fields.{h263_rule}
+use Rattle.wire.proofs.Clauses.{is_lt_lem, not_lt, fails, holds, nay, answer, decides}
+use native.Mathlib.Omega.{arith}
+use Rattle.entry_records.proofs.field.h263_rule.Goals as goal
+
+pub returns-then-f-ge65536 : goal.returns-then-f-ge65536
+unfolding h263_rule
+returns-then-f-ge65536 c = nay _ (fails 0 _ (not_lt _ _ (omega arith)))
+
+pub returns-then-f-ge65536-2 : goal.returns-then-f-ge65536-2
+unfolding h263_rule
+returns-then-f-ge65536-2 c = nay _ (fails 1 _ (not_lt _ _ (omega arith)))
+
+pub returns-then-f-ge65536-3 : goal.returns-then-f-ge65536-3
+unfolding h263_rule
+returns-then-f-ge65536-3 c = nay _ (fails 2 _ (not_lt _ _ (omega arith)))
+
+pub returns-then-f-ge4294967296 : goal.returns-then-f-ge4294967296
+unfolding h263_rule
+returns-then-f-ge4294967296 c = nay _ (fails 3 _ (not_lt _ _ (omega arith)))
+
+pub returns-then-f-ge256 : goal.returns-then-f-ge256
+unfolding h263_rule
+returns-then-f-ge256 c = nay _ (fails 4 _ (not_lt _ _ (omega arith)))
+
+pub returns-then-f-ge256-2 : goal.returns-then-f-ge256-2
+unfolding h263_rule
+returns-then-f-ge256-2 c = nay _ (fails 5 _ (not_lt _ _ (omega arith)))
+
+pub returns-then-f-ge256-3 : goal.returns-then-f-ge256-3
+unfolding h263_rule
+returns-then-f-ge256-3 c = nay _ (fails 6 _ (not_lt _ _ (omega arith)))
+
+pub returns : goal.returns
+unfolding h263_rule
+returns c = answer _ _ c.rates_rule.ensures (holds _ _ (is_lt_lem _ _ (omega arith)) (holds _ _ (is_lt_lem _ _ (omega arith))
+    (holds _ _ (is_lt_lem _ _ (omega arith)) (holds _ _ (is_lt_lem _ _ (omega arith)) (holds _ _ (is_lt_lem _ _ (omega arith))
+    (holds _ _ (is_lt_lem _ _ (omega arith)) (holds _ _ (is_lt_lem _ _ (omega arith)) (decides _))))))))
