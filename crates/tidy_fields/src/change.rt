@@ -114,12 +114,10 @@ fn change_argument(rt: HostRuntime, numbers: &mut [u64; 11], i: usize) -> usize 
 
 // The changes of all arguments from 3 to an end.
 pub fn change_all(rt: HostRuntime, numbers: &mut [u64; 11], end: usize) -> usize {
-    let mut i = 3;
-    while i < end {
+    for i in 3..end {
         if change_argument(rt, numbers, i) == 0 {
             return 0;
         }
-        i = i + 1;
     }
     1
 }

@@ -30,10 +30,8 @@ fn put_field(out: &mut [u8], at: usize, kind: usize, place: usize, value: usize)
 fn put_fields(out: &mut [u8], numbers: &[u64; 11]) -> usize {
     let kind = numbers[0] as usize;
     let mut at = put_kind(out, kind);
-    let mut place = 1;
-    while place < field::END {
+    for place in 1..field::END {
         at = put_field(out, at, kind, place, numbers[place] as usize);
-        place = place + 1;
     }
     at
 }

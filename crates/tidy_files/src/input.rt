@@ -1,4 +1,6 @@
 // Reading a file whole.
+ghost use Rattle.std.specs.Prelude.{◌≤◌, length, IfOk};
+
 use crate::name;
 use boxes::containers::LONGEST;
 use std::io::{Read, Result};
@@ -13,7 +15,9 @@ pub fn room() -> [u8; ROOM] {
 }
 
 // Reads until the input ends or the buffer is full.
-pub fn read_all<R: Read>(input: &mut R, buffer: &mut [u8]) -> Result<usize> {
+pub fn read_all<R: Read>(input: &mut R, buffer: &mut [u8]) -> Result<usize>
+    ensures { IfOk result (λ n. n ≤ length buffer.new) }
+{
     let mut done = 0;
     while done < buffer.len() {
         let n = input.read(&mut buffer[done..])?;

@@ -75,14 +75,12 @@ fn digits(text: &[u8], base: usize) -> Number {
         return fault(NO_NUMBER);
     }
     let mut value = 0;
-    let mut at = 0;
-    while at < text.len() {
-        let next = with(base, value, digit(number::byte(text, at)));
+    for byte in text {
+        let next = with(base, value, digit(*byte as usize));
         if next.fault != NOTHING {
             return next;
         }
         value = next.value;
-        at = at + 1;
     }
     Number {
         fault: NOTHING,
