@@ -1,4 +1,6 @@
 // The brands that a file answers to.
+#![tactic(auto)]
+
 pub mod conditions;
 
 ghost use Rattle.std.specs.Prelude.{◌≡◌};

@@ -1,4 +1,6 @@
 // The chunk offsets of a file that was edited.
+#![tactic(auto)]
+
 ghost use Rattle.std.specs.Prelude.{◌≡◌, ◌+◌, ◌≤◌, length};
 ghost use Rattle.codes.specs.Codes.{MOOV};
 ghost use Rattle.boxes.specs.Walk.{payload};

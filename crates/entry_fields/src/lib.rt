@@ -1,4 +1,6 @@
 // The record reader and writer over lists of numbers: the fields of a record in order, kind first.
+#![tactic(auto)]
+
 ghost use Rattle.rule.specs.Results.{Exact};
 ghost use Rattle.entry_fields.specs.Numbers.{read_result, write_result};
 

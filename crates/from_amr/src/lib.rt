@@ -1,4 +1,6 @@
 // From an AMR dump: the 3GP file that its frames become.
+#![tactic(auto)]
+
 ghost use Rattle.std.specs.Prelude.{◌≡◌, ◌≤◌, length};
 ghost use Rattle.frames.specs.Frames.{frames, joined};
 ghost use Rattle.frames.specs.Modes.{RunOf};

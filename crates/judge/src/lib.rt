@@ -1,4 +1,6 @@
 // The judgement of a file: rules 1 to 10.
+#![tactic(auto)]
+
 mod rules;
 mod shape;
 

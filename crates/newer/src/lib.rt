@@ -1,4 +1,6 @@
 // The newer of two files.
+#![tactic(auto)]
+
 ghost use Rattle.std.specs.Prelude.{◌≡◌, [], ◌∷◌, ◌^◌, ◌≤◌, ◌<◌, length, take, drop};
 ghost use Rattle.boxes.specs.Containers.{LONGEST};
 ghost use Rattle.clocks.specs.Zones.{Near, compared as compared_of};

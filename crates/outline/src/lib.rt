@@ -1,4 +1,6 @@
 // The outline of a file: every box with its code, place, size and depth.
+#![tactic(auto)]
+
 mod line;
 mod list;
 

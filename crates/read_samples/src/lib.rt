@@ -1,4 +1,6 @@
 // The samples of a track: where each of them lies, and a walk that holds the file.
+#![tactic(auto)]
+
 pub mod held;
 pub mod stand;
 

@@ -1,4 +1,6 @@
 // Other reads of a file: its tracks, what one says, where its chunks are.
+#![tactic(auto)]
+
 mod offset;
 mod said;
 

@@ -1,4 +1,6 @@
 // A refusal in plain words, by total writers.
+#![tactic(auto)]
+
 ghost use Rattle.std.specs.Prelude.{◌+◌, ◌^◌, ◌≤◌, ◌<◌};
 ghost use Rattle.wire.specs.Writing.{Put};
 ghost use Rattle.refusal_words.specs.RefusalWords.{refusal_words, place_words, refused_text};

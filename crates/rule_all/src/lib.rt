@@ -1,4 +1,6 @@
 // Rules 2 to 10 at once: each container is walked once, and the rules go to its boxes directly. The answer is a rule's number: those before it hold.
+#![tactic(auto)]
+
 pub mod edit;
 mod track;
 

@@ -1,4 +1,6 @@
 // The sheet reader: the sheet of a file's own sample entries.
+#![tactic(auto)]
+
 pub mod edition;
 
 ghost use Rattle.std.specs.Prelude.{◌≡◌, [], ◌∷◌, ◌+◌, ◌-◌, ◌*◌, ◌^◌, ◌≤◌, ◌<◌, length, take, drop, replicate};

@@ -1,4 +1,3 @@
-use Prim.Native.Nat.{◌-◌}
 use Rattle.wire.proofs.Same.{same_not, comparing_none, comparing_more, comparing_bad, comparing_end}
 use lib.ListN.{length}
 use mathlib.Core.Path.{ap}

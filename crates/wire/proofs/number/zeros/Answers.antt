@@ -1,4 +1,3 @@
-use Prim.Native.Nat.{◌-◌}
 use Rattle.wire.proofs.Clauses.{is_eq_lem, not_eq, yea, nay}
 use Rattle.wire.proofs.Numbers.{word_none, word_out, word_byte, zero_join, zero_not}
 use mathlib.Core.Path.{◌≡◌, sym, ◌∙◌}

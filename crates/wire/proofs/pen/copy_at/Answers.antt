@@ -1,5 +1,4 @@
 use borrow.Author.Rules.{rules}
-use Prim.Native.Nat.{◌-◌}
 use Rattle.wire.proofs.Writing.{put_none, put_piece}
 use lib.ListN.{length}
 use lib.Seq.{take-length}

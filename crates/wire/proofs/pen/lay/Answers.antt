@@ -1,4 +1,3 @@
-use Prim.Native.Nat.{◌-◌}
 use Rattle.wire.proofs.Writing.{put_none, put_more}
 use lib.ListN.{length, length-set}
 use lib.Seq.{take-length}

@@ -1,5 +1,4 @@
 use borrow.Author.Rules.{rules}
-use Prim.Native.Nat.{◌-◌}
 use native.Mathlib.Omega.{arith}
 use Rattle.wire.proofs.Putting.{behind_none, behind_more, behind_all}
 use Rattle.wire.proofs.pen.put_number.Goals as goal

@@ -1,5 +1,4 @@
 -- The invariant: all bytes but the first i are put, and those are the last of m.
-use Prim.Native.Nat.{◌-◌}
 use Rattle.wire.proofs.Putting.{Behind}
 use Rattle.wire.proofs.pen.put_number.Given as goal
 

@@ -1,0 +1,7 @@
+-- The fields, and then the header.
+use native.Mathlib.Omega.{arith}
+use Rattle.from_amr.proofs.Writing.{pen_close}
+use Rattle.from_amr.proofs.field.put_box.Goals as goal
+
+pub returns : goal.returns
+returns c = (pen_close _ c.put_fields-r.ensures.0 c.put_header.ensures, omega arith)

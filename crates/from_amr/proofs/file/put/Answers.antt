@@ -1,0 +1,13 @@
+-- Three boxes.
+use mathlib.Core.Path.{sym}
+use Rattle.frames.specs.Frames.{frames}
+use Rattle.from_amr.specs.File.{file_of}
+use Rattle.from_amr.proofs.Writing.{pen_boxes, pen_body}
+use Rattle.from_amr.proofs.file.put.Goals as goal
+
+pub returns : goal.returns
+unfolding file_of
+returns c =
+    let q = c.requires.0 in
+    pen_boxes _ _ c.put_ftyp-a.ensures.0 (pen_boxes _ _ (rw (c.start-offset.ensures.0.is c.args.codec (frames c.args.codec
+    c.args.part.now) (sym q.count)) at c.put_moov-b.ensures.0) (pen_body _ (sym c.requires.1) c.put_mdat.ensures))

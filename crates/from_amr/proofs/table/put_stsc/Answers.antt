@@ -1,0 +1,7 @@
+-- One item for all samples.
+use Rattle.from_amr.specs.Boxes.{one_for}
+use Rattle.from_amr.proofs.table.put_stsc.Goals as goal
+
+pub returns : goal.returns
+unfolding one_for
+returns c = c.put_one.ensures

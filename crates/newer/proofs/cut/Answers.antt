@@ -1,0 +1,4 @@
+use Rattle.newer.proofs.cut.Goals as goal
+
+pub returns : goal.returns
+returns c = cc

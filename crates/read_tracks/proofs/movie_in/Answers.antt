@@ -1,0 +1,20 @@
+-- The track that is named, and its movie ticks.
+use mathlib.Core.Path.{ap, refl}
+use Rattle.read_tracks.specs.declared.MovieLength.TheVariants.{Ticks}
+use Rattle.read_tracks.specs.declared.said.Said.{Said}
+use Rattle.read_tracks.proofs.Reading.{track_first, track_four, track_readable, pick_nay, pick_yea}
+use Rattle.read_tracks.proofs.movie_in.Goals as goal
+
+pub returns-then-is_track-eq0 : goal.returns-then-is_track-eq0
+returns-then-is_track-eq0 c = pick_nay _ _ _ c.is_track.ensures c.if-is_track-eq0.true
+
+pub overflow_sub-track : goal.overflow_sub-track
+overflow_sub-track c = track_first _ _ c.is_track.ensures c.if-is_track-eq0.false
+
+pub read-said-requires : goal.read-said-requires
+read-said-requires c = let p = c.requires in
+    let t = c.is_track.ensures in
+    (p.1, track_four _ _ t c.if-is_track-eq0.false p.0, track_readable _ _ t c.if-is_track-eq0.false p.0 refl)
+
+pub returns : goal.returns
+returns c = pick_yea _ _ _ c.is_track.ensures c.if-is_track-eq0.false (ap (λ (s : Said). Ticks s.movie) c.read-said.ensures)
