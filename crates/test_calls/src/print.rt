@@ -35,36 +35,23 @@ pub fn text(rt: HostRuntime, answer: u64, room: &[u8]) {
 
 // Every number of a room.
 pub fn all(rt: HostRuntime, room: &[u64]) {
-    let mut at = 0;
-    while at < room.len() {
-        say(rt, b" ", room[at]);
-        at = at + 1;
+    for n in room {
+        say(rt, b" ", *n);
     }
 }
 
 // A running sum with one number more.
 fn mix(sum: u64, n: u64) -> u64
-    requires { sum < 2147483648 }
     ensures { result < 2147483648 }
 {
-    (sum * 31 + n % 2147483648) % 2147483648
-}
-
-fn byte(x: u8) -> u64 {
-    x as u64
-}
-
-fn number(x: u32) -> u64 {
-    x as u64
+    (sum % 2147483648 * 31 + n % 2147483648) % 2147483648
 }
 
 // All bytes of a room in one number.
 pub fn sum(rt: HostRuntime, room: &[u8]) {
     let mut sum = 7;
-    let mut at = 0;
-    while at < room.len() {
-        sum = mix(sum, byte(room[at]));
-        at = at + 1;
+    for x in room {
+        sum = mix(sum, u64::from(*x));
     }
     say(rt, b" sum ", sum);
 }
@@ -72,17 +59,14 @@ pub fn sum(rt: HostRuntime, room: &[u8]) {
 // All numbers of a list in one.
 pub fn sum_numbers(rt: HostRuntime, list: &[u32]) {
     let mut sum = 7;
-    let mut at = 0;
-    while at < list.len() {
-        sum = mix(sum, number(list[at]));
-        at = at + 1;
+    for x in list {
+        sum = mix(sum, u64::from(*x));
     }
     say(rt, b" sum ", sum);
 }
 
 // A running sum with both halves of a number more.
 fn mix_halves(sum: u64, n: u64) -> u64
-    requires { sum < 2147483648 }
     ensures { result < 2147483648 }
 {
     mix(mix(sum, n / 4294967296), n % 4294967296)
@@ -91,10 +75,8 @@ fn mix_halves(sum: u64, n: u64) -> u64
 // All numbers of a list in one, both halves of each.
 pub fn sum_halves(rt: HostRuntime, list: &[u64]) {
     let mut sum = 7;
-    let mut at = 0;
-    while at < list.len() {
-        sum = mix_halves(sum, list[at]);
-        at = at + 1;
+    for x in list {
+        sum = mix_halves(sum, *x);
     }
     say(rt, b" sum ", sum);
 }
