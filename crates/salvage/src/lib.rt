@@ -1,4 +1,6 @@
 // Flat battery: what is saved of a recording whose recorder died.
+#![tactic(auto)]
+
 ghost use Rattle.std.specs.Prelude.{◌≡◌, [], ◌∷◌, ◌+◌, ◌≤◌, length};
 ghost use Rattle.wire.specs.Tests.{pick};
 ghost use Rattle.wire.specs.Clauses.{one_if};
