@@ -12,9 +12,9 @@ start() {
     trap '' PIPE
     # A library that is preloaded belongs to another C library.
     unset LD_PRELOAD
-    # The program's last act is a digit to descriptor 3: 0 done, 1 refused, 2 wrong use, input or output.
-    exec 4>&1
-    status=$(${emulator:+"$emulator"} "$folder/ld-linux-x86-64.so.2" --library-path "$folder" "$@" 3>&1 >&4 4>&-) || true
+    # The program ends with 0 done, 1 refused, or 2 wrong use, input or output; a program that couldn't start or was stopped counts as 2.
+    status=0
+    ${emulator:+"$emulator"} "$folder/ld-linux-x86-64.so.2" --library-path "$folder" "$@" || status=$?
     case $status in
     [012]) exit "$status" ;;
     esac

@@ -2,19 +2,11 @@
 # A compiler is installed where it is missing; on Arm it is Debian's cross compiler, and the kit's emulator runs what it makes.
 home=$(cd "$(dirname "${BASH_SOURCE[0]}")/.." && pwd)
 . "$home/bin/build.sh"
-archive=$home/target/staticlib/libthreegp.a
 work=$home/target/host
 
 fail() {
     printf 'host: %s\n' "$*" >&2
     exit 1
-}
-
-# The archive, where it is missing or older than the code.
-make_archive() {
-    outdated "$archive" || return 0
-    echo 'host: the library is proved and built first, which takes some minutes' >&2
-    said=$(cd "$home" && rt staticlib threegp 2>&1) || fail "the library could not be built: $said"
 }
 
 # Sets compiler, prefix (of the tools that belong to it) and run (what the programs are started with).

@@ -1,4 +1,4 @@
-/* The library's face for C. Make the archive with `rt staticlib threegp`: target/staticlib/libthreegp.a (x86-64).
+/* The library's face for C. Make the archive with `bin/archive`: target/staticlib/libthreegp.a (x86-64).
 
    A part is a pointer and then its length in elements; an empty part may have any pointer. No function asks anything of the
    caller but that each part can be read, and an output written, as far as its length says, and that an output overlaps no

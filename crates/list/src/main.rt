@@ -1,71 +1,71 @@
 // Prints the listing of a file. The file is named by the first argument, or is standard input.
+#![tactic(auto)]
+
 use rule::Answer;
-use tidy_files::input;
+use std::fs::File;
+use std::io::Read;
+use std::process::ExitCode;
+use tidy_files::{input, name};
+use tidy_words::tell::To;
+use tidy_words::{argument, tell};
 use wire::lend;
 
 // The longest file that this program reads.
 const ROOM: usize = 65536;
 
-fn print(text: &[u8]) -> bool {
-    if io::write_all(1, text) {
-        return true;
-    }
-    os::fail(b"standard output");
-    false
+fn print(rt: HostRuntime, text: &[u8]) -> usize {
+    tell::print(rt, To::Output, text)
 }
 
-fn list(file: &[u8]) -> bool {
+fn list(rt: HostRuntime, file: &[u8]) -> usize {
     let mut text = [0u8; listing::ROOM];
     match listing::listing(file, &mut text) {
-        Answer::Done(n) => print(lend::front(&text, n)),
-        Answer::Refused(_, _) => no_room(),
+        Answer::Done(n) => print(rt, lend::front(&text, n)),
+        Answer::Refused(_, _) => no_room(rt),
     }
 }
 
-fn no_room() -> bool {
-    io::write_all(2, b"no room for the listing\n");
-    false
+fn no_room(rt: HostRuntime) -> usize {
+    tell::say(rt, b"no room for the listing\n");
+    tell::FAILED
 }
 
 // One byte more than the room tells a longer file.
-fn list_input(input: i32, name: &[u8]) -> bool {
+fn list_input<R: Read>(rt: HostRuntime, input: &mut R, name: &[u8]) -> usize {
     let mut buffer = [0u8; 65537];
-    let n = input::read_all(input, &mut buffer);
-    if n == input::FAILED {
-        os::fail(name);
-        return false;
+    match input::read_all(input, &mut buffer) {
+        Ok(n) => list_read(rt, lend::front(&buffer, n)),
+        Err(error) => tell::failed(rt, name, error),
     }
-    if ROOM < n {
-        return print(b"too long here\n");
-    }
-    list(lend::front(&buffer, n))
 }
 
-fn list_named(path: &[u8]) -> bool {
-    let input = os::open_read(path);
-    if input < 0 {
-        os::fail(path);
-        return false;
+fn list_read(rt: HostRuntime, file: &[u8]) -> usize {
+    if ROOM < file.len() {
+        return print(rt, b"too long here\n");
     }
-    let done = list_input(input, path);
-    libc::close(input);
-    done
+    list(rt, file)
 }
 
-fn list_argument() -> bool {
-    if os::arg_count() < 2 {
-        return list_input(libc::STDIN_FILENO, b"standard input");
+fn list_named(rt: HostRuntime, path: &[u8]) -> usize {
+    match name::open(rt, path) {
+        Ok(mut file) => list_input(rt, &mut file, path),
+        Err(error) => tell::failed(rt, path, error),
     }
-    let mut path = io::buffer();
-    let n = os::arg(1, &mut path);
-    list_named(&path[..n])
 }
 
-// How it went, as one digit to whoever opened descriptor 3: 0 printed, 2 wrong input or output.
-fn main() {
-    if list_argument() {
-        io::write_all(3, b"0");
-        return;
+fn list_argument(rt: HostRuntime) -> usize {
+    if argument::count(rt) < 2 {
+        return list_input(rt, &mut rt.stdin(), b"standard input");
     }
-    io::write_all(3, b"2");
+    let mut path = argument::room();
+    let n = argument::fetch(rt, 1, &mut path);
+    list_named(rt, &path[..n])
+}
+
+// How it went: 0 printed, 2 wrong input or output.
+fn main(rt: HostRuntime) -> ExitCode {
+    if list_argument(rt) == tell::DONE {
+        return ExitCode::SUCCESS;
+    }
+    ExitCode::from(2)
 }

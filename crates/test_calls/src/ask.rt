@@ -40,10 +40,8 @@ pub fn numbers(file: &[u8], call: &[u8], out: &mut [u64]) -> u64 {
 
 // The numbers of a part.
 fn take(part: &[u8], list: &mut [u64; 20]) {
-    let mut k = 0;
-    while k < 20 {
+    for k in 0..20 {
         list[k] = call::wide(part, k * 8) as u64;
-        k = k + 1;
     }
 }
 

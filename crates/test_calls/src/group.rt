@@ -2,7 +2,7 @@
 use crate::room;
 use wire::{lend, number, pen};
 
-fn make_all(file: &[u8], calls: &[u8]) {
+fn make_all(rt: HostRuntime, file: &[u8], calls: &[u8]) {
     let mut at = 0;
     while at + 4 <= calls.len() {
         let n = number::word32_in(calls, at);
@@ -10,7 +10,7 @@ fn make_all(file: &[u8], calls: &[u8]) {
         if calls.len() < to {
             return;
         }
-        room::make(file, &calls[at + 4..to]);
+        room::make(rt, file, &calls[at + 4..to]);
         at = to;
     }
 }
@@ -26,25 +26,25 @@ fn lay(room: &mut [u8; 1050000], start: &[u8]) {
     }
 }
 
-fn make_first(room: &[u8; 1050000], n: usize, calls: &[u8]) {
-    make_all(lend::front(room, n), calls);
+fn make_first(rt: HostRuntime, room: &[u8; 1050000], n: usize, calls: &[u8]) {
+    make_all(rt, lend::front(room, n), calls);
 }
 
 // A file of zeros behind its start.
-fn make_long(start: &[u8], n: usize, calls: &[u8]) {
+fn make_long(rt: HostRuntime, start: &[u8], n: usize, calls: &[u8]) {
     let mut room = zeros();
     lay(&mut room, start);
-    make_first(&room, n, calls);
+    make_first(rt, &room, n, calls);
 }
 
-pub fn make(group: &[u8]) {
+pub fn make(rt: HostRuntime, group: &[u8]) {
     let whole = number::word32(group, 0);
     let n = number::word32(group, 4);
     let start = lend::front(lend::rest(group, 8), n);
     let calls = lend::rest(group, 8 + n);
     if whole == n {
-        make_all(start, calls);
+        make_all(rt, start, calls);
         return;
     }
-    make_long(start, whole, calls);
+    make_long(rt, start, whole, calls);
 }

@@ -1,4 +1,6 @@
 // Makes the calls of tests/calls.py, and writes what each answers and leaves; the answers that are right stand in stdout.
+#![tactic(auto)]
+
 mod ask;
 mod call;
 mod feed;
@@ -6,6 +8,8 @@ mod group;
 mod print;
 mod room;
 
-fn main() {
-    feed::run(b"groups");
+use std::io::Result;
+
+fn main(rt: HostRuntime) -> Result<()> {
+    feed::run(rt, "groups")
 }

@@ -1,4 +1,6 @@
 // Runs outside vectors on the library, and writes what it answers; the answers that are right stand in stdout.
+#![tactic(auto)]
+
 mod feed;
 mod named;
 mod on_entries;
@@ -7,16 +9,19 @@ mod on_tables;
 mod parts;
 mod print;
 
-fn main() {
-    feed::run(feed::PARTS, b"parts");
-    feed::run(feed::ENTRIES, b"entries");
-    feed::run(feed::ENTRIES, b"heads");
-    feed::run(feed::DECODERS, b"decoders");
-    feed::run(feed::TABLES, b"tables");
-    feed::run_file(b"c05_faststart_cut.3gp");
-    feed::run_file(b"f02_amrnb_time.3gp");
-    feed::run_file(b"f04_amrwb.3gp");
-    feed::run_file(b"f06_amrnb_bitexact_faststart.3gp");
-    feed::run_file(b"f33_h264_aac.3gp");
-    feed::run_file(b"g01_amrnb.3gp");
+use std::io::Result;
+
+fn main(rt: HostRuntime) -> Result<()> {
+    feed::run(rt, feed::PARTS, "parts")?;
+    feed::run(rt, feed::ENTRIES, "entries")?;
+    feed::run(rt, feed::ENTRIES, "heads")?;
+    feed::run(rt, feed::DECODERS, "decoders")?;
+    feed::run(rt, feed::TABLES, "tables")?;
+    feed::run_file(rt, "c05_faststart_cut.3gp")?;
+    feed::run_file(rt, "f02_amrnb_time.3gp")?;
+    feed::run_file(rt, "f04_amrwb.3gp")?;
+    feed::run_file(rt, "f06_amrnb_bitexact_faststart.3gp")?;
+    feed::run_file(rt, "f33_h264_aac.3gp")?;
+    feed::run_file(rt, "g01_amrnb.3gp")?;
+    Ok(())
 }

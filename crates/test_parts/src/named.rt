@@ -2,9 +2,9 @@
 use crate::print;
 use wire::{lend, number};
 
-pub fn name(case: &[u8]) {
+pub fn name(rt: HostRuntime, case: &[u8]) {
     let n = number::byte(case, 0);
-    print::text(lend::front(lend::rest(case, 1), n));
+    print::text(rt, lend::front(lend::rest(case, 1), n));
 }
 
 pub fn body(case: &[u8]) -> &[u8] {

@@ -14,18 +14,20 @@ fn in_track(rest: &[u8], entry: &[u8]) -> usize {
     entry::entry_rule(entry, around, Release::Release6)
 }
 
-pub fn show(case: &[u8]) {
+pub fn show(rt: HostRuntime, case: &[u8]) {
     let rest = named::body(case);
     let entry = lend::rest(rest, 12);
-    named::name(case);
-    print::say(b": track ", in_track(rest, entry));
+    named::name(rt, case);
+    print::say(rt, b": track ", in_track(rest, entry));
     print::say(
+        rt,
         b" alone ",
         entry::entry_rule(entry, Around::Alone, Release::Release6),
     );
     print::say(
+        rt,
         b" wider ",
         entry::entry_rule(entry, Around::Alone, Release::Release4),
     );
-    print::line();
+    print::line(rt);
 }

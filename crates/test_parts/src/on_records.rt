@@ -5,17 +5,19 @@ use release::Release;
 use wire::{lend, number};
 
 // The kind of entry that a record goes into, and its bytes.
-pub fn show(case: &[u8]) {
+pub fn show(rt: HostRuntime, case: &[u8]) {
     let rest = named::body(case);
     let kind = number::word32(rest, 0);
-    named::name(case);
+    named::name(rt, case);
     print::say(
+        rt,
         b": ",
         decoder::record_rule(kind, Release::Release6, lend::rest(rest, 4)),
     );
     print::say(
+        rt,
         b" wider ",
         decoder::record_rule(kind, Release::Release4, lend::rest(rest, 4)),
     );
-    print::line();
+    print::line(rt);
 }

@@ -8,38 +8,38 @@ use boxes::walk::{BoxAt, Step, Walk};
 // The code that is counted and found.
 const FREE: usize = 0x66726565;
 
-fn say_box(b: BoxAt) {
-    print::text(b"box ");
-    io::print_hex(1, b.code as u64, 8);
-    say(b" place ", b.at);
-    say(b" head ", b.head);
-    say(b" size ", b.span);
-    print::line();
+fn say_box(rt: HostRuntime, b: BoxAt) {
+    print::text(rt, b"box ");
+    print::hex(rt, b.code);
+    say(rt, b" place ", b.at);
+    say(rt, b" head ", b.head);
+    say(rt, b" size ", b.span);
+    print::line(rt);
 }
 
-fn say_end() {
-    print::text(b"end\n");
+fn say_end(rt: HostRuntime) {
+    print::text(rt, b"end\n");
 }
 
-fn say_broken(p: usize) {
-    say(b"broken ", p);
-    print::line();
+fn say_broken(rt: HostRuntime, p: usize) {
+    say(rt, b"broken ", p);
+    print::line(rt);
 }
 
-fn walk(part: &[u8]) {
+fn walk(rt: HostRuntime, part: &[u8]) {
     let mut w = Walk { at: 0 };
     loop {
         match w.step(part) {
             Step::Found(b, next) => {
-                say_box(b);
+                say_box(rt, b);
                 w = next;
             }
             Step::End => {
-                say_end();
+                say_end(rt);
                 return;
             }
             Step::Broken(p) => {
-                say_broken(p);
+                say_broken(rt, p);
                 return;
             }
         }
@@ -54,17 +54,17 @@ fn torn(part: &[u8]) -> usize {
 }
 
 // Where the tiling ends, how many boxes are `free`, and how long the payloads of the first three are.
-fn sums(part: &[u8]) {
-    say(b"tiled to ", torn(part));
-    say(b" free ", seek::count(part, FREE));
-    say(b" of ", seek::count(part, seek::ANY));
-    say(b" ", seek::payload(part, FREE, 0).len());
-    say(b" ", seek::payload(part, FREE, 1).len());
-    say(b" ", seek::payload(part, FREE, 2).len());
-    print::line();
+fn sums(rt: HostRuntime, part: &[u8]) {
+    say(rt, b"tiled to ", torn(part));
+    say(rt, b" free ", seek::count(part, FREE));
+    say(rt, b" of ", seek::count(part, seek::ANY));
+    say(rt, b" ", seek::payload(part, FREE, 0).len());
+    say(rt, b" ", seek::payload(part, FREE, 1).len());
+    say(rt, b" ", seek::payload(part, FREE, 2).len());
+    print::line(rt);
 }
 
-pub fn show(part: &[u8]) {
-    walk(part);
-    sums(part);
+pub fn show(rt: HostRuntime, part: &[u8]) {
+    walk(rt, part);
+    sums(rt, part);
 }

@@ -1,14 +1,19 @@
-// Words and numbers on standard output.
+// Words and numbers on standard output. What isn't written is missed where the output is compared.
 
-pub fn text(words: &[u8]) {
-    io::write_all(1, words);
+pub fn text(rt: HostRuntime, words: &[u8]) {
+    let _ = rt.stdout().write_all(words);
 }
 
-pub fn say(label: &[u8], n: usize) {
-    io::write_all(1, label);
-    io::print_decimal(1, n as u64);
+pub fn say(rt: HostRuntime, label: &[u8], n: usize) {
+    text(rt, label);
+    let _ = rt.print(n);
 }
 
-pub fn line() {
-    io::write_all(1, b"\n");
+// Eight hexadecimal digits.
+pub fn hex(rt: HostRuntime, n: usize) {
+    let _ = print!(rt; "{n:08x}");
+}
+
+pub fn line(rt: HostRuntime) {
+    text(rt, b"\n");
 }

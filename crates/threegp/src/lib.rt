@@ -1,4 +1,6 @@
-// The library's face for C: every call, in the same definitions as the call behind it.
+// The library's face for C, as a library: every call, in the same definitions as the call behind it. threegp_c exports them.
+#![tactic(auto)]
+
 ghost use Rattle.std.specs.Prelude.{◌≡◌, length};
 ghost use Rattle.frames.specs.Codecs.{codec_named};
 ghost use Rattle.rule.specs.Results.{Exact};
@@ -44,8 +46,7 @@ fn pack(answer: Answer) -> u64
 }
 
 // Judges a file.
-#[unsafe(no_mangle)]
-pub extern "C" fn threegp_judge(file: &[u8]) -> u64
+pub fn threegp_judge(file: &[u8]) -> u64
     ensures { result ≡ judge_answer (judged file.now) }
 {
     match judge::judge(file) {
@@ -55,109 +56,91 @@ pub extern "C" fn threegp_judge(file: &[u8]) -> u64
 }
 
 // How many tracks a file has.
-#[unsafe(no_mangle)]
-pub extern "C" fn threegp_tracks(file: &[u8]) -> u64
+pub fn threegp_tracks(file: &[u8]) -> u64
     ensures { result ≡ packed (tracks_answer file.now) }
 {
     pack(read_tracks::tracks(file))
 }
 
 // Whether a brand holds.
-#[unsafe(no_mangle)]
-pub extern "C" fn threegp_brand(file: &[u8], code: u32) -> u64
+pub fn threegp_brand(file: &[u8], code: u32) -> u64
     ensures { result ≡ packed (brand_answer file.now code) }
 {
     pack(brands::brand(file, code as usize))
 }
 
 // The sheet of a file.
-#[unsafe(no_mangle)]
-pub extern "C" fn threegp_sheet(file: &[u8], out: &mut [u8]) -> u64
+pub fn threegp_sheet(file: &[u8], out: &mut [u8]) -> u64
     ensures { ForC (sheet_result file.now) out.old result out.new }
 {
     pack(sheet::sheet(file, out))
 }
 
 // The table of a track of a sheet.
-#[unsafe(no_mangle)]
-pub extern "C" fn threegp_table(sheet: &[u8], track: u64, out: &mut [u8]) -> u64
+pub fn threegp_table(sheet: &[u8], track: u64, out: &mut [u8]) -> u64
     ensures { ForC (table_result sheet.now track) out.old result out.new }
 {
     pack(sheet_table::table(sheet, track as usize, out))
 }
 
 // The chunk offsets of a track.
-#[unsafe(no_mangle)]
-pub extern "C" fn threegp_offsets(file: &[u8], track: u64, list: &mut [u32]) -> u64
+pub fn threegp_offsets(file: &[u8], track: u64, list: &mut [u32]) -> u64
     ensures { ForC (offsets_result file.now track) list.old result list.new }
 {
     pack(read_tracks::offsets(file, track as usize, list))
 }
 
 // What a track says: handler, media ticks, time scale, movie ticks.
-#[unsafe(no_mangle)]
-pub extern "C" fn threegp_track(file: &[u8], track: u64, out: &mut [u64]) -> u64
+pub fn threegp_track(file: &[u8], track: u64, out: &mut [u64]) -> u64
     ensures { ForC (track_result file.now track) out.old result out.new }
 {
     pack(read_tracks::track(file, track as usize, out))
 }
 
 // Where each sample of a track lies: its place and its length, in turn.
-#[unsafe(no_mangle)]
-pub extern "C" fn threegp_samples(file: &[u8], track: u64, out: &mut [u64]) -> u64
+pub fn threegp_samples(file: &[u8], track: u64, out: &mut [u64]) -> u64
     ensures { ForC (samples_result file.now track) out.old result out.new }
 {
     pack(read_samples::samples(file, track as usize, out))
 }
 
 // The first sample of a track of speech that fails, and why.
-#[unsafe(no_mangle)]
-pub extern "C" fn threegp_modes(file: &[u8], track: u64, out: &mut [u64]) -> u64
+pub fn threegp_modes(file: &[u8], track: u64, out: &mut [u64]) -> u64
     ensures { ForC (modes_result file.now track) out.old result out.new }
 {
     pack(modes::modes(file, track as usize, out))
 }
 
 // The times of a file shifted.
-#[unsafe(no_mangle)]
-pub extern "C" fn threegp_shift(file: &[u8], minutes: i64, out: &mut [u8]) -> u64
+pub fn threegp_shift(file: &[u8], minutes: i64, out: &mut [u8]) -> u64
     ensures { ForC (shift_result minutes file.now) out.old result out.new }
 {
     pack(edit_shift::shift(file, minutes, out))
 }
 
 // A decoder record replaced.
-#[unsafe(no_mangle)]
-pub extern "C" fn threegp_replace(file: &[u8], entry: u64, given: &[u8], out: &mut [u8]) -> u64
+pub fn threegp_replace(file: &[u8], entry: u64, given: &[u8], out: &mut [u8]) -> u64
     ensures { ForC (replace_result file.now entry given.now) out.old result out.new }
 {
     pack(edit_replace::replace(file, entry as usize, given, out))
 }
 
 // `moov` moved right after `ftyp`.
-#[unsafe(no_mangle)]
-pub extern "C" fn threegp_move(file: &[u8], out: &mut [u8]) -> u64
+pub fn threegp_move(file: &[u8], out: &mut [u8]) -> u64
     ensures { ForC (move_result file.now) out.old result out.new }
 {
     pack(edit_move::move_moov(file, out))
 }
 
 // The file that a dump becomes.
-#[unsafe(no_mangle)]
-pub extern "C" fn threegp_from_amr(dump: &[u8], out: &mut [u8]) -> u64
+pub fn threegp_from_amr(dump: &[u8], out: &mut [u8]) -> u64
     ensures { ForC (from_amr dump.now) out.old result out.new }
 {
     pack(from_amr::from_amr(dump, out))
 }
 
 // What is saved of a recording whose recorder died.
-#[unsafe(no_mangle)]
-pub extern "C" fn threegp_salvage(
-    file: &[u8],
-    wideband: u64,
-    out: &mut [u8],
-    report: &mut [u64],
-) -> u64
+pub fn threegp_salvage(file: &[u8], wideband: u64, out: &mut [u8], report: &mut [u64]) -> u64
     ensures { ReportsForC (salvage_result (codec_named wideband) file.now (length report.old))
         (report_of (codec_named wideband) file.now) out.old result out.new report.old report.new }
 {
@@ -165,32 +148,28 @@ pub extern "C" fn threegp_salvage(
 }
 
 // The fields of a record of a release as numbers.
-#[unsafe(no_mangle)]
-pub extern "C" fn threegp_record_read(entry: &[u8], release: u64, out: &mut [u64]) -> u64
+pub fn threegp_record_read(entry: &[u8], release: u64, out: &mut [u64]) -> u64
     ensures { ForC (read_result (release_named release) entry.now) out.old result out.new }
 {
     pack(entry_fields::read(entry, release::of_number(release), out))
 }
 
 // The record of numbers, of a release.
-#[unsafe(no_mangle)]
-pub extern "C" fn threegp_record_write(numbers: &[u64], release: u64, out: &mut [u8]) -> u64
+pub fn threegp_record_write(numbers: &[u64], release: u64, out: &mut [u8]) -> u64
     ensures { ForC (write_result (release_named release) numbers.now) out.old result out.new }
 {
     pack(entry_fields::write(numbers, release::of_number(release), out))
 }
 
 // The printed listing of a file.
-#[unsafe(no_mangle)]
-pub extern "C" fn threegp_listing(file: &[u8], out: &mut [u8]) -> u64
+pub fn threegp_listing(file: &[u8], out: &mut [u8]) -> u64
     ensures { ForC (listing_result file.now) out.old result out.new }
 {
     pack(listing::listing(file, out))
 }
 
 // Every box of a file, as text.
-#[unsafe(no_mangle)]
-pub extern "C" fn threegp_outline(file: &[u8], out: &mut [u8]) -> u64
+pub fn threegp_outline(file: &[u8], out: &mut [u8]) -> u64
     ensures { ForC (outline_result file.now) out.old result out.new }
 {
     pack(outline::outline(file, out))
@@ -226,8 +205,7 @@ fn put_outcome(out: &mut [u64], outcome: Outcome) -> Answer
 }
 
 // The newer of two files.
-#[unsafe(no_mangle)]
-pub extern "C" fn threegp_newer(
+pub fn threegp_newer(
     first: &[u8],
     y: i64,
     second: &[u8],

@@ -4,139 +4,139 @@ use crate::{compare, job};
 use frames::codec::Codec;
 use tidy_edits::edit::Edit;
 use tidy_numbers::{minutes, parse};
-use tidy_words::{help, tell, word};
+use tidy_words::{argument, help, tell, word};
 use wire::compare::same;
 
 // A job on the file that argument i names; argument j names what it makes.
-fn with_files(job: Job, i: usize, j: usize) -> usize {
-    let mut from = io::buffer();
-    let n = os::arg(i, &mut from);
-    let mut to = io::buffer();
-    let m = os::arg(j, &mut to);
-    job::run(job, &from[..n], &to[..m])
+fn with_files(rt: HostRuntime, job: Job, i: usize, j: usize) -> usize {
+    let mut from = argument::room();
+    let n = argument::fetch(rt, i, &mut from);
+    let mut to = argument::room();
+    let m = argument::fetch(rt, j, &mut to);
+    job::run(rt, job, &from[..n], &to[..m])
 }
 
-fn shift() -> usize {
-    let z = minutes::argument(2);
+fn shift(rt: HostRuntime) -> usize {
+    let z = minutes::argument(rt, 2);
     if z.fault != parse::NOTHING {
         return tell::FAILED;
     }
-    with_files(Job::Make(Edit::Shift(z.value)), 3, 4)
+    with_files(rt, Job::Make(Edit::Shift(z.value)), 3, 4)
 }
 
-fn modes() -> usize {
-    let track = parse::argument(2);
+fn modes(rt: HostRuntime) -> usize {
+    let track = parse::argument(rt, 2);
     if track.fault != parse::NOTHING {
         return tell::FAILED;
     }
-    with_files(Job::Modes(track.value as usize), 3, 4)
+    with_files(rt, Job::Modes(track.value as usize), 3, 4)
 }
 
-fn table() -> usize {
-    let track = parse::argument(2);
+fn table(rt: HostRuntime) -> usize {
+    let track = parse::argument(rt, 2);
     if track.fault != parse::NOTHING {
         return tell::FAILED;
     }
-    with_files(Job::Table(track.value as usize), 3, 4)
+    with_files(rt, Job::Table(track.value as usize), 3, 4)
 }
 
 // The changes stand before the last two arguments.
-fn record(count: usize) -> usize {
-    let i = parse::argument(2);
+fn record(rt: HostRuntime, count: usize) -> usize {
+    let i = parse::argument(rt, 2);
     if i.fault != parse::NOTHING {
         return tell::FAILED;
     }
     let entry = i.value as usize;
     if count < 6 {
-        return with_files(Job::Record(entry), 3, 4);
+        return with_files(rt, Job::Record(entry), 3, 4);
     }
     let end = count - 2;
-    with_files(Job::Change { entry, end }, end, count - 1)
+    with_files(rt, Job::Change { entry, end }, end, count - 1)
 }
 
 // The file doesn't say which codec its frames are of.
-fn salvage(word: &[u8]) -> usize {
-    let mut name = io::buffer();
-    let n = os::arg(2, &mut name);
+fn salvage(rt: HostRuntime, word: &[u8]) -> usize {
+    let mut name = argument::room();
+    let n = argument::fetch(rt, 2, &mut name);
     if same(&name[..n], b"amr") == 1 {
-        return with_files(Job::Salvage(Codec::Amr), 3, 4);
+        return with_files(rt, Job::Salvage(Codec::Amr), 3, 4);
     }
     if same(&name[..n], b"wideband") == 1 {
-        return with_files(Job::Salvage(Codec::Wideband), 3, 4);
+        return with_files(rt, Job::Salvage(Codec::Wideband), 3, 4);
     }
-    help::wrong(word)
+    help::wrong(rt, word)
 }
 
-fn newer() -> usize {
-    let y = minutes::argument(3);
+fn newer(rt: HostRuntime) -> usize {
+    let y = minutes::argument(rt, 3);
     if y.fault != parse::NOTHING {
         return tell::FAILED;
     }
-    let z = minutes::argument(5);
+    let z = minutes::argument(rt, 5);
     if z.fault != parse::NOTHING {
         return tell::FAILED;
     }
-    let mut first = io::buffer();
-    let n = os::arg(2, &mut first);
-    let mut second = io::buffer();
-    let m = os::arg(4, &mut second);
-    compare::run(&first[..n], y.value, &second[..m], z.value)
+    let mut first = argument::room();
+    let n = argument::fetch(rt, 2, &mut first);
+    let mut second = argument::room();
+    let m = argument::fetch(rt, 4, &mut second);
+    compare::run(rt, &first[..n], y.value, &second[..m], z.value)
 }
 
-fn help() -> usize {
-    let mut word = io::buffer();
-    let n = os::arg(2, &mut word);
-    help::on(&word[..n])
+fn help(rt: HostRuntime) -> usize {
+    let mut word = argument::room();
+    let n = argument::fetch(rt, 2, &mut word);
+    help::on(rt, &word[..n])
 }
 
 // The words with two arguments or fewer.
-fn by_short(word: &[u8], number: usize, count: usize) -> usize {
+fn by_short(rt: HostRuntime, word: &[u8], number: usize, count: usize) -> usize {
     if number == word::LIST && count == 3 {
-        return with_files(Job::List, 2, 3);
+        return with_files(rt, Job::List, 2, 3);
     }
     if number == word::OUTLINE && count == 3 {
-        return with_files(Job::Outline, 2, 3);
+        return with_files(rt, Job::Outline, 2, 3);
     }
     if number == word::MODES && count == 4 {
-        return modes();
+        return modes(rt);
     }
     if number == word::MOVE && count == 4 {
-        return with_files(Job::Make(Edit::Move), 2, 3);
+        return with_files(rt, Job::Make(Edit::Move), 2, 3);
     }
     if number == word::SHEET && count == 4 {
-        return with_files(Job::Make(Edit::Sheet), 2, 3);
+        return with_files(rt, Job::Make(Edit::Sheet), 2, 3);
     }
     if number == word::AMR && count == 4 {
-        return with_files(Job::Dump, 2, 3);
+        return with_files(rt, Job::Dump, 2, 3);
     }
     if number == word::HELP && count <= 3 {
-        return help();
+        return help(rt);
     }
-    help::wrong(word)
+    help::wrong(rt, word)
 }
 
-fn by_word(word: &[u8], count: usize) -> usize {
+fn by_word(rt: HostRuntime, word: &[u8], count: usize) -> usize {
     let number = word::number(word);
     if number == word::SHIFT && count == 5 {
-        return shift();
+        return shift(rt);
     }
     if number == word::TABLE && count == 5 {
-        return table();
+        return table(rt);
     }
     if number == word::SALVAGE && count == 5 {
-        return salvage(word);
+        return salvage(rt, word);
     }
     if number == word::NEWER && count == 6 {
-        return newer();
+        return newer(rt);
     }
     if number == word::RECORD && 4 <= count && count != 5 {
-        return record(count);
+        return record(rt, count);
     }
-    by_short(word, number, count)
+    by_short(rt, word, number, count)
 }
 
-pub fn run() -> usize {
-    let mut word = io::buffer();
-    let n = os::arg(1, &mut word);
-    by_word(&word[..n], os::arg_count())
+pub fn run(rt: HostRuntime) -> usize {
+    let mut word = argument::room();
+    let n = argument::fetch(rt, 1, &mut word);
+    by_word(rt, &word[..n], argument::count(rt))
 }

@@ -4,6 +4,7 @@ ghost use Rattle.std.specs.Prelude.{◌<◌, ◌^◌};
 use clocks::{Order, Zone, Zoned};
 use newer::Outcome;
 use tidy_files::{input, time};
+use tidy_words::tell::To;
 use tidy_words::{line, tell};
 use wire::compare::same;
 use wire::lend;
@@ -49,59 +50,57 @@ fn put_order(out: &mut [u8], order: Order) -> usize {
     }
 }
 
-fn say(order: Order, first: &[u8], y: i64, second: &[u8], z: i64) -> usize {
+fn say(rt: HostRuntime, order: Order, first: &[u8], y: i64, second: &[u8], z: i64) -> usize {
     let mut text = [0u8; 512];
     let a = put_order(&mut text, order);
     let b = put_time(&mut text, a, first, y);
     let c = line::add(&mut text, b, b", second ");
     let d = put_time(&mut text, c, second, z);
     let e = line::add(&mut text, d, b" in universal time\n");
-    tell::print(1, lend::front(&text, e))
+    tell::print(rt, To::Output, lend::front(&text, e))
 }
 
 // A refusal, and which file it is about.
-fn refuse(file: usize, number: usize, place: usize) -> usize {
+fn refuse(rt: HostRuntime, file: usize, number: usize, place: usize) -> usize {
     if file == 1 {
-        io::write_all(2, b"first file ");
+        tell::say(rt, b"first file ");
     }
     if file == 2 {
-        io::write_all(2, b"second file ");
+        tell::say(rt, b"second file ");
     }
-    tell::refused(number, place)
+    tell::refused(rt, number, place)
 }
 
 // Every accepted file has an entry 1.
-fn compare(first: &[u8], y: i64, second: &[u8], z: i64) -> usize {
+fn compare(rt: HostRuntime, first: &[u8], y: i64, second: &[u8], z: i64) -> usize {
     match newer::newest(first, y, second, z, 1) {
         Outcome::Found(part) => {
             let order = part.order;
-            say(order, first, y, second, z)
+            say(rt, order, first, y, second, z)
         }
         Outcome::Refused {
             file,
             number,
             place,
-        } => refuse(file, number, place),
+        } => refuse(rt, file, number, place),
     }
 }
 
-fn with_second(first: &[u8], y: i64, name: &[u8], z: i64) -> usize {
+fn with_second(rt: HostRuntime, first: &[u8], y: i64, name: &[u8], z: i64) -> usize {
     let mut room = input::room();
-    let n = input::read(name, &mut room);
-    if n == input::FAILED {
+    let Some(n) = input::read(rt, name, &mut room) else {
         return tell::FAILED;
-    }
-    compare(first, y, lend::front(&room, n), z)
+    };
+    compare(rt, first, y, lend::front(&room, n), z)
 }
 
-pub fn run(first: &[u8], y: i64, second: &[u8], z: i64) -> usize {
+pub fn run(rt: HostRuntime, first: &[u8], y: i64, second: &[u8], z: i64) -> usize {
     if same(first, b"-") == 1 && same(second, b"-") == 1 {
-        return tell::wrong(b"only one of the files is standard input", b"");
+        return tell::wrong(rt, b"only one of the files is standard input", b"");
     }
     let mut room = input::room();
-    let n = input::read(first, &mut room);
-    if n == input::FAILED {
+    let Some(n) = input::read(rt, first, &mut room) else {
         return tell::FAILED;
-    }
-    with_second(lend::front(&room, n), y, second, z)
+    };
+    with_second(rt, lend::front(&room, n), y, second, z)
 }

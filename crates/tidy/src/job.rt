@@ -22,40 +22,39 @@ pub enum Job {
 }
 
 // A sheet that was not read whole isn't judged.
-fn table(track: usize, from: &[u8], sheet: &[u8], to: &[u8]) -> usize {
+fn table(rt: HostRuntime, track: usize, from: &[u8], sheet: &[u8], to: &[u8]) -> usize {
     if input::ROOM <= sheet.len() {
-        return tell::wrong(b"longer than any sheet: ", from);
+        return tell::wrong(rt, b"longer than any sheet: ", from);
     }
-    edit::run(Edit::Table(track), sheet, to)
+    edit::run(rt, Edit::Table(track), sheet, to)
 }
 
 // Nor is such a dump, which is too long for any file.
-fn dump(from: &[u8], dump: &[u8], to: &[u8]) -> usize {
+fn dump(rt: HostRuntime, from: &[u8], dump: &[u8], to: &[u8]) -> usize {
     if input::ROOM <= dump.len() {
-        return tell::wrong(b"longer than any dump that becomes a file: ", from);
+        return tell::wrong(rt, b"longer than any dump that becomes a file: ", from);
     }
-    edit::run(Edit::FromAmr, dump, to)
+    edit::run(rt, Edit::FromAmr, dump, to)
 }
 
-fn apply(job: Job, from: &[u8], file: &[u8], to: &[u8]) -> usize {
+fn apply(rt: HostRuntime, job: Job, from: &[u8], file: &[u8], to: &[u8]) -> usize {
     match job {
-        Job::List => list::run(file),
-        Job::Outline => list::outline(file),
-        Job::Modes(track) => speech::run(file, track),
-        Job::Make(edit) => edit::run(edit, file, to),
-        Job::Table(track) => table(track, from, file, to),
-        Job::Dump => dump(from, file, to),
-        Job::Salvage(codec) => rescue::run(codec, file, to),
-        Job::Record(i) => record::show(file, i),
-        Job::Change { entry, end } => record::change(file, entry, end, to),
+        Job::List => list::run(rt, file),
+        Job::Outline => list::outline(rt, file),
+        Job::Modes(track) => speech::run(rt, file, track),
+        Job::Make(edit) => edit::run(rt, edit, file, to),
+        Job::Table(track) => table(rt, track, from, file, to),
+        Job::Dump => dump(rt, from, file, to),
+        Job::Salvage(codec) => rescue::run(rt, codec, file, to),
+        Job::Record(i) => record::show(rt, file, i),
+        Job::Change { entry, end } => record::change(rt, file, entry, end, to),
     }
 }
 
-pub fn run(job: Job, from: &[u8], to: &[u8]) -> usize {
+pub fn run(rt: HostRuntime, job: Job, from: &[u8], to: &[u8]) -> usize {
     let mut room = input::room();
-    let n = input::read(from, &mut room);
-    if n == input::FAILED {
+    let Some(n) = input::read(rt, from, &mut room) else {
         return tell::FAILED;
-    }
-    apply(job, from, lend::front(&room, n), to)
+    };
+    apply(rt, job, from, lend::front(&room, n), to)
 }

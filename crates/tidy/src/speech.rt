@@ -1,5 +1,6 @@
 // The word `modes`: the first sample of a track whose frames aren't as its description says.
 use rule::Answer;
+use tidy_words::tell::To;
 use tidy_words::{line, tell};
 use wire::lend;
 
@@ -21,26 +22,26 @@ fn put_why(out: &mut [u8], at: usize, why: u64) -> usize {
 }
 
 // A sample that fails is an answer, and no refusal of the library; the status is that of a refusal, so that a script can go by it.
-fn fails(number: u64, why: u64) -> usize {
+fn fails(rt: HostRuntime, number: u64, why: u64) -> usize {
     let mut text = [0u8; 128];
     let a = line::add(&mut text, 0, b"sample ");
     let b = line::add_number(&mut text, a, number as usize);
     let c = put_why(&mut text, b, why);
-    if tell::print(1, lend::front(&text, c)) != tell::DONE {
+    if tell::print(rt, To::Output, lend::front(&text, c)) != tell::DONE {
         return tell::FAILED;
     }
     tell::REFUSED
 }
 
-pub fn run(file: &[u8], track: usize) -> usize {
+pub fn run(rt: HostRuntime, file: &[u8], track: usize) -> usize {
     let mut found = [0u64; 2];
     match modes::modes(file, track, &mut found) {
         Answer::Done(n) => {
             if n == 0 {
-                return tell::print(1, b"every sample passes\n");
+                return tell::print(rt, To::Output, b"every sample passes\n");
             }
-            fails(found[0], found[1])
+            fails(rt, found[0], found[1])
         }
-        Answer::Refused(number, place) => tell::refused(number, place),
+        Answer::Refused(number, place) => tell::refused(rt, number, place),
     }
 }

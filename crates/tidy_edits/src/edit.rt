@@ -30,23 +30,23 @@ fn put_times(out: &mut [u8], was: usize, is: usize) -> usize {
     line::add(out, b, b"\n")
 }
 
-fn write_shifted(file: &[u8], shifted: &[u8], to: &[u8]) -> usize {
+fn write_shifted(rt: HostRuntime, file: &[u8], shifted: &[u8], to: &[u8]) -> usize {
     let mut text = [0u8; 256];
     let n = put_times(&mut text, time::of(file), time::of(shifted));
-    output::write(to, shifted, lend::front(&text, n))
+    output::write(rt, to, shifted, lend::front(&text, n))
 }
 
-fn write(edit: Edit, file: &[u8], made: &[u8], to: &[u8]) -> usize {
+fn write(rt: HostRuntime, edit: Edit, file: &[u8], made: &[u8], to: &[u8]) -> usize {
     match edit {
-        Edit::Shift(_) => write_shifted(file, made, to),
-        _ => output::write(to, made, b""),
+        Edit::Shift(_) => write_shifted(rt, file, made, to),
+        _ => output::write(rt, to, made, b""),
     }
 }
 
-pub fn run(edit: Edit, file: &[u8], to: &[u8]) -> usize {
+pub fn run(rt: HostRuntime, edit: Edit, file: &[u8], to: &[u8]) -> usize {
     let mut room = input::room();
     match apply(edit, file, &mut room) {
-        Answer::Done(n) => write(edit, file, lend::front(&room, n), to),
-        Answer::Refused(number, place) => tell::refused(number, place),
+        Answer::Done(n) => write(rt, edit, file, lend::front(&room, n), to),
+        Answer::Refused(number, place) => tell::refused(rt, number, place),
     }
 }

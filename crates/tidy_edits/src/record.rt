@@ -45,19 +45,19 @@ fn read(file: &[u8], i: usize, numbers: &mut [u64]) -> Answer {
 }
 
 // Tells the record of entry i, from 1.
-pub fn show(file: &[u8], i: usize) -> usize {
+pub fn show(rt: HostRuntime, file: &[u8], i: usize) -> usize {
     let mut numbers = [0u64; 11];
     match read(file, i, &mut numbers) {
-        Answer::Done(_) => told::print(&numbers),
-        Answer::Refused(number, place) => tell::refused(number, place),
+        Answer::Done(_) => told::print(rt, &numbers),
+        Answer::Refused(number, place) => tell::refused(rt, number, place),
     }
 }
 
-fn replace(file: &[u8], i: usize, record: &[u8], to: &[u8]) -> usize {
+fn replace(rt: HostRuntime, file: &[u8], i: usize, record: &[u8], to: &[u8]) -> usize {
     let mut room = input::room();
     match edit_replace::replace(file, i, record, &mut room) {
-        Answer::Done(n) => output::write(to, lend::front(&room, n), b""),
-        Answer::Refused(number, place) => tell::refused(number, place),
+        Answer::Done(n) => output::write(rt, to, lend::front(&room, n), b""),
+        Answer::Refused(number, place) => tell::refused(rt, number, place),
     }
 }
 
@@ -76,29 +76,30 @@ fn first(numbers: &[u64; 11], n: usize) -> &[u64] {
 }
 
 // The file with the record of these numbers, of its release.
-fn make(file: &[u8], i: usize, numbers: &[u64; 11], n: usize, to: &[u8]) -> usize {
+fn make(rt: HostRuntime, file: &[u8], i: usize, numbers: &[u64; 11], n: usize, to: &[u8]) -> usize {
     let mut entry = [0u8; 128];
     match entry_fields::write(first(numbers, n), release::of_file(file), &mut entry) {
         Answer::Done(m) => replace(
+            rt,
             file,
             i,
             record_of(lend::front(&entry, m), numbers[0] as usize),
             to,
         ),
-        Answer::Refused(number, place) => tell::refused(number, place),
+        Answer::Refused(number, place) => tell::refused(rt, number, place),
     }
 }
 
 // Changes the record of entry i, from 1, as the arguments from 3 to an end say.
-pub fn change(file: &[u8], i: usize, end: usize, to: &[u8]) -> usize {
+pub fn change(rt: HostRuntime, file: &[u8], i: usize, end: usize, to: &[u8]) -> usize {
     let mut numbers = [0u64; 11];
     match read(file, i, &mut numbers) {
         Answer::Done(n) => {
-            if change::change_all(&mut numbers, end) == 0 {
+            if change::change_all(rt, &mut numbers, end) == 0 {
                 return tell::FAILED;
             }
-            make(file, i, &numbers, n, to)
+            make(rt, file, i, &numbers, n, to)
         }
-        Answer::Refused(number, place) => tell::refused(number, place),
+        Answer::Refused(number, place) => tell::refused(rt, number, place),
     }
 }

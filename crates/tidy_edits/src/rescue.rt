@@ -37,17 +37,17 @@ fn put_report(out: &mut [u8], report: &[u64; 4]) -> usize {
     line::add(out, f, b"\n")
 }
 
-fn write(made: &[u8], report: &[u64; 4], to: &[u8]) -> usize {
+fn write(rt: HostRuntime, made: &[u8], report: &[u64; 4], to: &[u8]) -> usize {
     let mut text = [0u8; 256];
     let n = put_report(&mut text, report);
-    output::write(to, made, lend::front(&text, n))
+    output::write(rt, to, made, lend::front(&text, n))
 }
 
-pub fn run(codec: Codec, file: &[u8], to: &[u8]) -> usize {
+pub fn run(rt: HostRuntime, codec: Codec, file: &[u8], to: &[u8]) -> usize {
     let mut room = input::room();
     let mut report = [0u64; 4];
     match salvage::salvage(file, codec, &mut room, &mut report) {
-        Answer::Done(n) => write(lend::front(&room, n), &report, to),
-        Answer::Refused(number, place) => tell::refused(number, place),
+        Answer::Done(n) => write(rt, lend::front(&room, n), &report, to),
+        Answer::Refused(number, place) => tell::refused(rt, number, place),
     }
 }

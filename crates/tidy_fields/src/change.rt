@@ -4,7 +4,7 @@ ghost use Rattle.std.specs.Prelude.{◌<◌};
 use crate::field;
 use entry_heads::kind;
 use tidy_numbers::parse;
-use tidy_words::{table, tell};
+use tidy_words::{argument, table, tell};
 use wire::compare::same;
 use wire::lend;
 
@@ -12,23 +12,27 @@ const COMMA: usize = 44;
 
 const EQUALS: usize = 61;
 
-fn refuse(words: &[u8], what: &[u8]) -> usize {
-    tell::wrong(words, what);
+fn refuse(rt: HostRuntime, words: &[u8], what: &[u8]) -> usize {
+    tell::wrong(rt, words, what);
     0
 }
 
 // Says that a field is not to be changed.
-fn refuse_field(name: &[u8]) -> usize {
+fn refuse_field(rt: HostRuntime, name: &[u8]) -> usize {
     if field::is_outside(name) == 1 {
-        return refuse(b"not a field of the record, so it is not changed: ", name);
+        return refuse(
+            rt,
+            b"not a field of the record, so it is not changed: ",
+            name,
+        );
     }
-    refuse(b"no such field in this record: ", name)
+    refuse(rt, b"no such field in this record: ", name)
 }
 
-fn set(numbers: &mut [u64; 11], place: usize, text: &[u8]) -> usize
+fn set(rt: HostRuntime, numbers: &mut [u64; 11], place: usize, text: &[u8]) -> usize
     requires { place < 11 }
 {
-    let n = parse::told(text);
+    let n = parse::told(rt, text);
     if n.fault != parse::NOTHING {
         return 0;
     }
@@ -36,73 +40,84 @@ fn set(numbers: &mut [u64; 11], place: usize, text: &[u8]) -> usize
     1
 }
 
-fn set_field(numbers: &mut [u64; 11], name: &[u8], text: &[u8]) -> usize {
+fn set_field(rt: HostRuntime, numbers: &mut [u64; 11], name: &[u8], text: &[u8]) -> usize {
     let kind = numbers[0] as usize;
     let place = field::find(kind, name);
     if field::END <= place {
-        return refuse_field(name);
+        return refuse_field(rt, name);
     }
     if place < field::vendor(kind) {
-        return refuse_field(name);
+        return refuse_field(rt, name);
     }
-    set(numbers, place, text)
+    set(rt, numbers, place, text)
 }
 
-fn set_rates(numbers: &mut [u64; 11], given: u64, average: &[u8], maximum: &[u8]) -> usize {
-    if set(numbers, 9, average) == 0 {
+fn set_rates(
+    rt: HostRuntime,
+    numbers: &mut [u64; 11],
+    given: u64,
+    average: &[u8],
+    maximum: &[u8],
+) -> usize {
+    if set(rt, numbers, 9, average) == 0 {
         return 0;
     }
     numbers[8] = given;
-    set(numbers, 10, maximum)
+    set(rt, numbers, 10, maximum)
 }
 
 // No rates, or an average and a maximum.
-fn change_rates(numbers: &mut [u64; 11], text: &[u8]) -> usize {
+fn change_rates(rt: HostRuntime, numbers: &mut [u64; 11], text: &[u8]) -> usize {
     if same(text, b"none") == 1 {
-        return set_rates(numbers, 0, b"0", b"0");
+        return set_rates(rt, numbers, 0, b"0", b"0");
     }
     let n = table::find_byte(text, COMMA);
     if text.len() <= n {
         return refuse(
+            rt,
             b"rates are none, or an average, a comma and a maximum: ",
             text,
         );
     }
-    set_rates(numbers, 1, lend::front(text, n), lend::rest(text, n + 1))
+    set_rates(
+        rt,
+        numbers,
+        1,
+        lend::front(text, n),
+        lend::rest(text, n + 1),
+    )
 }
 
-fn change(numbers: &mut [u64; 11], name: &[u8], text: &[u8]) -> usize {
+fn change(rt: HostRuntime, numbers: &mut [u64; 11], name: &[u8], text: &[u8]) -> usize {
     if numbers[0] as usize == kind::S263 {
         if same(name, b"rates") == 1 {
-            return change_rates(numbers, text);
+            return change_rates(rt, numbers, text);
         }
     }
-    set_field(numbers, name, text)
+    set_field(rt, numbers, name, text)
 }
 
 // FIELD=VALUE.
-fn change_as(numbers: &mut [u64; 11], text: &[u8]) -> usize {
+fn change_as(rt: HostRuntime, numbers: &mut [u64; 11], text: &[u8]) -> usize {
     let n = table::find_byte(text, EQUALS);
     if text.len() <= n {
-        return refuse(b"not FIELD=VALUE: ", text);
+        return refuse(rt, b"not FIELD=VALUE: ", text);
     }
-    change(numbers, lend::front(text, n), lend::rest(text, n + 1))
+    change(rt, numbers, lend::front(text, n), lend::rest(text, n + 1))
 }
 
-fn change_argument(numbers: &mut [u64; 11], i: usize) -> usize {
-    let mut text = io::buffer();
-    let n = os::arg(i, &mut text);
-    change_as(numbers, &text[..n])
+fn change_argument(rt: HostRuntime, numbers: &mut [u64; 11], i: usize) -> usize {
+    let mut text = argument::room();
+    let n = argument::fetch(rt, i, &mut text);
+    change_as(rt, numbers, &text[..n])
 }
 
 // The changes of all arguments from 3 to an end.
-pub fn change_all(numbers: &mut [u64; 11], end: usize) -> usize {
-    let mut i = 3;
-    while i < end {
-        if change_argument(numbers, i) == 0 {
+pub fn change_all(rt: HostRuntime, numbers: &mut [u64; 11], end: usize) -> usize {
+    for i in 3..end {
+        if change_argument(rt, numbers, i) == 0 {
             return 0;
         }
-        i = i + 1;
     }
     1
 }

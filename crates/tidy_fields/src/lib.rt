@@ -1,4 +1,6 @@
 // The fields of a record by their names, for the program `tidy`: told, and changed.
+#![tactic(auto)]
+
 pub mod change;
 mod field;
 pub mod told;

@@ -1,6 +1,7 @@
 // The fields of a record, a line each.
 use crate::field;
 use entry_heads::kind;
+use tidy_words::tell::To;
 use tidy_words::{line, tell};
 use wire::lend;
 
@@ -29,10 +30,8 @@ fn put_field(out: &mut [u8], at: usize, kind: usize, place: usize, value: usize)
 fn put_fields(out: &mut [u8], numbers: &[u64; 11]) -> usize {
     let kind = numbers[0] as usize;
     let mut at = put_kind(out, kind);
-    let mut place = 1;
-    while place < field::END {
+    for place in 1..field::END {
         at = put_field(out, at, kind, place, numbers[place] as usize);
-        place = place + 1;
     }
     at
 }
@@ -59,8 +58,8 @@ fn put_record(out: &mut [u8], numbers: &[u64; 11]) -> usize {
 }
 
 // Prints a record.
-pub fn print(numbers: &[u64; 11]) -> usize {
+pub fn print(rt: HostRuntime, numbers: &[u64; 11]) -> usize {
     let mut text = [0u8; 512];
     let n = put_record(&mut text, numbers);
-    tell::print(1, lend::front(&text, n))
+    tell::print(rt, To::Output, lend::front(&text, n))
 }

@@ -1,10 +1,11 @@
 // Reading a file whole.
+ghost use Rattle.std.specs.Prelude.{◌≤◌, length, IfOk};
+
+use crate::name;
 use boxes::containers::LONGEST;
+use std::io::{Read, Result};
 use tidy_words::tell;
 use wire::compare;
-
-// What is answered in place of a length where a read fails; no buffer here is as long.
-pub const FAILED: usize = 2000000;
 
 // Room for the longest file and, since a sheet is at most 388 bytes longer than its file, for its sheet; what fills it is longer than either.
 pub const ROOM: usize = LONGEST + 512;
@@ -13,55 +14,59 @@ pub fn room() -> [u8; ROOM] {
     [0; ROOM]
 }
 
-// One read: how many bytes came, and none at the end.
-fn read_some(input: i32, part: &mut [u8]) -> usize {
-    let got = libc::read(input, part);
-    if got < 0 {
-        return FAILED;
-    }
-    io::count(got, part)
-}
-
 // Reads until the input ends or the buffer is full.
-pub fn read_all(input: i32, buffer: &mut [u8]) -> usize {
+pub fn read_all<R: Read>(input: &mut R, buffer: &mut [u8]) -> Result<usize>
+    ensures { IfOk result (λ n. n ≤ length buffer.new) }
+{
     let mut done = 0;
     while done < buffer.len() {
-        let n = read_some(input, &mut buffer[done..]);
+        let n = input.read(&mut buffer[done..])?;
         if n == 0 {
-            return done;
-        }
-        if buffer.len() - done < n {
-            return FAILED;
+            return Ok(done);
         }
         done = done + n;
     }
-    done
+    Ok(done)
 }
 
 // The same, and a read that fails is told.
-fn read_told(input: i32, name: &[u8], buffer: &mut [u8]) -> usize {
-    let n = read_all(input, buffer);
-    if n == FAILED {
-        tell::failed(name);
+fn read_told<R: Read>(
+    rt: HostRuntime,
+    input: &mut R,
+    name: &[u8],
+    buffer: &mut [u8],
+) -> Option<usize> {
+    match read_all(input, buffer) {
+        Ok(n) => Some(n),
+        Err(error) => {
+            tell::failed(rt, name, error);
+            None
+        }
     }
-    n
 }
 
-// Reads the file of a name, or standard input for `-`.
-pub fn read(name: &[u8], buffer: &mut [u8]) -> usize {
+fn read_named(rt: HostRuntime, name: &[u8], buffer: &mut [u8]) -> Option<usize> {
+    match name::open(rt, name) {
+        Ok(mut file) => read_told(rt, &mut file, name, buffer),
+        Err(error) => {
+            tell::failed(rt, name, error);
+            None
+        }
+    }
+}
+
+// Reads the file of a name, or standard input for `-`: how many bytes there are, or none where it is told why not.
+pub fn read(rt: HostRuntime, name: &[u8], buffer: &mut [u8]) -> Option<usize> {
     if name.len() == 0 {
-        tell::wrong(b"a file's name is missing or longer than 4095 bytes", b"");
-        return FAILED;
+        tell::wrong(
+            rt,
+            b"a file's name is missing or longer than 4095 bytes",
+            b"",
+        );
+        return None;
     }
     if compare::same(name, b"-") == 1 {
-        return read_told(0, b"standard input", buffer);
+        return read_told(rt, &mut rt.stdin(), b"standard input", buffer);
     }
-    let input = os::open_read(name);
-    if input < 0 {
-        tell::failed(name);
-        return FAILED;
-    }
-    let n = read_told(input, name, buffer);
-    libc::close(input);
-    n
+    read_named(rt, name, buffer)
 }

@@ -1,3 +1,5 @@
 // The numbers among the arguments of the program `tidy`.
+#![tactic(auto)]
+
 pub mod minutes;
 pub mod parse;

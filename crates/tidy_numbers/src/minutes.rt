@@ -3,6 +3,7 @@ ghost use Rattle.std.specs.Prelude.{◌<◌};
 
 use crate::parse;
 use crate::parse::Number;
+use tidy_words::argument as words;
 use wire::{lend, number};
 
 // The most that a signed number holds.
@@ -51,10 +52,10 @@ fn signed(text: &[u8]) -> Minutes {
 }
 
 // The minutes that an argument is.
-pub fn argument(i: usize) -> Minutes {
-    let mut text = io::buffer();
-    let n = os::arg(i, &mut text);
+pub fn argument(rt: HostRuntime, i: usize) -> Minutes {
+    let mut text = words::room();
+    let n = words::fetch(rt, i, &mut text);
     let r = signed(&text[..n]);
-    parse::tell(r.fault, &text[..n]);
+    parse::tell(rt, r.fault, &text[..n]);
     r
 }

@@ -1,5 +1,5 @@
 // Numbers in text: decimal, or hexadecimal behind 0x.
-use tidy_words::tell;
+use tidy_words::{argument as words, tell};
 use wire::{lend, number};
 
 // What is wrong with a number.
@@ -75,14 +75,12 @@ fn digits(text: &[u8], base: usize) -> Number {
         return fault(NO_NUMBER);
     }
     let mut value = 0;
-    let mut at = 0;
-    while at < text.len() {
-        let next = with(base, value, digit(number::byte(text, at)));
+    for byte in text {
+        let next = with(base, value, digit(*byte as usize));
         if next.fault != NOTHING {
             return next;
         }
         value = next.value;
-        at = at + 1;
     }
     Number {
         fault: NOTHING,
@@ -100,25 +98,25 @@ pub fn unsigned(text: &[u8]) -> Number {
 }
 
 // Says what is wrong with a number.
-pub fn tell(fault: usize, text: &[u8]) {
+pub fn tell(rt: HostRuntime, fault: usize, text: &[u8]) {
     if fault == NO_NUMBER {
-        tell::wrong(b"not a number: ", text);
+        tell::wrong(rt, b"not a number: ", text);
     }
     if fault == TOO_LARGE {
-        tell::wrong(b"too large a number: ", text);
+        tell::wrong(rt, b"too large a number: ", text);
     }
 }
 
 // The number that a text is; what is wrong with it is told.
-pub fn told(text: &[u8]) -> Number {
+pub fn told(rt: HostRuntime, text: &[u8]) -> Number {
     let r = unsigned(text);
-    tell(r.fault, text);
+    tell(rt, r.fault, text);
     r
 }
 
 // The number that an argument is.
-pub fn argument(i: usize) -> Number {
-    let mut text = io::buffer();
-    let n = os::arg(i, &mut text);
-    told(&text[..n])
+pub fn argument(rt: HostRuntime, i: usize) -> Number {
+    let mut text = words::room();
+    let n = words::fetch(rt, i, &mut text);
+    told(rt, &text[..n])
 }

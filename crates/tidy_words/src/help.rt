@@ -1,12 +1,13 @@
 // What the words are for.
-use crate::tell::print;
+use crate::tell::{To, print};
 use crate::{tell, word};
 
 // What is answered for a word that there isn't.
 const UNKNOWN: usize = 3;
 
-fn put_edits(to: i32) -> usize {
+fn put_edits(rt: HostRuntime, to: To) -> usize {
     print(
+        rt,
         to,
         b"\
         tidy list FILE                             what the file holds\n\
@@ -17,8 +18,9 @@ fn put_edits(to: i32) -> usize {
     )
 }
 
-fn put_records(to: i32) -> usize {
+fn put_records(rt: HostRuntime, to: To) -> usize {
     print(
+        rt,
         to,
         b"\
         tidy record N FILE                         the fields of the record of entry N\n\
@@ -26,8 +28,9 @@ fn put_records(to: i32) -> usize {
     )
 }
 
-fn put_others(to: i32) -> usize {
+fn put_others(rt: HostRuntime, to: To) -> usize {
     print(
+        rt,
         to,
         b"\
         tidy newer FILE MINUTES FILE MINUTES       which file is newer\n\
@@ -40,16 +43,17 @@ fn put_others(to: i32) -> usize {
     )
 }
 
-fn put_all(to: i32) -> usize {
-    put_edits(to);
-    put_records(to);
-    put_others(to)
+fn put_all(rt: HostRuntime, to: To) -> usize {
+    put_edits(rt, to);
+    put_records(rt, to);
+    put_others(rt, to)
 }
 
 // More on the first six words.
-fn put_first(to: i32, number: usize) -> usize {
+fn put_first(rt: HostRuntime, to: To, number: usize) -> usize {
     match number {
         word::LIST => print(
+            rt,
             to,
             b"\
             tidy list FILE\n\
@@ -57,6 +61,7 @@ fn put_first(to: i32, number: usize) -> usize {
             A file of more than 65536 bytes is too long here.\n",
         ),
         word::OUTLINE => print(
+            rt,
             to,
             b"\
             tidy outline FILE\n\
@@ -67,6 +72,7 @@ fn put_first(to: i32, number: usize) -> usize {
             A file of less than 8 bytes is refused; one of more than 65536 bytes is too long here.\n",
         ),
         word::MODES => print(
+            rt,
             to,
             b"\
             tidy modes T FILE\n\
@@ -78,6 +84,7 @@ fn put_first(to: i32, number: usize) -> usize {
             The exit status is 1 where a sample fails, too.\n",
         ),
         word::SHIFT => print(
+            rt,
             to,
             b"\
             tidy shift MINUTES FILE OUT\n\
@@ -85,10 +92,12 @@ fn put_first(to: i32, number: usize) -> usize {
             Says what the file's modification time was and is.\n",
         ),
         word::MOVE => print(
+            rt,
             to,
             b"tidy move FILE OUT\nPuts moov right after ftyp; all else keeps its order.\n",
         ),
         word::RECORD => print(
+            rt,
             to,
             b"\
             tidy record N FILE\n\
@@ -104,34 +113,38 @@ fn put_first(to: i32, number: usize) -> usize {
 }
 
 // More on the next three, or on one before them.
-fn put_next(to: i32, number: usize) -> usize {
+fn put_next(rt: HostRuntime, to: To, number: usize) -> usize {
     match number {
         word::NEWER => print(
+            rt,
             to,
             b"\
             tidy newer FILE MINUTES FILE MINUTES\n\
             Compares the files' modification times. MINUTES, -840 to 840, is how far that file's clock is ahead of universal time.\n",
         ),
         word::SHEET => print(
+            rt,
             to,
             b"\
             tidy sheet FILE OUT\n\
             Writes all sample entries behind a list of their kinds, tracks, places and lengths.\n",
         ),
         word::TABLE => print(
+            rt,
             to,
             b"\
             tidy table T SHEET OUT\n\
             Writes the stsd box of track T, counted from 1, of a sheet.\n",
         ),
-        _ => put_first(to, number),
+        _ => put_first(rt, to, number),
     }
 }
 
 // More on a word.
-fn put_word(to: i32, number: usize) -> usize {
+fn put_word(rt: HostRuntime, to: To, number: usize) -> usize {
     match number {
         word::AMR => print(
+            rt,
             to,
             b"\
             tidy amr DUMP OUT\n\
@@ -139,6 +152,7 @@ fn put_word(to: i32, number: usize) -> usize {
             At most 65536 frames, none of them bad. The file's times are 0.\n",
         ),
         word::SALVAGE => print(
+            rt,
             to,
             b"\
             tidy salvage amr|wideband FILE OUT\n\
@@ -146,31 +160,31 @@ fn put_word(to: i32, number: usize) -> usize {
             Makes a 3GP file of its whole good frames, AMR or wideband AMR as you say, up to the first bad one and at most 65536. FILE stays as it is.\n\
             Says how many frames were kept, how many bytes were dropped and from which place in FILE on, and what the size of the mdat was.\n",
         ),
-        word::HELP => print(to, b"tidy help [WORD]\n"),
-        _ => put_next(to, number),
+        word::HELP => print(rt, to, b"tidy help [WORD]\n"),
+        _ => put_next(rt, to, number),
     }
 }
 
 // More on a word, or all words where there is no such word.
-pub fn on(word: &[u8]) -> usize {
+pub fn on(rt: HostRuntime, word: &[u8]) -> usize {
     if word.len() == 0 {
-        return put_all(1);
+        return put_all(rt, To::Output);
     }
-    let status = put_word(1, word::number(word));
+    let status = put_word(rt, To::Output, word::number(word));
     if status == UNKNOWN {
-        return wrong(word);
+        return wrong(rt, word);
     }
     status
 }
 
 // A word that isn't known, or is used in another way than it is.
-pub fn wrong(word: &[u8]) -> usize {
-    if put_word(2, word::number(word)) != UNKNOWN {
+pub fn wrong(rt: HostRuntime, word: &[u8]) -> usize {
+    if put_word(rt, To::Errors, word::number(word)) != UNKNOWN {
         return tell::FAILED;
     }
     if 0 < word.len() {
-        tell::wrong(b"no such word: ", word);
+        tell::wrong(rt, b"no such word: ", word);
     }
-    put_all(2);
+    put_all(rt, To::Errors);
     tell::FAILED
 }

@@ -11,14 +11,12 @@ const MOST: usize = 16;
 
 // The place of a byte, or the length where it is missing.
 pub fn find_byte(text: &[u8], byte: usize) -> usize {
-    let mut at = 0;
-    while at < text.len() {
+    for at in 0..text.len() {
         if number::byte(text, at) == byte {
             return at;
         }
-        at = at + 1;
     }
-    at
+    text.len()
 }
 
 // Word i of a table, from 0; empty past the last.
@@ -32,12 +30,10 @@ pub fn word(table: &[u8], i: usize) -> &[u8] {
 
 // Which word of a table a text is, from 0.
 pub fn find(table: &[u8], text: &[u8]) -> usize {
-    let mut i = 0;
-    while i < MOST {
+    for i in 0..MOST {
         if same(word(table, i), text) == 1 {
             return i;
         }
-        i = i + 1;
     }
-    i
+    MOST
 }
