@@ -13,7 +13,7 @@ use Rattle.boxes.specs.Boxes.{boxes, after}
 use Rattle.boxes.specs.Seek.{ANY, count, nth, place_by, place_in, start_in, form_in}
 use Rattle.boxes.specs.Way.{box_by}
 use Rattle.boxes.proofs.Whole.{length_header}
-use Rattle.boxes.proofs.Reading.{All, parts, write_cons}
+use Rattle.boxes.proofs.Reading.{parts, write_cons}
 use Rattle.boxes.proofs.Meaning.{meant_is, nth_hit, nth_next, nth_miss, place_hit, place_next, place_miss, form_hit, form_next, form_miss}
 use Rattle.boxes.proofs.Numbered.{by_number}
 

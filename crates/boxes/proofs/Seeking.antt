@@ -15,7 +15,7 @@ use Rattle.boxes.specs.declared.seek.Tiling.TheVariants.{Whole, Torn}
 use Rattle.boxes.specs.Box.{Box, size, header, write}
 use Rattle.boxes.specs.Boxes.{boxes, after}
 use Rattle.boxes.specs.Walk.{payload, box_at, Ran, Over}
-use Rattle.boxes.specs.Seek.{tiling_of, meant, count, nth, Cut, Passed}
+use Rattle.boxes.specs.Seek.{tiling_of, meant, count, Cut, Passed}
 use Rattle.boxes.proofs.Whole.{length_header}
 use Rattle.boxes.proofs.Reading.{write_boxes, write_cons, write_append}
 use Rattle.boxes.proofs.Meaning.{meant_most}

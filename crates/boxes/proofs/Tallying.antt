@@ -18,7 +18,7 @@ use Rattle.boxes.specs.declared.walk.Form.{Form}
 use Rattle.boxes.specs.declared.walk.Form.TheVariants.{Plain, Wide, Open}
 use Rattle.boxes.specs.Box.{Box, is_plain}
 use Rattle.boxes.specs.Boxes.{boxes, after, tiles}
-use Rattle.boxes.specs.Walk.{step_at, plainly, box_at, Ran, Over, Stepped}
+use Rattle.boxes.specs.Walk.{step_at, plainly, Ran, Over, Stepped}
 use Rattle.boxes.specs.Seek.{meant, count, all_plain, plain_tiles, Tallied}
 use Rattle.boxes.proofs.Walking.{stepped}
 use Rattle.boxes.proofs.Reading.{All}

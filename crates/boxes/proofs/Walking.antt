@@ -8,7 +8,7 @@ use lib.Dec.{leb}
 use lib.ListN.{length, drop, length-drop}
 use lib.Seq.{drop-drop}
 use borrow.Author.Tests.{leb-true, leb-false}
-use Rattle.wire.specs.Tests.{pick, if_eq, if_le}
+use Rattle.wire.specs.Tests.{pick, if_le}
 use Rattle.wire.specs.Numbers.{word}
 use Rattle.wire.proofs.Tests.{eq_yea, eq_nay, le_yea, le_nay}
 use Rattle.wire.proofs.Numbers.{word_drop}

@@ -1,17 +1,17 @@
 -- The first descriptor of a part: what code gives of it, and of none. Assumes nothing.
-use Prim.Native.Nat.{ℕ, ◌+◌, ◌-◌, ◌≤◌}
+use Prim.Native.Nat.{ℕ}
 use native.Mathlib.Omega.{arith}
 use mathlib.Core.Path.{◌≡◌, refl, sym, ap, ◌∙◌}
 use mathlib.Core.List.{List, []}
 use mathlib.Core.Logic.{⊎_elim}
-use lib.ListN.{length, take, drop}
+use lib.ListN.{length, drop}
 use Rattle.wire.specs.Tests.{if_eq}
 use Rattle.wire.proofs.Tests.{eq_nay, eq_or, eq_ways}
 use Rattle.descriptors.specs.declared.descriptor.Descriptor.{Descriptor}
 use Rattle.descriptors.specs.declared.descriptor.Front.{Front}
 use Rattle.descriptors.specs.declared.descriptor.Front.TheVariants.{Found, Loose}
-use Rattle.descriptors.specs.Parts.{ES, CONFIGURATION, SPECIFIC, SL, TOP, OTHER, holder, part_in, holding, fixed_of, own_of, held_of}
-use Rattle.descriptors.specs.Trees.{Tree, end, loose, descriptor, front_of, contents, tree, first_head, first_own, first_held, after_first}
+use Rattle.descriptors.specs.Parts.{ES, CONFIGURATION, TOP, OTHER, holder, part_in, holding, fixed_of, own_of, held_of}
+use Rattle.descriptors.specs.Trees.{Tree, end, loose, front_of, contents, tree, first_head, first_own, first_held, after_first}
 use Rattle.descriptors.proofs.Fronts.{Ends, ends}
 use Rattle.descriptors.proofs.Parts.{held_none}
 use Rattle.descriptors.proofs.Trees.{tree_end, tree_loose, tree_found}

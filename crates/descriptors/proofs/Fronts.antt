@@ -9,7 +9,6 @@ use Rattle.wire.proofs.Tests.{lt_yea, lt_nay, lt_ways}
 use Rattle.descriptors.specs.declared.length.Length.{Length}
 use Rattle.descriptors.specs.declared.length.Length.TheVariants.{Says, Broken}
 use Rattle.descriptors.specs.declared.descriptor.Descriptor.{Descriptor}
-use Rattle.descriptors.specs.declared.descriptor.Front.{Front}
 use Rattle.descriptors.specs.declared.descriptor.Front.TheVariants.{Found, Loose}
 use Rattle.descriptors.specs.Lengths.{length_at}
 use Rattle.descriptors.specs.Trees.{front_by, front_of}

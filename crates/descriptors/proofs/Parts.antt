@@ -1,6 +1,5 @@
 -- What a part has of its own and what it holds, by how many bytes are fixed. Assumes nothing.
 use Prim.Native.Nat.{ℕ}
-use native.Mathlib.Omega.{arith}
 use mathlib.Core.Path.{◌≡◌, refl, sym, ◌∙◌}
 use mathlib.Core.List.{List, []}
 use lib.ListN.{length, take, drop}

@@ -6,14 +6,12 @@ use native.Mathlib.Numerals.{add-one}
 use mathlib.Core.Path.{◌≡◌, refl, sym, ap, ◌∙◌}
 use mathlib.Core.List.{List, [], ◌∷◌, ◌++◌}
 use mathlib.Core.Logic.{⊎_elim}
-use lib.ListN.{length, take, get_or}
-use Rattle.wire.specs.Tests.{if_lt}
+use lib.ListN.{length, take}
 use Rattle.wire.specs.Numbers.{Bytes}
 use Rattle.wire.specs.Writing.{Put}
 use Rattle.wire.proofs.Writing.{pen_none, pen_then, pen_is}
 use Rattle.wire.proofs.Tests.{lt_yea, lt_nay, lt_or, lt_ways}
-use Rattle.descriptors.specs.declared.length.Length.{Length}
-use Rattle.descriptors.specs.declared.length.Length.TheVariants.{Says, Broken}
+use Rattle.descriptors.specs.declared.length.Length.TheVariants.{Says}
 use Rattle.descriptors.specs.Lengths.{length_from, length_at, more_on, length_bytes, least_more, shortest, TOO_LONG}
 use Rattle.descriptors.proofs.Lengths.{more_fits, said}
 

@@ -4,9 +4,9 @@ use native.Mathlib.Omega.{arith}
 use native.Mathlib.Numerals.{add-one}
 use mathlib.Core.Path.{◌≡◌, refl, sym, ap, ◌∙◌}
 use mathlib.Core.List.{List, []}
-use lib.ListN.{length, take, drop, length-take, length-drop}
+use lib.ListN.{length, drop, length-take, length-drop}
 use Rattle.wire.specs.Tests.{if_eq}
-use Rattle.wire.proofs.Tests.{eq_yea, eq_nay, eq_any, eq_or}
+use Rattle.wire.proofs.Tests.{eq_yea, eq_nay, eq_any}
 use Rattle.descriptors.specs.declared.descriptor.Descriptor.{Descriptor}
 use Rattle.descriptors.specs.declared.descriptor.Front.{Front}
 use Rattle.descriptors.specs.declared.descriptor.Front.TheVariants.{Found, Loose}

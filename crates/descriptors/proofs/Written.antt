@@ -1,16 +1,15 @@
 -- A descriptor that is written is read as it was. Assumes nothing.
 use Prim.Native.Nat.{ℕ, ◌+◌, ◌-◌, ◌%◌, ◌≤◌, ◌<◌}
 use native.Mathlib.Omega.{arith}
-use mathlib.Core.Path.{◌≡◌, refl, sym, ap, ◌∙◌}
+use mathlib.Core.Path.{◌≡◌, refl, sym, ◌∙◌}
 use mathlib.Core.List.{List, [], ◌∷◌, ◌++◌, append_assoc}
-use lib.ListN.{length, take, drop, get_or, length-append}
-use lib.Seq.{take-append_seam, drop-append_seam, drop-append-add, take_at, drop_at}
+use lib.ListN.{length, length-append}
+use lib.Seq.{take-append_seam, drop_at}
 use Rattle.wire.specs.Numbers.{bytes, bytes_on}
 use Rattle.wire.proofs.Numbers.{length_bytes_lem}
-use Rattle.wire.proofs.Tests.{lt_nay}
 use Rattle.descriptors.specs.declared.descriptor.Descriptor.{Descriptor}
 use Rattle.descriptors.specs.declared.descriptor.Front.TheVariants.{Found}
-use Rattle.descriptors.specs.Lengths.{least_more, shortest, length_at, TOO_LONG}
+use Rattle.descriptors.specs.Lengths.{least_more, shortest, TOO_LONG}
 use Rattle.descriptors.specs.Parts.{part_in, own_of, held_of}
 use Rattle.descriptors.specs.Trees.{descriptor, front_of, contents, tree}
 use Rattle.descriptors.specs.Texts.{head_text, descriptor_text}

@@ -1,5 +1,5 @@
 -- A descriptor as it is written.
-use Rattle.std.specs.Prelude.{ℕ, List, [], ◌∷◌, ◌++◌, length}
+use Rattle.std.specs.Prelude.{ℕ, List, ◌++◌, length}
 use Rattle.wire.specs.Numbers.{bytes}
 use Rattle.descriptors.specs.Lengths.{shortest}
 

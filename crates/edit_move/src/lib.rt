@@ -1,4 +1,6 @@
 // The move: `moov` goes right after `ftyp`.
+#![tactic(auto)]
+
 ghost use Rattle.std.specs.Prelude.{◌≡◌, [], ◌∷◌, ◌+◌, ◌≤◌, length};
 ghost use Rattle.codes.specs.Codes.{MOOV};
 ghost use Rattle.wire.specs.Writing.{Wrote, Put};

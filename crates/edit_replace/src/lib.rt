@@ -1,4 +1,6 @@
 // The replacement of a decoder record.
+#![tactic(auto)]
+
 mod place;
 mod record;
 mod write;

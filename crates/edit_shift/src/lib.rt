@@ -1,4 +1,6 @@
 // The shift of times.
+#![tactic(auto)]
+
 ghost use Rattle.std.specs.Prelude.{◌≡◌, ◌++◌, ◌≤◌, length, drop};
 ghost use Rattle.wire.specs.Clauses.{one_if};
 ghost use Rattle.codes.specs.Codes.{MOOV};

@@ -1,12 +1,12 @@
 -- Laws of heads: an entry with the rule begins with the head that the writers make of its fields, and what they make has the rule.
 -- Assumes nothing.
-use Prim.Native.Nat.{ℕ, ◌+◌, ◌≤◌, ◌<◌}
+use Prim.Native.Nat.{ℕ, ◌+◌, ◌≤◌}
 use native.Mathlib.Omega.{arith}
 use mathlib.Core.Path.{◌≡◌, refl, sym, ap, ◌∙◌}
 use mathlib.Core.Bool.{true}
 use mathlib.Core.List.{List, ◌++◌, append_assoc}
 use lib.ListN.{length, take, length-take}
-use Rattle.wire.specs.Tests.{if_eq, if_le}
+use Rattle.wire.specs.Tests.{if_le}
 use Rattle.wire.specs.Clauses.{is_eq, is_le, every}
 use Rattle.wire.specs.Numbers.{Bytes, bytes_on, bytes, word}
 use Rattle.codes.specs.Codes.{SOUN, VIDE}
@@ -14,7 +14,7 @@ use Rattle.wire.proofs.Tests.{eq_yea, eq_nay, eq_or}
 use Rattle.wire.proofs.Clauses.{eq_is, le_is, is_le_lem, clause, another}
 use Rattle.wire.proofs.Numbers.{word_front}
 use Rattle.wire.proofs.Putting.{grow}
-use Rattle.entry_heads.specs.Kinds.{S263Kind, Avc1Kind, handler_of}
+use Rattle.entry_heads.specs.Kinds.{Avc1Kind, handler_of}
 use Rattle.entry_heads.specs.Heads.{box_header, common_head, audio_head, visual_start, visual_head, COMMON, AUDIO, VISUAL, head_size, common_rule, audio_rule, name_rule, visual_rule, head_rule}
 
 -- the front of a part, a box's header longer

@@ -1,18 +1,17 @@
 -- The law that ties the rule of a head to the writers: an entry has the rule exactly when it begins with the head that the
 -- writers make of the fields that stand in it. Assumes nothing.
 use Prim.Native.Nat.{ℕ}
-use native.Mathlib.Omega.{arith}
 use mathlib.Core.Path.{◌≡◌, refl, sym, ap, ◌∙◌}
 use mathlib.Core.Bool.{true}
 use mathlib.Core.List.{List}
-use lib.ListN.{length, take}
+use lib.ListN.{take}
 use Rattle.wire.specs.Tests.{if_eq}
 use Rattle.wire.specs.Numbers.{Bytes, bytes, word}
 use Rattle.codes.specs.Codes.{SOUN, VIDE}
 use Rattle.wire.proofs.Tests.{eq_yea, eq_nay, eq_or}
 use Rattle.wire.proofs.Clauses.{eq_is, le_is, clause}
 use Rattle.entry_heads.specs.Kinds.{Avc1Kind, handler_of}
-use Rattle.entry_heads.specs.Heads.{common_head, audio_head, visual_head, head_size, head_in, name_in, common_rule, visual_rule, head_rule}
+use Rattle.entry_heads.specs.Heads.{head_size, head_in, name_in, common_rule, visual_rule, head_rule}
 use Rattle.entry_heads.proofs.Heading.{common_begins, audio_begins, visual_begins, name_zero, common_made, audio_made, visual_made, audio_size, audio_rule_lem, visual_size, visual_rule_lem, common_size, common_rule_lem}
 
 module _ (kind : ℕ) (xs : List ℕ) where

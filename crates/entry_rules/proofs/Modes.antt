@@ -7,7 +7,7 @@ use lib.Bits.{bit_and, and_high}
 use Rattle.wire.specs.Tests.{if_eq}
 use Rattle.wire.specs.Clauses.{is_eq}
 use Rattle.wire.proofs.Tests.{eq_yea, eq_nay, eq_or}
-use Rattle.wire.proofs.Clauses.{is_eq_lem, not_eq}
+use Rattle.wire.proofs.Clauses.{not_eq}
 use Rattle.entry_heads.specs.Kinds.{SamrKind}
 use Rattle.entry_rules.specs.Decoders.{mode_mask, modes_rule}
 

@@ -1,16 +1,16 @@
 -- What is written is read as it was: the tree of the descriptors that values make. Assumes nothing.
-use Prim.Native.Nat.{ℕ, ◌+◌, ◌-◌, ◌*◌, ◌/◌, ◌%◌, ◌<◌, ◌≤◌}
+use Prim.Native.Nat.{ℕ, ◌<◌}
 use native.Mathlib.Omega.{arith}
 use mathlib.Core.Path.{◌≡◌, refl, sym, ap, ◌∙◌}
-use mathlib.Core.Bool.{Bool, true}
-use mathlib.Core.List.{List, [], ◌∷◌, ◌++◌, append_assoc, append-nil}
+use mathlib.Core.Bool.{true}
+use mathlib.Core.List.{List, [], ◌++◌, append_assoc, append-nil}
 use lib.ListN.{length, take, drop, length-append}
 use lib.Seq.{take_at, drop_at}
 use Rattle.wire.specs.Tests.{if_eq}
 use Rattle.wire.specs.Numbers.{bytes}
 use Rattle.wire.proofs.Clauses.{clause, lt_is}
 use Rattle.wire.proofs.Numbers.{length_bytes_lem}
-use Rattle.wire.proofs.Tests.{eq_or, eq_yea, eq_nay}
+use Rattle.wire.proofs.Tests.{eq_or, eq_nay}
 use Rattle.descriptors.specs.Lengths.{TOO_LONG}
 use Rattle.descriptors.specs.Parts.{ES, CONFIGURATION, SPECIFIC, SL, TOP, holder, part_in, fixed_of, own_of, held_of}
 use Rattle.descriptors.specs.Trees.{Tree, end, descriptor, tree}

@@ -2,7 +2,7 @@
 use Prim.Native.Nat.{ℕ, ◌+◌, ◌-◌, ◌≤◌}
 use native.Mathlib.Omega.{arith}
 use mathlib.Core.Path.{◌≡◌, refl, sym, ap, ◌∙◌}
-use mathlib.Core.List.{List, [], ◌∷◌}
+use mathlib.Core.List.{List, []}
 use lib.ListN.{length, take, drop, drop_of_length-le}
 use Rattle.wire.specs.Clauses.{one_if}
 use Rattle.wire.specs.Numbers.{word}
@@ -10,7 +10,7 @@ use Rattle.wire.proofs.Tests.{eq_yea, eq_nay, eq_any}
 use Rattle.wire.proofs.Clauses.{was_yea, was_nay}
 use Rattle.codes.specs.Codes.{SOUN, VIDE}
 use Rattle.entry_heads.specs.Kinds.{kind_of, handler_of}
-use Rattle.entry_heads.specs.Heads.{AUDIO, VISUAL, COMMON, head_size}
+use Rattle.entry_heads.specs.Heads.{VISUAL, head_size}
 use Rattle.descriptors.specs.Parts.{TOP}
 use Rattle.descriptors.specs.Trees.{tree}
 use Rattle.movie.specs.declared.entry.EntryAt.{EntryAt}

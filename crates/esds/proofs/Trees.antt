@@ -1,8 +1,8 @@
 -- The tree that values make passes every test, and the values in it are the same. Assumes nothing.
-use Prim.Native.Nat.{ℕ, ◌+◌, ◌*◌, ◌/◌, ◌%◌, ◌≤◌, ◌<◌}
+use Prim.Native.Nat.{ℕ, ◌+◌, ◌*◌, ◌/◌}
 use native.Mathlib.Omega.{arith}
-use mathlib.Core.Path.{◌≡◌, refl, sym, ap, ◌∙◌}
-use mathlib.Core.Bool.{Bool, true}
+use mathlib.Core.Path.{◌≡◌, refl, sym}
+use mathlib.Core.Bool.{true}
 use mathlib.Core.List.{List, [], ◌∷◌, ◌++◌}
 use mathlib.Core.Logic.{◌⊎◌, ⊎_elim}
 use lib.ListN.{length}
@@ -10,11 +10,11 @@ use Rattle.wire.specs.Tests.{if_eq, if_le}
 use Rattle.wire.specs.Clauses.{is_eq, every, either}
 use Rattle.wire.specs.Numbers.{bytes_on, bytes, word}
 use Rattle.wire.specs.Same.{same}
-use Rattle.wire.proofs.Clauses.{is_eq_lem, holds, done, clause}
+use Rattle.wire.proofs.Clauses.{is_eq_lem, holds, done}
 use Rattle.wire.proofs.Numbers.{word_bytes, length_bytes_lem}
 use Rattle.wire.proofs.Tests.{eq_yea, eq_nay}
 use Rattle.descriptors.specs.Parts.{ES, CONFIGURATION, SPECIFIC, SL, fixed_of, own_fits}
-use Rattle.descriptors.specs.Trees.{Tree, end, descriptor, first_head, first_own, all_fit, in_order, wanted_parts}
+use Rattle.descriptors.specs.Trees.{Tree, end, descriptor, first_head, all_fit, in_order, wanted_parts}
 use Rattle.descriptors.proofs.Written.{head_span}
 use Rattle.esds.specs.declared.value.Values.{Values}
 use Rattle.esds.specs.Values.{configuration, sl, specific, values_by, given, values_in, kind_rule, fixed_by, fixed_in}
@@ -59,7 +59,7 @@ module _ (v : Values) (s : List ℕ) (f : Fine v s) where
     unfolding if_eq
     by_specific P a b = ⊎_elim (λ z. rw z a) (λ z. rw z b) g
 
-    given_back : given (es_tree v s) ≡ v.specific
+    pub given_back : given (es_tree v s) ≡ v.specific
     unfolding given specific
     given_back = by_specific (λ t n. if_eq (first_head t) 0 0 1 ≡ n) (sym (eq_yea _ _ _ _ _ refl refl)) (sym (eq_nay _ _ _ _ _ (λ z. omega arith) refl))
 

@@ -1,5 +1,5 @@
 -- K7: the descriptors in the `esds` of an entry, read and written back.
-use Rattle.std.specs.Prelude.{ℕ, ◌+◌, ◌-◌, Bool, List, [], ◌∷◌, ◌++◌, length, take, drop, get_or}
+use Rattle.std.specs.Prelude.{ℕ, ◌+◌, ◌-◌, List, [], ◌∷◌, ◌++◌, length, take, drop, get_or}
 use Rattle.wire.specs.Tests.{if_eq}
 use Rattle.wire.specs.Clauses.{is_eq, every}
 use Rattle.wire.specs.Numbers.{word}

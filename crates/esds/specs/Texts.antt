@@ -1,7 +1,7 @@
 -- The `esds` that values make, and which values have one.
 use Rattle.std.specs.Prelude.{ℕ, ◌+◌, ◌*◌, ◌≤◌, ◌≡◌, Bool, List, [], ◌∷◌, ◌++◌, length}
 use Rattle.wire.specs.Tests.{if_eq}
-use Rattle.wire.specs.Clauses.{is_eq, is_lt, is_le, every, either}
+use Rattle.wire.specs.Clauses.{is_eq, is_lt, every, either}
 use Rattle.wire.specs.Numbers.{bytes}
 use Rattle.codes.specs.Codes.{ESDS}
 use Rattle.entry_heads.specs.Heads.{box_header}

@@ -1,5 +1,5 @@
 -- There and back: "Write them back with shortest lengths; a read of that gives the same values."
-use Rattle.std.specs.Prelude.{ℕ, ◌-◌, ◌≡◌, List, ◌++◌, length, take, drop}
+use Rattle.std.specs.Prelude.{ℕ, ◌-◌, ◌≡◌, List, ◌++◌, drop}
 use Rattle.wire.specs.Numbers.{word}
 use Rattle.entry_heads.specs.Kinds.{kind_of}
 use Rattle.entry_heads.specs.Heads.{head_size}

@@ -1,4 +1,6 @@
 // What is inside the `esds` of an entry: the descriptors read, and written back.
+#![tactic(auto)]
+
 pub mod text;
 pub mod value;
 

@@ -1,4 +1,6 @@
 // The printed listing of a file.
+#![tactic(auto)]
+
 mod line;
 mod lines;
 

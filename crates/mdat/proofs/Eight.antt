@@ -8,7 +8,7 @@ use Rattle.wire.proofs.Sums.{all_none, all_more, all_of, all_at, all_fails}
 use Rattle.boxes.specs.Box.{Box}
 use Rattle.sample_tables.specs.Tables.{items}
 use Rattle.sample_tables.specs.Sizes.{sample_count, bytes_from, Held}
-use Rattle.sample_tables.specs.Runs.{per_chunk, run_of}
+use Rattle.sample_tables.specs.Runs.{per_chunk}
 use Rattle.sample_tables.specs.Chunks.{samples_in, first_sample, offset_at, chunk_at, extent_of, extent_at, Covers}
 use Rattle.sample_tables.proofs.Chunks.{first_more, first_mono}
 use Rattle.sample_tables.proofs.Sizes.{held_in}

@@ -4,19 +4,14 @@ use native.Mathlib.Omega.{arith}
 use mathlib.Core.Path.{◌≡◌, refl, sym, ap, ◌∙◌}
 use mathlib.Core.Bool.{Bool, true, false}
 use mathlib.Core.List.{List, [], ◌∷◌}
-use lib.ListN.{length, drop}
+use lib.ListN.{length}
 use Rattle.wire.specs.Tests.{pick}
 use Rattle.wire.specs.Clauses.{is_eq, is_le, every}
 use Rattle.codes.specs.Codes.{MDAT}
 use Rattle.wire.proofs.Clauses.{is_eq_lem, not_eq, is_le_lem, not_le, fails, done, holds as and}
 use Rattle.wire.proofs.Tests.{lt_or}
 use Rattle.boxes.specs.Box.{Box, head, size}
-use Rattle.boxes.specs.Boxes.{boxes}
-use Rattle.boxes.specs.Walk.{box_at, Ran, Over}
-use Rattle.boxes.specs.declared.walk.Walk.{Walk}
-use Rattle.boxes.specs.declared.walk.BoxAt.{BoxAt}
 use Rattle.boxes.proofs.Whole.{head_least}
-use Rattle.boxes.proofs.Seeking.{ran_size}
 use Rattle.mdat.specs.Payloads.{mdats, Spot, nowhere, spot, past, resolve, fits, in_at}
 use Rattle.mdat.specs.Rules.{lies}
 use Rattle.mdat.proofs.Payloads.{mdat_or, resolve_here, resolve_past, mdats_hit, within_hit, within_low, within_miss, past_nowhere}

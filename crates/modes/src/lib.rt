@@ -1,4 +1,6 @@
 // The frames of speech in a track's samples, against the modes that their descriptions allow.
+#![tactic(auto)]
+
 mod sample;
 mod speech;
 

@@ -1,5 +1,5 @@
 -- Looking an entry up, as code and its callers ask. Assumes nothing.
-use Prim.Native.Nat.{ℕ, ◌+◌, ◌-◌, ◌≤◌}
+use Prim.Native.Nat.{ℕ, ◌+◌, ◌≤◌}
 use native.Mathlib.Omega.{arith}
 use mathlib.Core.Path.{◌≡◌, refl, ap, subst, ◌∙◌}
 use mathlib.Core.List.{List}
@@ -9,7 +9,7 @@ use Rattle.boxes.specs.declared.walk.BoxAt.{BoxAt}
 use Rattle.boxes.specs.declared.seek.Seen.{Seen}
 use Rattle.boxes.specs.declared.seek.Seen.TheVariants as seen
 use Rattle.boxes.specs.Boxes.{boxes, FRONT}
-use Rattle.boxes.specs.Seek.{ANY, find, nth, start_in, SeenAs}
+use Rattle.boxes.specs.Seek.{ANY, find, start_in, SeenAs}
 use Rattle.boxes.proofs.Numbered.{found_short}
 use Rattle.boxes.proofs.Cutting.{cut_as, none_as}
 use Rattle.movie.specs.declared.entry.EntryAt.{EntryAt}

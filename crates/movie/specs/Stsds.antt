@@ -1,7 +1,6 @@
 -- The `stsd`s of a file, in order.
 use Rattle.std.specs.Prelude.{ℕ, ◌+◌, List, [], ◌∷◌, length, take, drop}
 use Rattle.wire.specs.Tests.{if_eq}
-use Rattle.wire.specs.Numbers.{word}
 use Rattle.codes.specs.Codes.{MOOV, TRAK, STSD}
 use Rattle.boxes.specs.declared.walk.Form.TheVariants.{Plain}
 use Rattle.boxes.specs.Box.{Box, head, size}

@@ -81,19 +81,19 @@ module _ (xs : List ℕ) (i : ℕ) (new ys : List ℕ) (w : Bytes xs) (met : Mee
   rest_same : {Q : List ℕ → List ℕ → Type 0} {u : ℕ} {l m : List Stsd} → Pairs Q l m → Each (Own xs) u l → Each (Own ys) u m
       → h.t < u → bare (entries_in m) ≡ bare (entries_in l)
   unfolding entries_in
-  rest_same nil none none k = refl
-  rest_same (cons _ _ _ _ _ a) (more {t = u} {s = s} {l = l} e p b) (more {s = r} {l = m} f q c) k =
+  rest_same {u = u} nil none none k = refl
+  rest_same {u = u} (cons _ _ _ _ _ a) (more {s = s} {l = l} e p b) (more {s = r} {l = m} f q c) k =
       rw (map-append unplaced (entries_of r) (entries_in m), map-append unplaced (entries_of s) (entries_in l))
-      (rw (other_track u s r e f p q (λ z. omega arith), rest_same a b c (omega arith)))
+      (rw (other_track u s r e f p q (λ z. omega arith), rest_same {u = u + 1} a b c (omega arith)))
 
   one_in : {Q : List ℕ → List ℕ → Type 0} {u : ℕ} {l m : List Stsd} → Pairs Q l m → Each (Own xs) u l → Each (Own ys) u m
       → (j : ℕ) → spot_in l j ≡ In h.t h.n → OneIn j l m
   unfolding spot_in
-  one_in nil none none j k = let z : ◌≡◌ {A = ℕ} 0 1 = cc in absurd (omega arith)
-  one_in (cons _ _ _ _ _ a) (more {t = u} {s = s} {l = l} e p b) (more {s = r} {l = m} f q c) j k =
+  one_in {u = u} nil none none j k = let z : ◌≡◌ {A = ℕ} 0 1 = cc in absurd (omega arith)
+  one_in {u = u} (cons _ _ _ _ _ a) (more {s = s} {l = l} e p b) (more {s = r} {l = m} f q c) j k =
       lt_or j (length (entries_of s))
-      (λ d. one_here u s r e f p q l m j (lt_yea _ _ _ _ _ d refl ∙ k) (rest_same a b c))
-      (λ d. let y = lt_nay _ _ _ _ _ d refl ∙ k in one_next u s r e f p q l m j d (spot_past b _ h.t h.n y) (one_in a b c _ y))
+      (λ d. one_here u s r e f p q l m j (lt_yea _ _ _ _ _ d refl ∙ k) (rest_same {u = u + 1} a b c))
+      (λ d. let y = lt_nay _ _ _ _ _ d refl ∙ k in one_next u s r e f p q l m j d (spot_past b _ h.t h.n y) (one_in {u = u + 1} a b c _ y))
 
   pub replaces_one : OneEntry xs i new ys
   unfolding entries

@@ -1,4 +1,6 @@
 // The table writer: from a sheet and a track the `stsd` box of that track.
+#![tactic(auto)]
+
 ghost use Rattle.std.specs.Prelude.{◌≡◌, [], ◌∷◌, ◌+◌, ◌^◌, ◌≤◌, ◌<◌, length};
 ghost use Rattle.wire.specs.Tests.{if_eq};
 ghost use Rattle.wire.specs.Writing.{Put};

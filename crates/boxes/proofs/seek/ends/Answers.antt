@@ -1,4 +1,3 @@
-use Prim.Native.Nat.{◌-◌}
 use Rattle.boxes.proofs.Seeking.{ends_whole, ends_torn}
 use Rattle.boxes.proofs.Walking.{ran, ended, broke}
 use mathlib.Core.Path.{refl, ◌∙◌}

@@ -1,4 +1,3 @@
-use Prim.Native.Nat.{◌-◌}
 use Rattle.boxes.proofs.Seeking.{passed_none, passed_more, passed_cut, passed_over}
 use Rattle.boxes.proofs.Walking.{ran, ended, broke}
 use native.Mathlib.Omega.{arith}

@@ -1,4 +1,3 @@
-use Prim.Native.Nat.{◌-◌}
 use native.Mathlib.Omega.{arith}
 use Rattle.boxes.proofs.PlainWalking.{plain_ran, plain_ended}
 use Rattle.boxes.proofs.Tallying.{tallied_none, tallied_more, tallied_whole, tallied_stopped}

@@ -1,4 +1,3 @@
-use Prim.Native.Nat.{◌-◌}
 use Rattle.boxes.proofs.Putting.{take_size, around_room, around_end, around_put, turn_room, way_put}
 use Rattle.boxes.proofs.Turning.{pen_box, nth_at, nth_missing, way_end, way_length}
 use Rattle.boxes.specs.Way.{turns, tail_by, edit_way}

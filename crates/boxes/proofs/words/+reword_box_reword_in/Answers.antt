@@ -1,4 +1,3 @@
-use Prim.Native.Nat.{◌-◌}
 use Rattle.boxes.proofs.Editing.{edit_leaf, edit_node, edit_shallow, edit_deep, box_length}
 use Rattle.boxes.proofs.InPlace.{in_body_lem, looped_none, looped_last, looped_more}
 use Rattle.boxes.proofs.Walking.{ran, ended, broke}

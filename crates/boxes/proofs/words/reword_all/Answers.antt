@@ -1,4 +1,3 @@
-use Prim.Native.Nat.{◌-◌}
 use Rattle.boxes.proofs.Wording.{worded_none, worded_last, worded_more}
 use native.Mathlib.Omega.{arith}
 use Rattle.boxes.proofs.words.reword_all.Goals as goal

@@ -1,4 +1,3 @@
-use Prim.Native.Nat.{◌-◌}
 use Rattle.wire.proofs.Sums.{sum_more}
 use Rattle.dates.specs.Calendar.{month_days}
 use Rattle.dates.proofs.Years.{january, months_none, month_next}

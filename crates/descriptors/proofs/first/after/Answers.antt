@@ -6,7 +6,7 @@ use Rattle.descriptors.proofs.Firsts.{after_first_lem, not_there}
 use Rattle.descriptors.proofs.first.after.Goals as goal
 
 pub returns-in-Found : goal.returns-in-Found
-returns-in-Found c = after_first_lem k _ c.read.ensures c.in-Found.is c.rest.ensures
+returns-in-Found c k = after_first_lem k _ c.read.ensures c.in-Found.is c.rest.ensures
 
 pub returns-in-Loose : goal.returns-in-Loose
-returns-in-Loose c = tree_end k _ refl ∙ sym (not_there k _ c.read.ensures c.in-Loose.is after_first refl)
+returns-in-Loose c k = tree_end k _ refl ∙ sym (not_there k _ c.read.ensures c.in-Loose.is after_first refl)

@@ -5,4 +5,4 @@ use Rattle.descriptors.proofs.length.put.Goals as goal
 
 pub returns : goal.returns
 returns c =
-    (put_last _ c.Least-more.ensures.0 c.put_more-m.ensures.0 c.put_byte.ensures, omega (arith, c.put_byte.ensures.next))
+    (put_last _ c.least_more.ensures.0 c.put_more-m.ensures.0 c.put_byte.ensures, omega (arith, c.put_byte.ensures.next))

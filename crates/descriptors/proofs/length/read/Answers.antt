@@ -1,5 +1,4 @@
 -- Each byte with its top bit set leaves the length of what follows; one without says it.
-use Prim.Native.Nat.{◌-◌}
 use native.Mathlib.Omega.{arith}
 use mathlib.Core.Path.{sym, ◌∙◌}
 use Rattle.descriptors.proofs.Lengths.{length_none, length_says, length_more, length_broken, more_fits, third_fits}

@@ -1,4 +1,3 @@
-use Prim.Native.Nat.{◌-◌}
 use native.Mathlib.Omega.{arith}
 use Rattle.frames.proofs.Flags.{term_most, summed_none, summed_more, summed_all}
 use Rattle.frames.proofs.run.mode_set.Goals as goal

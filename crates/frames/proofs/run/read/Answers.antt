@@ -1,4 +1,3 @@
-use Prim.Native.Nat.{◌-◌}
 use native.Mathlib.Omega.{arith}
 use Rattle.wire.proofs.Lists.{tail_is}
 use Rattle.frames.proofs.Reading.{reading_none, reading_more, reading_stop, reading_full}

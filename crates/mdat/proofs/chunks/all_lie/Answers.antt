@@ -1,5 +1,4 @@
 use borrow.Author.Rules.{rules}
-use Prim.Native.Nat.{◌-◌}
 use Rattle.mdat.proofs.Eight.{run_few, chunks_none}
 use Rattle.mdat.proofs.Searching.{looked_in, looked_out, looked_far}
 use Rattle.mdat.specs.Rules.{chunks_in}

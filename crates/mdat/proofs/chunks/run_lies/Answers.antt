@@ -1,5 +1,4 @@
 use borrow.Author.Rules.{rules}
-use Prim.Native.Nat.{◌-◌}
 use Rattle.mdat.proofs.Eight.{first_after, ready_held, chunks_more, chunks_fail, chunk_is}
 use Rattle.mdat.proofs.Searching.{looked_in, looked_out, looked_far}
 use mathlib.Core.Path.{◌≡◌, ◌∙◌}

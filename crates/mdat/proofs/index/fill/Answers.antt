@@ -1,4 +1,3 @@
-use Prim.Native.Nat.{◌-◌}
 use Rattle.boxes.proofs.Walking.{ran}
 use Rattle.mdat.proofs.Starts.{start_front, start_next}
 use mathlib.Core.Path.{refl, ◌∙◌}

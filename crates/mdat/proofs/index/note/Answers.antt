@@ -1,4 +1,3 @@
-use Prim.Native.Nat.{◌-◌}
 use Rattle.mdat.proofs.Indexing.{index_note}
 use lib.ListN.{length-set}
 use mathlib.Core.Path.{refl}

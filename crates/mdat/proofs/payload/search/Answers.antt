@@ -1,4 +1,3 @@
-use Prim.Native.Nat.{◌-◌}
 use Rattle.boxes.proofs.Walking.{ran, ended, broke}
 use Rattle.boxes.proofs.PlainWalking.{plain_ran, plain_ended}
 use Rattle.mdat.proofs.Searching.{start_held, start_over}

@@ -1,4 +1,3 @@
-use Prim.Native.Nat.{◌-◌}
 use Rattle.boxes.proofs.Walking.{ran, ended, broke}
 use Rattle.movie.proofs.Counting.{tally_none, tally_more, tally_all}
 use native.Mathlib.Omega.{arith}

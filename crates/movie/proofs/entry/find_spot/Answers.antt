@@ -1,4 +1,3 @@
-use Prim.Native.Nat.{◌-◌}
 use Rattle.boxes.proofs.Walking.{ran, ended, broke}
 use Rattle.movie.proofs.Spots.{spotted_none, spotted_more, spotted_in, spotted_past}
 use native.Mathlib.Omega.{arith}

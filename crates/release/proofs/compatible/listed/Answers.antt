@@ -1,4 +1,3 @@
-use Prim.Native.Nat.{◌-◌}
 use native.Mathlib.Omega.{arith}
 use Rattle.release.proofs.Listing.{times_none, times_other, listed_here, listed_none, listed_short}
 use Rattle.release.proofs.compatible.listed.Goals as goal

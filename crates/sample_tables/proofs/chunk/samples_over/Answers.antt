@@ -1,5 +1,4 @@
 use borrow.Author.Rules.{rules}
-use Prim.Native.Nat.{◌-◌}
 use Rattle.sample_tables.proofs.Chunks.{first_none, first_fits}
 use Rattle.sample_tables.proofs.RunSums.{start_first, start_past, covers, run_more}
 use Rattle.sample_tables.specs.Chunks.{first_sample}

@@ -1,9 +1,7 @@
 use borrow.Author.Rules.{rules}
-use Prim.Native.Nat.{◌-◌}
 use Rattle.wire.proofs.Clauses.{yea, nay, was_yea, was_nay}
 use Rattle.sample_tables.proofs.Runs.{runs_none, runs_more, runs_fail}
 use Rattle.sample_tables.specs.Tables.{items}
-use mathlib.Core.Bool.{true}
 use mathlib.Core.Path.{◌≡◌, sym}
 use native.Mathlib.Omega.{arith}
 use Rattle.sample_tables.proofs.run.runs_fine.Goals as goal

@@ -1,5 +1,4 @@
 use borrow.Author.Rules.{rules}
-use Prim.Native.Nat.{◌-◌}
 use Rattle.sample_tables.proofs.Sizes.{bytes_none, listed_more}
 use mathlib.Core.Path.{◌≡◌}
 use native.Mathlib.Omega.{arith}

@@ -1,5 +1,4 @@
 use borrow.Author.Rules.{rules}
-use Prim.Native.Nat.{◌-◌}
 use Rattle.sample_tables.proofs.Times.{ticks_none, ticks_more, ticks_fit}
 use mathlib.Core.Path.{◌≡◌}
 use native.Mathlib.Omega.{arith}

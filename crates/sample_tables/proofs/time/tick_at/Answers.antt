@@ -1,5 +1,4 @@
 use borrow.Author.Rules.{rules}
-use Prim.Native.Nat.{◌-◌}
 use Rattle.sample_tables.proofs.Times.{left_none, left_more, tick_none, tick_more, tick_most}
 use mathlib.Core.Path.{◌≡◌}
 use native.Mathlib.Omega.{arith}

@@ -1,4 +1,3 @@
-use Prim.Native.Nat.{◌-◌}
 use Rattle.sample_times.proofs.Walks.{start_is}
 use Rattle.sample_times.proofs.Steps.{sounded, ticked, ended, tick_of}
 use mathlib.Core.Path.{sym, ◌∙◌}

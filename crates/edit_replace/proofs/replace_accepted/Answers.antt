@@ -1,0 +1,12 @@
+-- It has a `moov`, since it meets the rules.
+use Rattle.codes.specs.Codes.{MOOV}
+use Rattle.boxes.proofs.Cutting.{cut_as, none_as}
+use Rattle.edit_offsets.proofs.Accepted.{one_moov}
+use native.Mathlib.Omega.{arith}
+use Rattle.edit_replace.proofs.replace_accepted.Goals as goal
+
+pub replace_in-requires : goal.replace_in-requires
+replace_in-requires c = (c.requires, cut_as c.args.file.now MOOV 0 _ c.nth.ensures _ c.in-At.is)
+
+pub returns-in-Missing : goal.returns-in-Missing
+returns-in-Missing c = absurd (omega (arith, none_as c.args.file.now MOOV 0 _ c.nth.ensures c.in-Missing.is, one_moov _ c.requires))

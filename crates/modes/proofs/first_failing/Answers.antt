@@ -1,0 +1,48 @@
+use Prim.Native.Nat.{◌-◌}
+use native.Mathlib.Omega.{arith}
+use Rattle.sample_walk.proofs.Walks.{start_before, step_gives, step_ends, gives_more}
+use Rattle.read_samples.proofs.Counting.{samples_count}
+use Rattle.modes.proofs.Failings.{passing_none, passing_all, passing_not, passing_more}
+use Rattle.modes.proofs.first_failing.Goals as goal
+
+pub loop-s-init : goal.loop-s-init
+loop-s-init c =
+    let p = c.requires in
+    rw c.start-walk.ensures (c.samples-n.ensures.0, start_before _ _ _ p, passing_none _ _)
+
+pub step-requires : goal.step-requires
+step-requires c = (c.requires, c.loop-s.invariant.1)
+
+pub overflow_sub-n : goal.overflow_sub-n
+overflow_sub-n c =
+    let i = c.loop-s.invariant in
+    let p = c.requires in
+    let g = step_gives _ _ _ _ c.step.ensures c.in-Found.is in
+    omega (arith, g.number, gives_more _ _ _ g, samples_count _ _ _ p, i.0)
+
+pub why_of-why-requires : goal.why_of-why-requires
+why_of-why-requires c =
+    (step_gives _ _ _ _ c.step.ensures c.in-Found.is).described
+
+pub returns-then-why-ne0 : goal.returns-then-why-ne0
+returns-then-why-ne0 c =
+    let i = c.loop-s.invariant in
+    let p = c.requires in
+    let g = step_gives _ _ _ _ c.step.ensures c.in-Found.is in
+    passing_not _ _ _ i.2 g.is (omega (arith, g.number, samples_count _ _ _ p, i.0)) c.why_of-why.ensures c.if-why-ne0.true g.number
+
+pub loop-s-smaller : goal.loop-s-smaller
+loop-s-smaller c =
+    let g = step_gives _ _ _ _ c.step.ensures c.in-Found.is in
+    omega (arith, g.number, gives_more _ _ _ g)
+
+pub loop-s-preserved : goal.loop-s-preserved
+loop-s-preserved c =
+    let i = c.loop-s.invariant in
+    let p = c.requires in
+    let g = step_gives _ _ _ _ c.step.ensures c.in-Found.is in
+    (i.0, g.walk, passing_more _ _ _ i.2 g.is (omega (arith, g.number, samples_count _ _ _ p, i.0)) c.why_of-why.ensures c.if-why-ne0.false g.number)
+
+pub returns-in-End : goal.returns-in-End
+returns-in-End c =
+    passing_all _ _ _ c.loop-s.invariant.2 (step_ends _ _ _ _ c.step.ensures c.in-End.is)

@@ -1,0 +1,48 @@
+-- 20, 25, or the first sample of the track that fails.
+use Rattle.rule.proofs.Results.{test_not, test_so, test_nay, test_yea, test_all}
+use Rattle.read_tracks.proofs.Reading.{numbered_at, numbered_none, laid_offsets}
+use Rattle.read_samples.proofs.Tables.{numbered_walked, laid_runs, laid_sizes}
+use Rattle.read_samples.proofs.Counting.{found_walked}
+use Rattle.modes.proofs.Found.{laid_list, found_only, found_failing}
+use Rattle.modes.proofs.modes_in.Goals as goal
+
+pub bytes-requires : goal.bytes-requires
+bytes-requires c =
+    (numbered_at _ _ _ c.numbered_track.ensures c.in-At.is).laid.stsd.lies
+
+pub returns-then-only-eq0 : goal.returns-then-only-eq0
+returns-then-only-eq0 c =
+    let n = numbered_at _ _ _ c.numbered_track.ensures c.in-At.is in
+    let l = laid_list n.laid c.bytes.ensures c.rest-list.ensures in
+    test_so _ _ _ _ _ n.there (test_nay _ _ _ _ _ (found_only _ l c.only.ensures) c.if-only-eq0.true)
+
+pub bytes-requires-in-At : goal.bytes-requires-in-At
+bytes-requires-in-At c =
+    (numbered_at _ _ _ c.numbered_track.ensures c.in-At.is).laid.stsc.lies
+
+pub bytes-requires-in-At-2 : goal.bytes-requires-in-At-2
+bytes-requires-in-At-2 c =
+    (numbered_at _ _ _ c.numbered_track.ensures c.in-At.is).laid.stsz.lies
+
+pub bytes-requires-in-At-3 : goal.bytes-requires-in-At-3
+bytes-requires-in-At-3 c =
+    (numbered_at _ _ _ c.numbered_track.ensures c.in-At.is).laid.stco.lies
+
+pub first_failing-f-requires : goal.first_failing-f-requires
+first_failing-f-requires c =
+    let n = numbered_at _ _ _ c.numbered_track.ensures c.in-At.is in
+    let l = n.laid in
+    found_walked _ (laid_runs l c.bytes-in-At.ensures) (laid_sizes l c.bytes-in-At-2.ensures) (laid_offsets l c.bytes-in-At-3.ensures)
+    (numbered_walked _ _ c.requires n)
+
+pub returns-else-only-eq0 : goal.returns-else-only-eq0
+returns-else-only-eq0 c =
+    let n = numbered_at _ _ _ c.numbered_track.ensures c.in-At.is in
+    let l = n.laid in
+    let i = laid_list l c.bytes.ensures c.rest-list.ensures in
+    test_so _ _ _ _ _ n.there (test_yea _ _ _ _ _ (found_only _ i c.only.ensures) c.if-only-eq0.false (test_all _ _
+    (found_failing _ i _ (laid_runs l c.bytes-in-At.ensures) (laid_sizes l c.bytes-in-At-2.ensures) (laid_offsets l c.bytes-in-At-3.ensures)
+    c.first_failing-f.ensures c.put.ensures)))
+
+pub returns-in-Missing : goal.returns-in-Missing
+returns-in-Missing c = test_not _ _ _ _ _ (numbered_none _ _ _ c.numbered_track.ensures c.in-Missing.is)
