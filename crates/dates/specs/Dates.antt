@@ -1,4 +1,4 @@
--- The date of a time. `date-valid` and `date-back` say that it is the date that is meant, `date-of-seconds` that there is no other.
+-- The date of a time. `date_valid` and `date_back` say that it is the date that is meant, `date_of_seconds` that there is no other.
 use Rattle.std.specs.Prelude.{ℕ, zero, suc, ◌+◌, ◌-◌, ◌/◌, ◌%◌, ◌<◌, ◌≡◌}
 use Rattle.wire.specs.Tests.{if_le}
 use Rattle.wire.specs.Sums.{sum_to}

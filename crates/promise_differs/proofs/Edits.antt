@@ -1,5 +1,5 @@
 -- The end of demand 3, of each edit: "only the named fields, enclosing sizes, chunk offsets and, for a move, the box order
--- differ". That of a move is `move-order` and `move-differs`, that of a shift `shift-differs`. Assumes nothing.
+-- differ". That of a move is `move_order` and `move_differs`, that of a shift `shift_differs`. Assumes nothing.
 use Prim.Native.Nat.{ℕ, ◌-◌, ◌≤◌, ◌<◌}
 use native.Mathlib.Omega.{arith}
 use mathlib.Core.Path.{◌≡◌, refl, ◌∙◌}

@@ -42,7 +42,7 @@ pub fn run(rt: HostRuntime, file: &[u8]) -> usize {
     }
 }
 
-// A file isn't judged for its outline. The text has at most 8 bytes for each of the file's, and 13 more (`outline-room`), so the room suffices.
+// A file isn't judged for its outline. The text has at most 8 bytes for each of the file's, and 13 more (`outline_room`), so the room suffices.
 pub fn outline(rt: HostRuntime, file: &[u8]) -> usize {
     if LONGEST < file.len() {
         return too_long(rt);

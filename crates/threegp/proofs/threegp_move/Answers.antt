@@ -1,0 +1,5 @@
+use Rattle.threegp.proofs.Packing.{for_c}
+use Rattle.threegp.proofs.threegp_move.Goals as goal
+
+pub returns : goal.returns
+returns c = for_c c.pack.ensures c.move_moov.ensures

@@ -1,0 +1,5 @@
+use Rattle.threegp.proofs.Packing.{for_c}
+use Rattle.threegp.proofs.threegp_replace.Goals as goal
+
+pub returns : goal.returns
+returns c = for_c c.pack.ensures c.replace.ensures
