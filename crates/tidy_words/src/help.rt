@@ -49,7 +49,39 @@ fn put_all(rt: HostRuntime, to: To) -> usize {
     put_others(rt, to)
 }
 
-// More on the first six words.
+// More on the words that change a file.
+fn put_changes(rt: HostRuntime, to: To, number: usize) -> usize {
+    match number {
+        word::SHIFT => print(
+            rt,
+            to,
+            b"\
+            tidy shift MINUTES FILE OUT\n\
+            Takes 60 times MINUTES, -840 to 840, from each creation and modification time that isn't 0.\n\
+            Says what the file's modification time was and is.\n",
+        ),
+        word::MOVE => print(
+            rt,
+            to,
+            b"tidy move FILE OUT\nPuts moov right after ftyp; all else keeps its order.\n",
+        ),
+        word::RECORD => print(
+            rt,
+            to,
+            b"\
+            tidy record N FILE\n\
+            tidy record N FIELD=VALUE... FILE OUT\n\
+            Entry N is counted from 1, as list does. It is a samr, sawb or s263.\n\
+            Fields of a samr and a sawb: vendor, version, modes, period, frames.\n\
+            Frames are 1 to 15, and 1 to 255 in a file that lists the brand 3gp4 and none of 3gp5, 3gp6 and 3gr6.\n\
+            Fields of an s263: vendor, version, level, profile, rates (none, or an average, a comma and a maximum).\n\
+            Numbers are decimal, or hexadecimal behind 0x.\n",
+        ),
+        _ => UNKNOWN,
+    }
+}
+
+// More on the words that look at a file, or on one that changes it.
 fn put_first(rt: HostRuntime, to: To, number: usize) -> usize {
     match number {
         word::LIST => print(
@@ -83,32 +115,7 @@ fn put_first(rt: HostRuntime, to: To, number: usize) -> usize {
             a frame of a mode that its description doesn't allow: record shows the modes.\n\
             The exit status is 1 where a sample fails, too.\n",
         ),
-        word::SHIFT => print(
-            rt,
-            to,
-            b"\
-            tidy shift MINUTES FILE OUT\n\
-            Takes 60 times MINUTES, -840 to 840, from each creation and modification time that isn't 0.\n\
-            Says what the file's modification time was and is.\n",
-        ),
-        word::MOVE => print(
-            rt,
-            to,
-            b"tidy move FILE OUT\nPuts moov right after ftyp; all else keeps its order.\n",
-        ),
-        word::RECORD => print(
-            rt,
-            to,
-            b"\
-            tidy record N FILE\n\
-            tidy record N FIELD=VALUE... FILE OUT\n\
-            Entry N is counted from 1, as list does. It is a samr, sawb or s263.\n\
-            Fields of a samr and a sawb: vendor, version, modes, period, frames.\n\
-            Frames are 1 to 15, and 1 to 255 in a file that lists the brand 3gp4 and none of 3gp5, 3gp6 and 3gr6.\n\
-            Fields of an s263: vendor, version, level, profile, rates (none, or an average, a comma and a maximum).\n\
-            Numbers are decimal, or hexadecimal behind 0x.\n",
-        ),
-        _ => UNKNOWN,
+        _ => put_changes(rt, to, number),
     }
 }
 
