@@ -25,7 +25,6 @@ use Rattle.promises.specs.Runs.{Lent, AllGiven}
 use Rattle.promises.specs.Demand.{Demand}
 use Rattle.promises.proofs.Runs.{demand}
 use Rattle.promises.proofs.OneAnswer.{One, one}
-use Rattle.promise_kept.specs.Samples.{samples}
 use Rattle.promise_amr.specs.Made.{FromDump}
 use Rattle.promise_amr.proofs.Made.{made}
 

@@ -18,7 +18,7 @@ use Rattle.sample_walk.specs.Samples.{join_to, samples_at}
 use Rattle.mdat.specs.Samples.{samples_of}
 use Rattle.mdat.proofs.Keeping.{file_samples_kept}
 use Rattle.movie.specs.Ways.{follow}
-use Rattle.movie.specs.Movie.{movie, tracks, track, sample_table}
+use Rattle.movie.specs.Movie.{tracks, track, sample_table}
 use Rattle.rule_tracks.proofs.Kept.{same_table}
 use Rattle.release.specs.Releases.{release_of}
 use Rattle.judge.specs.Acceptance.{Meets}

@@ -5,7 +5,7 @@ use mathlib.Core.Path.{◌≡◌, refl, ap}
 use mathlib.Core.List.{List, [], ◌∷◌, ◌++◌}
 use lib.ListN.{length}
 use Rattle.boxes.specs.Box.{Box, size, header}
-use Rattle.boxes.specs.Seek.{ANY, count, nth}
+use Rattle.boxes.specs.Seek.{ANY, count}
 use Rattle.boxes.proofs.Meaning.{meant_any}
 use Rattle.movie.specs.Entries.{Entry, entries_from}
 use Rattle.movie.specs.Named.{bytes_at}

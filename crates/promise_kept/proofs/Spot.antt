@@ -1,13 +1,13 @@
 -- The entry of a number is a box of its track's `stsd`. Assumes nothing.
 use Prim.Native.Nat.{ℕ, ◌+◌, ◌-◌, ◌≤◌, ◌<◌}
 use native.Mathlib.Omega.{arith}
-use mathlib.Core.Path.{◌≡◌, refl, sym, ap, ◌∙◌}
+use mathlib.Core.Path.{◌≡◌, refl, ◌∙◌}
 use mathlib.Core.List.{List, ◌∷◌}
 use lib.ListN.{length, drop}
 use Rattle.wire.proofs.Tests.{lt_yea, lt_nay, lt_or}
 use Rattle.boxes.specs.Boxes.{FRONT, boxes}
 use Rattle.movie.specs.declared.entry.Spot.TheVariants.{In}
-use Rattle.movie.specs.Movie.{tracks, track}
+use Rattle.movie.specs.Movie.{track}
 use Rattle.movie.specs.Stsds.{Stsd, stsds}
 use Rattle.movie.specs.Entries.{entries_of, entries_in, entries}
 use Rattle.movie.specs.Named.{list_in, spot_in, bytes_at}

@@ -1,8 +1,8 @@
 -- Payload j of a list of boxes is that of its `mdat` j, and a place in it is counted from that one's start. Assumes nothing.
-use Prim.Native.Nat.{ℕ, suc, ◌+◌, ◌<◌}
+use Prim.Native.Nat.{ℕ, ◌+◌, ◌<◌}
 use native.Mathlib.Omega.{arith}
-use mathlib.Core.Path.{◌≡◌, refl, sym, ap, ◌∙◌}
-use mathlib.Core.List.{List, [], ◌∷◌}
+use mathlib.Core.Path.{◌≡◌, sym, ap, ◌∙◌}
+use mathlib.Core.List.{List, []}
 use lib.ListN.{length, get_or}
 use Rattle.codes.specs.Codes.{MDAT}
 use Rattle.boxes.specs.Box.{Box, head}
@@ -11,7 +11,7 @@ use Rattle.boxes.proofs.Meaning.{meant_yes, meant_is, count_hit, count_miss, nth
 use Rattle.boxes.proofs.Numbered.{by_number}
 use Rattle.mdat.specs.Payloads.{mdats, place_of}
 use Rattle.mdat.proofs.Payloads.{mdats_hit, place_hit as payload_hit}
-use Rattle.mdat.proofs.Behind.{Behind, behind_hit, behind_miss}
+use Rattle.mdat.proofs.Behind.{behind_hit, behind_miss}
 
 pub record Payload (j : ℕ) (l : List Box) : Type 0 where
   pub which : j < count MDAT l
