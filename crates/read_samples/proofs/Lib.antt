@@ -3,3 +3,4 @@ pub mod Standing
 pub mod Turns
 pub mod Numbers
 pub mod Counting
+pub mod Holder

@@ -8,7 +8,7 @@ use crate::stand::{Next, Stand};
 use sample_walk::walk::Sample;
 
 // A file, and where a walk by sample stands in it.
-#[derive(Drop)]
+#[derive(Clone, Copy)]
 pub struct Samples<'a> {
     pub file: &'a [u8],
     pub at: Stand,
