@@ -12,6 +12,13 @@ start() {
     trap '' PIPE
     # A library that is preloaded belongs to another C library.
     unset LD_PRELOAD
+    # An emulator that can't run the loader ends as it likes; it counts as a program that couldn't start.
+    if [ -n "$emulator" ]; then
+        case $("$emulator" "$folder/ld-linux-x86-64.so.2" --version </dev/null) in
+        'ld.so '*) ;;
+        *) exit 2 ;;
+        esac
+    fi
     # The program ends with 0 done, 1 refused, or 2 wrong use, input or output; a program that couldn't start or was stopped counts as 2.
     status=0
     ${emulator:+"$emulator"} "$folder/ld-linux-x86-64.so.2" --library-path "$folder" "$@" || status=$?

@@ -6,7 +6,13 @@ use std::str;
 // What Linux calls a name that isn't text: EILSEQ.
 const NO_TEXT: i32 = 84;
 
+// And what it calls one that is longer than any name of a file: ENAMETOOLONG.
+const TOO_LONG: i32 = 36;
+
 fn path(name: &[u8]) -> Result<&str> {
+    if 4095 < name.len() {
+        return Err(Error::from_raw_os_error(TOO_LONG));
+    }
     match str::from_utf8(name) {
         Ok(path) => Ok(path),
         Err(_) => Err(Error::from_raw_os_error(NO_TEXT)),
