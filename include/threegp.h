@@ -34,8 +34,8 @@
    file's end; inside `stsd`, `dref` and entries only the 8-byte header is read. An edit keeps the form of every header, but
    writes its true size into a `moov` of size 0.
 
-   The library needs three symbols of the C library, memcpy, memmove and memset, and no heap. Stack is the most bytes that a call took when it was measured
-   (docs/PERFORMANCE.md says on which files), and no bound; some 16,400 of it are touched only where a file has more than 16 boxes
+   The library needs three symbols of the C library, memcpy, memmove and memset, and no heap. Stack is the most bytes that a call took when it was measured,
+   with an older kit (docs/PERFORMANCE.md says on which files), and no bound; some 16,400 of it are touched only where a file has more than 16 boxes
    at its top. */
 #ifndef THREEGP_H
 #define THREEGP_H
