@@ -2,70 +2,50 @@
 #![tactic(auto)]
 
 use rule::Answer;
-use std::fs::File;
-use std::io::Read;
 use std::process::ExitCode;
-use tidy_files::{input, name};
-use tidy_words::tell::To;
+use tidy_files::input;
+use tidy_words::tell::{Failure, Outcome, To};
 use tidy_words::{argument, tell};
 use wire::lend;
 
 // The longest file that this program reads.
 const ROOM: usize = 65536;
 
-fn print(rt: HostRuntime, text: &[u8]) -> usize {
+fn print(rt: HostRuntime, text: &[u8]) -> Outcome {
     tell::print(rt, To::Output, text)
 }
 
-fn list(rt: HostRuntime, file: &[u8]) -> usize {
-    let mut text = [0u8; listing::ROOM];
-    match listing::listing(file, &mut text) {
-        Answer::Done(n) => print(rt, lend::front(&text, n)),
-        Answer::Refused(_, _) => no_room(rt),
-    }
-}
-
-fn no_room(rt: HostRuntime) -> usize {
+fn no_room(rt: HostRuntime) -> Failure {
     tell::say(rt, b"no room for the listing\n");
-    tell::FAILED
+    Failure::Failed
 }
 
-// One byte more than the room tells a longer file.
-fn list_input<R: Read>(rt: HostRuntime, input: &mut R, name: &[u8]) -> usize {
-    let mut buffer = [0u8; 65537];
-    match input::read_all(input, &mut buffer) {
-        Ok(n) => list_read(rt, lend::front(&buffer, n)),
-        Err(error) => tell::failed(rt, name, error),
-    }
-}
-
-fn list_read(rt: HostRuntime, file: &[u8]) -> usize {
+fn list(rt: HostRuntime, file: &[u8]) -> Outcome {
     if ROOM < file.len() {
         return print(rt, b"too long here\n");
     }
-    list(rt, file)
-}
-
-fn list_named(rt: HostRuntime, path: &[u8]) -> usize {
-    match name::open(rt, path) {
-        Ok(mut file) => list_input(rt, &mut file, path),
-        Err(error) => tell::failed(rt, path, error),
+    let mut text = [0u8; listing::ROOM];
+    match listing::listing(file, &mut text) {
+        Answer::Done(n) => print(rt, lend::front(&text, n)),
+        Answer::Refused(_, _) => Err(no_room(rt)),
     }
 }
 
-fn list_argument(rt: HostRuntime) -> usize {
+// One byte more than the room tells a longer file.
+fn list_argument(rt: HostRuntime) -> Outcome {
+    let mut buffer = [0u8; ROOM + 1];
     if argument::count(rt) < 2 {
-        return list_input(rt, &mut rt.stdin(), b"standard input");
+        return list(rt, input::read_standard(rt, &mut buffer)?);
     }
     let mut path = argument::room();
-    let n = argument::fetch(rt, 1, &mut path);
-    list_named(rt, &path[..n])
+    let path = argument::fetch(rt, 1, &mut path);
+    list(rt, input::read_named(rt, path, &mut buffer)?)
 }
 
 // How it went: 0 printed, 2 wrong input or output.
 fn main(rt: HostRuntime) -> ExitCode {
-    if list_argument(rt) == tell::DONE {
-        return ExitCode::SUCCESS;
+    match list_argument(rt) {
+        Ok(()) => ExitCode::SUCCESS,
+        Err(failure) => failure.into(),
     }
-    ExitCode::from(2)
 }

@@ -1,142 +1,93 @@
 // The first argument, and the arguments that its word takes.
+use crate::compare;
+use crate::compare::Clocked;
 use crate::job::Job;
-use crate::{compare, job};
 use frames::codec::Codec;
 use tidy_edits::edit::Edit;
-use tidy_numbers::{minutes, parse};
-use tidy_words::{argument, help, tell, word};
-use wire::compare::same;
+use tidy_numbers::parse;
+use tidy_words::tell::{Failure, Outcome};
+use tidy_words::word::Word;
+use tidy_words::{argument, help};
 
 // A job on the file that argument i names; argument j names what it makes.
-fn with_files(rt: HostRuntime, job: Job, i: usize, j: usize) -> usize {
+fn with_files(rt: HostRuntime, job: Job, i: usize, j: usize) -> Outcome {
     let mut from = argument::room();
-    let n = argument::fetch(rt, i, &mut from);
+    let from = argument::fetch(rt, i, &mut from);
     let mut to = argument::room();
-    let m = argument::fetch(rt, j, &mut to);
-    job::run(rt, job, &from[..n], &to[..m])
+    let to = argument::fetch(rt, j, &mut to);
+    job.run(rt, from, to)
 }
 
-fn shift(rt: HostRuntime) -> usize {
-    let z = minutes::argument(rt, 2);
-    if z.fault != parse::NOTHING {
-        return tell::FAILED;
-    }
-    with_files(rt, Job::Make(Edit::Shift(z.value)), 3, 4)
-}
-
-fn modes(rt: HostRuntime) -> usize {
-    let track = parse::argument(rt, 2);
-    if track.fault != parse::NOTHING {
-        return tell::FAILED;
-    }
-    with_files(rt, Job::Modes(track.value as usize), 3, 4)
-}
-
-fn table(rt: HostRuntime) -> usize {
-    let track = parse::argument(rt, 2);
-    if track.fault != parse::NOTHING {
-        return tell::FAILED;
-    }
-    with_files(rt, Job::Table(track.value as usize), 3, 4)
-}
-
-// The changes stand before the last two arguments.
-fn record(rt: HostRuntime, count: usize) -> usize {
-    let i = parse::argument(rt, 2);
-    if i.fault != parse::NOTHING {
-        return tell::FAILED;
-    }
-    let entry = i.value as usize;
-    if count < 6 {
-        return with_files(rt, Job::Record(entry), 3, 4);
-    }
-    let end = count - 2;
-    with_files(rt, Job::Change { entry, end }, end, count - 1)
+// The number of a track or of an entry.
+fn number(rt: HostRuntime) -> Result<usize, Failure> {
+    let n: u64 = parse::argument(rt, 2)?;
+    Ok(n as usize)
 }
 
 // The file doesn't say which codec its frames are of.
-fn salvage(rt: HostRuntime, word: &[u8]) -> usize {
+fn salvage(rt: HostRuntime) -> Outcome {
     let mut name = argument::room();
-    let n = argument::fetch(rt, 2, &mut name);
-    if same(&name[..n], b"amr") == 1 {
-        return with_files(rt, Job::Salvage(Codec::Amr), 3, 4);
-    }
-    if same(&name[..n], b"wideband") == 1 {
-        return with_files(rt, Job::Salvage(Codec::Wideband), 3, 4);
-    }
-    help::wrong(rt, word)
+    let codec = match argument::fetch(rt, 2, &mut name) {
+        b"amr" => Codec::Amr,
+        b"wideband" => Codec::Wideband,
+        _ => return Err(help::misused(rt, Word::Salvage)),
+    };
+    with_files(rt, Job::Salvage(codec), 3, 4)
 }
 
-fn newer(rt: HostRuntime) -> usize {
-    let y = minutes::argument(rt, 3);
-    if y.fault != parse::NOTHING {
-        return tell::FAILED;
-    }
-    let z = minutes::argument(rt, 5);
-    if z.fault != parse::NOTHING {
-        return tell::FAILED;
-    }
+fn newer(rt: HostRuntime) -> Outcome {
+    let y = parse::argument(rt, 3)?;
+    let z = parse::argument(rt, 5)?;
     let mut first = argument::room();
-    let n = argument::fetch(rt, 2, &mut first);
+    let first = Clocked {
+        file: argument::fetch(rt, 2, &mut first),
+        minutes: y,
+    };
     let mut second = argument::room();
-    let m = argument::fetch(rt, 4, &mut second);
-    compare::run(rt, &first[..n], y.value, &second[..m], z.value)
+    let second = Clocked {
+        file: argument::fetch(rt, 4, &mut second),
+        minutes: z,
+    };
+    compare::run(rt, first, second)
 }
 
-fn help(rt: HostRuntime) -> usize {
+fn help(rt: HostRuntime) -> Outcome {
     let mut word = argument::room();
-    let n = argument::fetch(rt, 2, &mut word);
-    help::on(rt, &word[..n])
+    help::on(rt, argument::fetch(rt, 2, &mut word))
 }
 
-// The words with two arguments or fewer.
-fn by_short(rt: HostRuntime, word: &[u8], number: usize, count: usize) -> usize {
-    if number == word::LIST && count == 3 {
-        return with_files(rt, Job::List, 2, 3);
+// The changes of a record stand before the last two arguments.
+fn by_word(rt: HostRuntime, word: Word, count: usize) -> Outcome {
+    match (word, count) {
+        (Word::List, 3) => with_files(rt, Job::List, 2, 3),
+        (Word::Outline, 3) => with_files(rt, Job::Outline, 2, 3),
+        (Word::Modes, 4) => with_files(rt, Job::Modes(number(rt)?), 3, 4),
+        (Word::Shift, 5) => {
+            let minutes = parse::argument(rt, 2)?;
+            with_files(rt, Job::Make(Edit::Shift(minutes)), 3, 4)
+        }
+        (Word::Move, 4) => with_files(rt, Job::Make(Edit::Move), 2, 3),
+        (Word::Record, 4) => with_files(rt, Job::Record(number(rt)?), 3, 4),
+        (Word::Record, 6..) => {
+            let entry = number(rt)?;
+            let end = count - 2;
+            with_files(rt, Job::Change { entry, end }, end, count - 1)
+        }
+        (Word::Newer, 6) => newer(rt),
+        (Word::Sheet, 4) => with_files(rt, Job::Make(Edit::Sheet), 2, 3),
+        (Word::Table, 5) => with_files(rt, Job::Table(number(rt)?), 3, 4),
+        (Word::Amr, 4) => with_files(rt, Job::Dump, 2, 3),
+        (Word::Salvage, 5) => salvage(rt),
+        (Word::Help, ..=3) => help(rt),
+        _ => Err(help::misused(rt, word)),
     }
-    if number == word::OUTLINE && count == 3 {
-        return with_files(rt, Job::Outline, 2, 3);
-    }
-    if number == word::MODES && count == 4 {
-        return modes(rt);
-    }
-    if number == word::MOVE && count == 4 {
-        return with_files(rt, Job::Make(Edit::Move), 2, 3);
-    }
-    if number == word::SHEET && count == 4 {
-        return with_files(rt, Job::Make(Edit::Sheet), 2, 3);
-    }
-    if number == word::AMR && count == 4 {
-        return with_files(rt, Job::Dump, 2, 3);
-    }
-    if number == word::HELP && count <= 3 {
-        return help(rt);
-    }
-    help::wrong(rt, word)
 }
 
-fn by_word(rt: HostRuntime, word: &[u8], count: usize) -> usize {
-    let number = word::number(word);
-    if number == word::SHIFT && count == 5 {
-        return shift(rt);
+pub fn run(rt: HostRuntime) -> Outcome {
+    let mut room = argument::room();
+    let text = argument::fetch(rt, 1, &mut room);
+    match Word::try_from(text) {
+        Ok(word) => by_word(rt, word, argument::count(rt)),
+        Err(_) => Err(help::unknown(rt, text)),
     }
-    if number == word::TABLE && count == 5 {
-        return table(rt);
-    }
-    if number == word::SALVAGE && count == 5 {
-        return salvage(rt, word);
-    }
-    if number == word::NEWER && count == 6 {
-        return newer(rt);
-    }
-    if number == word::RECORD && 4 <= count && count != 5 {
-        return record(rt, count);
-    }
-    by_short(rt, word, number, count)
-}
-
-pub fn run(rt: HostRuntime) -> usize {
-    let mut word = argument::room();
-    let n = argument::fetch(rt, 1, &mut word);
-    by_word(rt, &word[..n], argument::count(rt))
 }

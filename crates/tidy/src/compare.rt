@@ -1,106 +1,109 @@
 // The word `newer`: which of two files is newer.
-ghost use Rattle.std.specs.Prelude.{◌<◌, ◌^◌};
-
-use clocks::{Order, Zone, Zoned};
-use newer::Outcome;
+use clocks::{Order, Zoned};
+use newer::Outcome as Newest;
+use std::fmt;
+use std::fmt::{Display, Write};
 use tidy_files::{input, time};
-use tidy_words::tell::To;
-use tidy_words::{line, tell};
-use wire::compare::same;
-use wire::lend;
+use tidy_words::line::{Dated, Time};
+use tidy_words::tell;
+use tidy_words::tell::{Failure, Outcome};
 
-// Most seconds that a clock is ahead or behind.
-const FURTHEST: usize = 50400;
-
-// A time less its zone. A stored 0 is no time, whatever the zone makes of it.
-fn put_less(out: &mut [u8], at: usize, time: usize, zone: Zone) -> usize
-    requires { time < 2 ^ 32 }
-{
-    let ahead = zone.ahead;
-    let behind = zone.behind;
-    if FURTHEST < behind {
-        return at;
-    }
-    let there = time + behind;
-    if there < ahead {
-        let a = line::add(out, at, b"-");
-        let b = line::add_number(out, a, ahead - there);
-        return line::add_date(out, b, 0);
-    }
-    let a = line::add_number(out, at, there - ahead);
-    if time == 0 {
-        return line::add_date(out, a, 0);
-    }
-    line::add_date(out, a, there - ahead)
+// A file, first its name and then its bytes, and how many minutes its clock is ahead of universal time.
+#[derive(Clone, Copy)]
+pub struct Clocked<'a> {
+    pub file: &'a [u8],
+    pub minutes: i64,
 }
 
-// A file's time in universal time.
-fn put_time(out: &mut [u8], at: usize, file: &[u8], minutes: i64) -> usize {
-    match clocks::zone_of(minutes) {
-        Zoned::Seconds(zone) => put_less(out, at, time::of(file), zone),
-        Zoned::NoZone => at,
+// A time of a clock in universal time. A stored 0 is no time, whatever the zone makes of it.
+#[derive(Clone, Copy)]
+struct Universal {
+    time: usize,
+    minutes: i64,
+}
+
+impl Display for Universal {
+    fn fmt<W: Write>(&self, f: &mut fmt::Formatter<W>) -> fmt::Result {
+        let Zoned::Seconds(zone) = clocks::zone_of(self.minutes) else {
+            return Ok(());
+        };
+        let there = self.time.saturating_add(zone.behind);
+        if there < zone.ahead {
+            let before = zone.ahead - there;
+            let none = Dated(0);
+            return write!(f, "-{before} ({none})");
+        }
+        let seconds = there - zone.ahead;
+        if self.time == 0 {
+            let none = Dated(0);
+            return write!(f, "{seconds} ({none})");
+        }
+        let time = Time(seconds);
+        write!(f, "{time}")
     }
 }
 
-fn put_order(out: &mut [u8], order: Order) -> usize {
+impl Clocked<'_> {
+    fn universal(self) -> Universal {
+        Universal {
+            time: time::of(self.file),
+            minutes: self.minutes,
+        }
+    }
+}
+
+fn words_of(order: Order) -> &'static str {
     match order {
-        Order::Earlier => line::add(out, 0, b"the second file is newer: first "),
-        Order::Same => line::add(out, 0, b"neither file is newer: first "),
-        Order::Later => line::add(out, 0, b"the first file is newer: first "),
+        Order::Earlier => "the second file is newer",
+        Order::Same => "neither file is newer",
+        Order::Later => "the first file is newer",
     }
 }
 
-fn say(rt: HostRuntime, order: Order, first: &[u8], y: i64, second: &[u8], z: i64) -> usize {
-    let mut text = [0u8; 512];
-    let a = put_order(&mut text, order);
-    let b = put_time(&mut text, a, first, y);
-    let c = line::add(&mut text, b, b", second ");
-    let d = put_time(&mut text, c, second, z);
-    let e = line::add(&mut text, d, b" in universal time\n");
-    tell::print(rt, To::Output, lend::front(&text, e))
+fn say(rt: HostRuntime, order: Order, first: Clocked<'_>, second: Clocked<'_>) -> Outcome {
+    let order = words_of(order);
+    let first = first.universal();
+    let second = second.universal();
+    tell::print_line(
+        rt,
+        format_args!("{order}: first {first}, second {second} in universal time\n"),
+    )
 }
 
 // A refusal, and which file it is about.
-fn refuse(rt: HostRuntime, file: usize, number: usize, place: usize) -> usize {
-    if file == 1 {
-        tell::say(rt, b"first file ");
-    }
-    if file == 2 {
-        tell::say(rt, b"second file ");
+fn refuse(rt: HostRuntime, file: usize, number: usize, place: usize) -> Failure {
+    match file {
+        1 => tell::say(rt, b"first file "),
+        2 => tell::say(rt, b"second file "),
+        _ => {}
     }
     tell::refused(rt, number, place)
 }
 
 // Every accepted file has an entry 1.
-fn compare(rt: HostRuntime, first: &[u8], y: i64, second: &[u8], z: i64) -> usize {
-    match newer::newest(first, y, second, z, 1) {
-        Outcome::Found(part) => {
-            let order = part.order;
-            say(rt, order, first, y, second, z)
-        }
-        Outcome::Refused {
+fn compare(rt: HostRuntime, first: Clocked<'_>, second: Clocked<'_>) -> Outcome {
+    match newer::newest(first.file, first.minutes, second.file, second.minutes, 1) {
+        Newest::Found(part) => say(rt, part.order, first, second),
+        Newest::Refused {
             file,
             number,
             place,
-        } => refuse(rt, file, number, place),
+        } => Err(refuse(rt, file, number, place)),
     }
 }
 
-fn with_second(rt: HostRuntime, first: &[u8], y: i64, name: &[u8], z: i64) -> usize {
+// The first file is read.
+fn with_second(rt: HostRuntime, first: Clocked<'_>, second: Clocked<'_>) -> Outcome {
     let mut room = input::room();
-    let Some(n) = input::read(rt, name, &mut room) else {
-        return tell::FAILED;
-    };
-    compare(rt, first, y, lend::front(&room, n), z)
+    let file = input::read(rt, second.file, &mut room)?;
+    compare(rt, first, Clocked { file, ..second })
 }
 
-pub fn run(rt: HostRuntime, first: &[u8], y: i64, second: &[u8], z: i64) -> usize {
-    if same(first, b"-") == 1 && same(second, b"-") == 1 {
-        return tell::wrong(rt, b"only one of the files is standard input", b"");
+pub fn run(rt: HostRuntime, first: Clocked<'_>, second: Clocked<'_>) -> Outcome {
+    if matches!((first.file, second.file), (b"-", b"-")) {
+        return Err(tell::wrong(rt, "only one of the files is standard input", b""));
     }
     let mut room = input::room();
-    let Some(n) = input::read(rt, first, &mut room) else {
-        return tell::FAILED;
-    };
-    with_second(rt, lend::front(&room, n), y, second, z)
+    let file = input::read(rt, first.file, &mut room)?;
+    with_second(rt, Clocked { file, ..first }, second)
 }

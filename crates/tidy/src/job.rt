@@ -2,10 +2,10 @@
 use crate::{list, speech};
 use frames::codec::Codec;
 use tidy_edits::edit::Edit;
-use tidy_edits::{edit, record, rescue};
+use tidy_edits::{record, rescue};
 use tidy_files::input;
 use tidy_words::tell;
-use wire::lend;
+use tidy_words::tell::Outcome;
 
 // A record is that of an entry; its changes are the arguments from 3 to an end.
 #[derive(Clone, Copy)]
@@ -21,40 +21,38 @@ pub enum Job {
     Change { entry: usize, end: usize },
 }
 
-// A sheet that was not read whole isn't judged.
-fn table(rt: HostRuntime, track: usize, from: &[u8], sheet: &[u8], to: &[u8]) -> usize {
-    if input::ROOM <= sheet.len() {
-        return tell::wrong(rt, b"longer than any sheet: ", from);
-    }
-    edit::run(rt, Edit::Table(track), sheet, to)
+// What was not read whole isn't judged.
+fn is_whole(file: &[u8]) -> bool {
+    file.len() < input::ROOM
 }
 
-// Nor is such a dump, which is too long for any file.
-fn dump(rt: HostRuntime, from: &[u8], dump: &[u8], to: &[u8]) -> usize {
-    if input::ROOM <= dump.len() {
-        return tell::wrong(rt, b"longer than any dump that becomes a file: ", from);
+impl Job {
+    fn apply(self, rt: HostRuntime, from: &[u8], file: &[u8], to: &[u8]) -> Outcome {
+        match self {
+            Job::List => list::run(rt, file),
+            Job::Outline => list::outline(rt, file),
+            Job::Modes(track) => speech::run(rt, file, track),
+            Job::Make(edit) => edit.run(rt, file, to),
+            Job::Table(_) if !is_whole(file) => {
+                Err(tell::wrong(rt, "longer than any sheet: ", from))
+            }
+            Job::Table(track) => Edit::Table(track).run(rt, file, to),
+            Job::Dump if !is_whole(file) => Err(tell::wrong(
+                rt,
+                "longer than any dump that becomes a file: ",
+                from,
+            )),
+            Job::Dump => Edit::FromAmr.run(rt, file, to),
+            Job::Salvage(codec) => rescue::run(rt, codec, file, to),
+            Job::Record(i) => record::show(rt, file, i),
+            Job::Change { entry, end } => record::change(rt, file, entry, end, to),
+        }
     }
-    edit::run(rt, Edit::FromAmr, dump, to)
-}
 
-fn apply(rt: HostRuntime, job: Job, from: &[u8], file: &[u8], to: &[u8]) -> usize {
-    match job {
-        Job::List => list::run(rt, file),
-        Job::Outline => list::outline(rt, file),
-        Job::Modes(track) => speech::run(rt, file, track),
-        Job::Make(edit) => edit::run(rt, edit, file, to),
-        Job::Table(track) => table(rt, track, from, file, to),
-        Job::Dump => dump(rt, from, file, to),
-        Job::Salvage(codec) => rescue::run(rt, codec, file, to),
-        Job::Record(i) => record::show(rt, file, i),
-        Job::Change { entry, end } => record::change(rt, file, entry, end, to),
+    // The job on the file of a name; another name is that of what it makes.
+    pub fn run(self, rt: HostRuntime, from: &[u8], to: &[u8]) -> Outcome {
+        let mut room = input::room();
+        let file = input::read(rt, from, &mut room)?;
+        self.apply(rt, from, file, to)
     }
-}
-
-pub fn run(rt: HostRuntime, job: Job, from: &[u8], to: &[u8]) -> usize {
-    let mut room = input::room();
-    let Some(n) = input::read(rt, from, &mut room) else {
-        return tell::FAILED;
-    };
-    apply(rt, job, from, lend::front(&room, n), to)
 }

@@ -1,47 +1,33 @@
 // The word `modes`: the first sample of a track whose frames aren't as its description says.
 use rule::Answer;
-use tidy_words::tell::To;
-use tidy_words::{line, tell};
-use wire::lend;
+use tidy_words::tell;
+use tidy_words::tell::{Failure, Outcome, To};
 
 // Why a sample fails, by the numbers of the library.
 const BAD_FRAME: u64 = 1;
 
 const WRONG_COUNT: u64 = 2;
 
-fn put_why(out: &mut [u8], at: usize, why: u64) -> usize {
+fn words_of(why: u64) -> &'static str {
     match why {
-        BAD_FRAME => line::add(out, at, b": a bad frame\n"),
-        WRONG_COUNT => line::add(out, at, b": a wrong count of frames\n"),
-        _ => line::add(
-            out,
-            at,
-            b": a frame of a mode that its description doesn't allow\n",
-        ),
+        BAD_FRAME => "a bad frame",
+        WRONG_COUNT => "a wrong count of frames",
+        _ => "a frame of a mode that its description doesn't allow",
     }
 }
 
 // A sample that fails is an answer, and no refusal of the library; the status is that of a refusal, so that a script can go by it.
-fn fails(rt: HostRuntime, number: u64, why: u64) -> usize {
-    let mut text = [0u8; 128];
-    let a = line::add(&mut text, 0, b"sample ");
-    let b = line::add_number(&mut text, a, number as usize);
-    let c = put_why(&mut text, b, why);
-    if tell::print(rt, To::Output, lend::front(&text, c)) != tell::DONE {
-        return tell::FAILED;
-    }
-    tell::REFUSED
+fn fails(rt: HostRuntime, number: u64, why: u64) -> Outcome {
+    let why = words_of(why);
+    tell::print_line(rt, format_args!("sample {number}: {why}\n"))?;
+    Err(Failure::Refused)
 }
 
-pub fn run(rt: HostRuntime, file: &[u8], track: usize) -> usize {
+pub fn run(rt: HostRuntime, file: &[u8], track: usize) -> Outcome {
     let mut found = [0u64; 2];
     match modes::modes(file, track, &mut found) {
-        Answer::Done(n) => {
-            if n == 0 {
-                return tell::print(rt, To::Output, b"every sample passes\n");
-            }
-            fails(rt, found[0], found[1])
-        }
-        Answer::Refused(number, place) => tell::refused(rt, number, place),
+        Answer::Done(0) => tell::print(rt, To::Output, b"every sample passes\n"),
+        Answer::Done(_) => fails(rt, found[0], found[1]),
+        Answer::Refused(number, place) => Err(tell::refused(rt, number, place)),
     }
 }

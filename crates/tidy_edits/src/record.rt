@@ -6,20 +6,22 @@ use movie::entry;
 use movie::entry::Named;
 use release::Release;
 use rule::Answer;
-use tidy_fields::{change, told};
-use tidy_files::{input, output};
+use tidy_fields::record::Record;
+use tidy_files::input;
+use tidy_files::output::Made;
 use tidy_words::tell;
+use tidy_words::tell::Outcome;
 use wire::lend;
 
 // In an accepted file, of its release, only an entry of another kind has no fields.
-fn read_part(entry: &[u8], release: Release, numbers: &mut [u64]) -> Answer {
-    match entry_fields::read(entry, release, numbers) {
+fn read_part(entry: &[u8], release: Release, record: &mut Record) -> Answer {
+    match entry_fields::read(entry, release, &mut record.numbers) {
         Answer::Done(n) => Answer::Done(n),
         Answer::Refused(_, _) => Answer::Refused(20, 0),
     }
 }
 
-fn read_accepted(file: &[u8], i: usize, numbers: &mut [u64]) -> Answer {
+fn read_accepted(file: &[u8], i: usize, record: &mut Record) -> Answer {
     if i == 0 {
         return Answer::Refused(20, 0);
     }
@@ -30,34 +32,39 @@ fn read_accepted(file: &[u8], i: usize, numbers: &mut [u64]) -> Answer {
         Named::At(e) => read_part(
             lend::front(lend::rest(file, e.place), e.span),
             release::of_file(file),
-            numbers,
+            record,
         ),
         Named::Missing => Answer::Refused(20, 0),
     }
 }
 
 // The numbers of the record of entry i, from 1: how many there are, or a refusal.
-fn read(file: &[u8], i: usize, numbers: &mut [u64]) -> Answer {
+fn read(file: &[u8], i: usize, record: &mut Record) -> Answer {
     match judge::judge(file) {
-        Judgement::Accepted => read_accepted(file, i, numbers),
+        Judgement::Accepted => read_accepted(file, i, record),
         Judgement::Refused(number, place) => Answer::Refused(number, place),
     }
 }
 
 // Tells the record of entry i, from 1.
-pub fn show(rt: HostRuntime, file: &[u8], i: usize) -> usize {
-    let mut numbers = [0u64; 11];
-    match read(file, i, &mut numbers) {
-        Answer::Done(_) => told::print(rt, &numbers),
-        Answer::Refused(number, place) => tell::refused(rt, number, place),
+pub fn show(rt: HostRuntime, file: &[u8], i: usize) -> Outcome {
+    let mut record = Record::new();
+    match read(file, i, &mut record) {
+        Answer::Done(_) => tell::print_line(rt, record),
+        Answer::Refused(number, place) => Err(tell::refused(rt, number, place)),
     }
 }
 
-fn replace(rt: HostRuntime, file: &[u8], i: usize, record: &[u8], to: &[u8]) -> usize {
+fn replace(rt: HostRuntime, file: &[u8], i: usize, record: &[u8], name: &[u8]) -> Outcome {
     let mut room = input::room();
     match edit_replace::replace(file, i, record, &mut room) {
-        Answer::Done(n) => output::write(rt, to, lend::front(&room, n), b""),
-        Answer::Refused(number, place) => tell::refused(rt, number, place),
+        Answer::Done(n) => Made {
+            name,
+            bytes: lend::front(&room, n),
+            said: "",
+        }
+        .write(rt),
+        Answer::Refused(number, place) => Err(tell::refused(rt, number, place)),
     }
 }
 
@@ -66,40 +73,24 @@ fn record_of(entry: &[u8], kind: usize) -> &[u8] {
     lend::rest(entry, head::size(kind))
 }
 
-// The first n numbers, or all where there are fewer.
-fn first(numbers: &[u64; 11], n: usize) -> &[u64] {
-    let all: &[u64] = numbers;
-    if n <= all.len() {
-        return &all[0..n];
-    }
-    all
-}
-
 // The file with the record of these numbers, of its release.
-fn make(rt: HostRuntime, file: &[u8], i: usize, numbers: &[u64; 11], n: usize, to: &[u8]) -> usize {
+fn make(rt: HostRuntime, file: &[u8], i: usize, numbers: &[u64], to: &[u8]) -> Outcome {
     let mut entry = [0u8; 128];
-    match entry_fields::write(first(numbers, n), release::of_file(file), &mut entry) {
-        Answer::Done(m) => replace(
-            rt,
-            file,
-            i,
-            record_of(lend::front(&entry, m), numbers[0] as usize),
-            to,
-        ),
-        Answer::Refused(number, place) => tell::refused(rt, number, place),
+    let kind = numbers.first().copied().unwrap_or(0) as usize;
+    match entry_fields::write(numbers, release::of_file(file), &mut entry) {
+        Answer::Done(m) => replace(rt, file, i, record_of(lend::front(&entry, m), kind), to),
+        Answer::Refused(number, place) => Err(tell::refused(rt, number, place)),
     }
 }
 
 // Changes the record of entry i, from 1, as the arguments from 3 to an end say.
-pub fn change(rt: HostRuntime, file: &[u8], i: usize, end: usize, to: &[u8]) -> usize {
-    let mut numbers = [0u64; 11];
-    match read(file, i, &mut numbers) {
+pub fn change(rt: HostRuntime, file: &[u8], i: usize, end: usize, to: &[u8]) -> Outcome {
+    let mut record = Record::new();
+    match read(file, i, &mut record) {
         Answer::Done(n) => {
-            if change::change_all(rt, &mut numbers, end) == 0 {
-                return tell::FAILED;
-            }
-            make(rt, file, i, &numbers, n, to)
+            record.change_all(rt, end)?;
+            make(rt, file, i, record.first(n), to)
         }
-        Answer::Refused(number, place) => tell::refused(rt, number, place),
+        Answer::Refused(number, place) => Err(tell::refused(rt, number, place)),
     }
 }

@@ -1,123 +1,79 @@
-// New values for the fields of a record. Each function answers 1, or 0 where it is told why not.
-ghost use Rattle.std.specs.Prelude.{◌<◌};
-
+// New values for the fields of a record. Where there is none, it is told why.
 use crate::field;
-use entry_heads::kind;
+use crate::field::Kind;
+use crate::record::Record;
 use tidy_numbers::parse;
-use tidy_words::{argument, table, tell};
-use wire::compare::same;
-use wire::lend;
-
-const COMMA: usize = 44;
-
-const EQUALS: usize = 61;
-
-fn refuse(rt: HostRuntime, words: &[u8], what: &[u8]) -> usize {
-    tell::wrong(rt, words, what);
-    0
-}
+use tidy_words::tell::{Failure, Outcome};
+use tidy_words::{argument, tell};
 
 // Says that a field is not to be changed.
-fn refuse_field(rt: HostRuntime, name: &[u8]) -> usize {
-    if field::is_outside(name) == 1 {
-        return refuse(
+fn refuse_field(rt: HostRuntime, name: &[u8]) -> Failure {
+    if field::is_outside(name) {
+        return tell::wrong(
             rt,
-            b"not a field of the record, so it is not changed: ",
+            "not a field of the record, so it is not changed: ",
             name,
         );
     }
-    refuse(rt, b"no such field in this record: ", name)
+    tell::wrong(rt, "no such field in this record: ", name)
 }
 
-fn set(rt: HostRuntime, numbers: &mut [u64; 11], place: usize, text: &[u8]) -> usize
-    requires { place < 11 }
-{
-    let n = parse::told(rt, text);
-    if n.fault != parse::NOTHING {
-        return 0;
-    }
-    numbers[place] = n.value;
-    1
-}
-
-fn set_field(rt: HostRuntime, numbers: &mut [u64; 11], name: &[u8], text: &[u8]) -> usize {
-    let kind = numbers[0] as usize;
-    let place = field::find(kind, name);
-    if field::END <= place {
-        return refuse_field(rt, name);
-    }
-    if place < field::vendor(kind) {
-        return refuse_field(rt, name);
-    }
-    set(rt, numbers, place, text)
-}
-
-fn set_rates(
-    rt: HostRuntime,
-    numbers: &mut [u64; 11],
-    given: u64,
-    average: &[u8],
-    maximum: &[u8],
-) -> usize {
-    if set(rt, numbers, 9, average) == 0 {
-        return 0;
-    }
-    numbers[8] = given;
-    set(rt, numbers, 10, maximum)
+// The text before the first such byte, and the text after it.
+fn split_once(text: &[u8], byte: u8) -> Option<(&[u8], &[u8])> {
+    let n = text.iter().position(|&x| x == byte)?;
+    Some((&text[..n], &text[n + 1..]))
 }
 
 // No rates, or an average and a maximum.
-fn change_rates(rt: HostRuntime, numbers: &mut [u64; 11], text: &[u8]) -> usize {
-    if same(text, b"none") == 1 {
-        return set_rates(rt, numbers, 0, b"0", b"0");
+fn rates(rt: HostRuntime, text: &[u8]) -> Result<Option<(u64, u64)>, Failure> {
+    if text == b"none".as_slice() {
+        return Ok(None);
     }
-    let n = table::find_byte(text, COMMA);
-    if text.len() <= n {
-        return refuse(
+    let Some((average, maximum)) = split_once(text, b',') else {
+        return Err(tell::wrong(
             rt,
-            b"rates are none, or an average, a comma and a maximum: ",
+            "rates are none, or an average, a comma and a maximum: ",
             text,
-        );
-    }
-    set_rates(
-        rt,
-        numbers,
-        1,
-        lend::front(text, n),
-        lend::rest(text, n + 1),
-    )
+        ));
+    };
+    Ok(Some((parse::told(rt, average)?, parse::told(rt, maximum)?)))
 }
 
-fn change(rt: HostRuntime, numbers: &mut [u64; 11], name: &[u8], text: &[u8]) -> usize {
-    if numbers[0] as usize == kind::S263 {
-        if same(name, b"rates") == 1 {
-            return change_rates(rt, numbers, text);
+impl Record {
+    fn set_field(&mut self, rt: HostRuntime, name: &[u8], text: &[u8]) -> Outcome {
+        let Some(place) = self.kind().find_inside(name) else {
+            return Err(refuse_field(rt, name));
+        };
+        self.numbers[place] = parse::told(rt, text)?;
+        Ok(())
+    }
+
+    fn change(&mut self, rt: HostRuntime, name: &[u8], text: &[u8]) -> Outcome {
+        if self.kind() == Kind::S263 && name == b"rates".as_slice() {
+            self.set_rates(rates(rt, text)?);
+            return Ok(());
+        }
+        self.set_field(rt, name, text)
+    }
+
+    // FIELD=VALUE.
+    fn change_as(&mut self, rt: HostRuntime, text: &[u8]) -> Outcome {
+        match split_once(text, b'=') {
+            Some((name, value)) => self.change(rt, name, value),
+            None => Err(tell::wrong(rt, "not FIELD=VALUE: ", text)),
         }
     }
-    set_field(rt, numbers, name, text)
-}
 
-// FIELD=VALUE.
-fn change_as(rt: HostRuntime, numbers: &mut [u64; 11], text: &[u8]) -> usize {
-    let n = table::find_byte(text, EQUALS);
-    if text.len() <= n {
-        return refuse(rt, b"not FIELD=VALUE: ", text);
+    fn change_argument(&mut self, rt: HostRuntime, i: usize) -> Outcome {
+        let mut room = argument::room();
+        self.change_as(rt, argument::fetch(rt, i, &mut room))
     }
-    change(rt, numbers, lend::front(text, n), lend::rest(text, n + 1))
-}
 
-fn change_argument(rt: HostRuntime, numbers: &mut [u64; 11], i: usize) -> usize {
-    let mut text = argument::room();
-    let n = argument::fetch(rt, i, &mut text);
-    change_as(rt, numbers, &text[..n])
-}
-
-// The changes of all arguments from 3 to an end.
-pub fn change_all(rt: HostRuntime, numbers: &mut [u64; 11], end: usize) -> usize {
-    for i in 3..end {
-        if change_argument(rt, numbers, i) == 0 {
-            return 0;
+    // The changes of all arguments from 3 to an end.
+    pub fn change_all(&mut self, rt: HostRuntime, end: usize) -> Outcome {
+        for i in 3..end {
+            self.change_argument(rt, i)?;
         }
+        Ok(())
     }
-    1
 }

@@ -1,69 +1,111 @@
 // The names of the fields of a record, in the order of its numbers.
+ghost use Rattle.std.specs.Prelude.{◌<◌, IfSome};
+
 use entry_heads::kind;
-use tidy_words::{line, table};
-use wire::test;
+use std::fmt;
+use std::fmt::{Display, Write};
 
-// A table for a `samr` and a `sawb`, and one for an `s263`.
-const SPEECH: [u8; 80] =
-    *b"kind      reference scale     vendor    version   modes     period    frames    ";
+// The kind of entry that a record is of.
+#[derive(Clone, Copy, PartialEq, Eq, Debug)]
+pub enum Kind {
+    Samr,
+    Sawb,
+    S263,
+}
 
-const PICTURE: [u8; 80] =
-    *b"kind      reference width     height    vendor    version   level     profile   ";
+// How many fields have a name; the rates of pictures follow.
+const NAMED: usize = 8;
+
+// The names for a `samr` and a `sawb`, and for an `s263`.
+const SPEECH: [&str; NAMED] = [
+    "kind",
+    "reference",
+    "scale",
+    "vendor",
+    "version",
+    "modes",
+    "period",
+    "frames",
+];
+
+const PICTURE: [&str; NAMED] = [
+    "kind",
+    "reference",
+    "width",
+    "height",
+    "vendor",
+    "version",
+    "level",
+    "profile",
+];
 
 // The place of the modes, which only speech has.
 const MODES: usize = 5;
 
-// The place past the last field that has a name; the rates of pictures follow.
-pub const END: usize = 8;
-
-// The name of the field at a place.
-pub fn put_name(out: &mut [u8], at: usize, kind: usize, place: usize) -> usize {
-    if kind == kind::S263 {
-        return line::add(out, at, table::word(&PICTURE, place));
+impl Kind {
+    // No entry of another kind has a record that is told.
+    pub fn of(number: u64) -> Kind {
+        match number as usize {
+            kind::SAMR => Kind::Samr,
+            kind::SAWB => Kind::Sawb,
+            _ => Kind::S263,
+        }
     }
-    line::add(out, at, table::word(&SPEECH, place))
+
+    pub fn names(self) -> [&'static str; NAMED] {
+        match self {
+            Kind::Samr | Kind::Sawb => SPEECH,
+            Kind::S263 => PICTURE,
+        }
+    }
+
+    // The place of the vendor, the first field of the record itself.
+    fn vendor(self) -> usize {
+        match self {
+            Kind::Samr | Kind::Sawb => 3,
+            Kind::S263 => 4,
+        }
+    }
+
+    // Whether the field at a place is told in hexadecimal.
+    pub fn is_hex(self, place: usize) -> bool {
+        place == self.vendor() || (self != Kind::S263 && place == MODES)
+    }
+
+    // The place of the field of a name.
+    fn find(self, name: &[u8]) -> Option<usize>
+        ensures { IfSome result (λ place. place < 8) }
+    {
+        self.names()
+            .iter()
+            .position(|field| field.as_bytes() == name)
+    }
+
+    // The same, of the record itself alone.
+    pub fn find_inside(self, name: &[u8]) -> Option<usize>
+        ensures { IfSome result (λ place. place < 8) }
+    {
+        self.find(name).filter(|&place| self.vendor() <= place)
+    }
+
+    // Whether an entry of this kind has a field of this name outside its record.
+    fn has_outside(self, name: &[u8]) -> bool {
+        self.find(name)
+            .is_some_and(|place| place != 0 && place < self.vendor())
+    }
 }
 
-// The place of the field of a name, or the end and more.
-pub fn find(kind: usize, name: &[u8]) -> usize {
-    if kind == kind::S263 {
-        return table::find(&PICTURE, name);
+impl Display for Kind {
+    fn fmt<W: Write>(&self, f: &mut fmt::Formatter<W>) -> fmt::Result {
+        f.write_str(match self {
+            Kind::Samr => "samr",
+            Kind::Sawb => "sawb",
+            Kind::S263 => "s263",
+        })
     }
-    table::find(&SPEECH, name)
 }
 
-// The place of the vendor, the first field of the record itself.
-pub fn vendor(kind: usize) -> usize {
-    test::choose(kind, kind::S263, 4, 3)
-}
-
-// 1 where a field is told in hexadecimal, else 0.
-pub fn is_hex(kind: usize, place: usize) -> usize {
-    if place == vendor(kind) {
-        return 1;
-    }
-    if kind == kind::S263 {
-        return 0;
-    }
-    test::choose(place, MODES, 1, 0)
-}
-
-// 1 where a kind's entry has a field of this name outside its record, else 0.
-fn stands_outside(kind: usize, name: &[u8]) -> usize {
-    let place = find(kind, name);
-    if place == 0 {
-        return 0;
-    }
-    if place < vendor(kind) {
-        return 1;
-    }
-    0
-}
-
-// The same of any kind.
-pub fn is_outside(name: &[u8]) -> usize {
-    if stands_outside(kind::SAMR, name) == 1 {
-        return 1;
-    }
-    stands_outside(kind::S263, name)
+// Whether an entry of any kind has such a field.
+pub fn is_outside(name: &[u8]) -> bool {
+    Kind::Samr.has_outside(name) || Kind::S263.has_outside(name)
 }

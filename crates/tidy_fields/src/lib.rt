@@ -1,6 +1,7 @@
 // The fields of a record by their names, for the program `tidy`: told, and changed.
 #![tactic(auto)]
 
-pub mod change;
+mod change;
 mod field;
-pub mod told;
+pub mod record;
+mod told;

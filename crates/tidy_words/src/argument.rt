@@ -1,6 +1,4 @@
 // The arguments that a program is started with; argument 0 is its own name.
-ghost use Rattle.std.specs.Prelude.{◌≤◌, length};
-
 use std::env::{Env, FillError};
 
 // Room for any name of a file.
@@ -10,13 +8,11 @@ pub fn room() -> [u8; ROOM] {
     [0; ROOM]
 }
 
-// Puts argument i at the start of a room, and answers its length: 0 where it is missing or too long.
-pub fn fetch(rt: HostRuntime, i: usize, room: &mut [u8]) -> usize
-    ensures { result ≤ length room.new }
-{
+// Argument i, which the room takes: empty where it is missing or too long.
+pub fn fetch(rt: HostRuntime, i: usize, room: &mut [u8]) -> &[u8] {
     match rt.arg(i, room) {
-        Ok(n) => n,
-        Err(_) => 0,
+        Ok(n) => &room[..n],
+        Err(_) => &[],
     }
 }
 
@@ -26,10 +22,5 @@ fn is_missing(rt: HostRuntime, i: usize) -> bool {
 
 // How many arguments there are, the program's name among them.
 pub fn count(rt: HostRuntime) -> usize {
-    for i in 0..usize::MAX {
-        if is_missing(rt, i) {
-            return i;
-        }
-    }
-    usize::MAX
+    (0..usize::MAX).take_while(|&i| !is_missing(rt, i)).count()
 }

@@ -4,6 +4,5 @@
 pub mod argument;
 pub mod help;
 pub mod line;
-pub mod table;
 pub mod tell;
 pub mod word;

@@ -1,71 +1,59 @@
-// A line of text, piece by piece. Each answers the place past its piece.
-use decimal;
-use wire::pen;
+// A line of text, and how what stands in it is written.
+use arrayvec::ArrayString;
+use std::fmt::{Display, Write};
+use std::{fmt, str};
+use wire::lend;
 
-// No line is longer.
-const LONGEST: usize = 4096;
+// No line is longer, nor are the lines of a record.
+pub type Line = ArrayString<512>;
 
-// The last time that a file can hold.
-const LATEST: usize = 4294967295;
-
-pub fn add(out: &mut [u8], at: usize, text: &[u8]) -> usize {
-    if LONGEST < at {
-        return at;
-    }
-    if LONGEST < text.len() {
-        return at;
-    }
-    pen::put_part(out, at, text)
+// The text of a value. What there is no room for is missed where it is read.
+pub fn of<D: Display + Drop>(value: D) -> Line {
+    let mut line = Line::new();
+    let _ = write!(line, "{value}");
+    line
 }
 
-pub fn add_number(out: &mut [u8], at: usize, n: usize) -> usize {
-    if LONGEST < at {
-        return at;
+// A time in words. What no file can hold has no date here.
+#[derive(Clone, Copy)]
+pub struct Dated(pub usize);
+
+impl Display for Dated {
+    fn fmt<W: Write>(&self, f: &mut fmt::Formatter<W>) -> fmt::Result {
+        let Ok(time) = u32::try_from(self.0) else {
+            return write!(f, "past 2040-02-06 06:28:15");
+        };
+        let mut text = [0u8; 19];
+        let n = dates::put_time(&mut text, 0, time);
+        match str::from_utf8(lend::front(&text, n)) {
+            Ok(date) => f.write_str(date),
+            Err(_) => Err(fmt::Error),
+        }
     }
-    decimal::put_decimal(out, at, n)
 }
 
-// A time in words, in brackets. What no file can hold has no date here.
-pub fn add_date(out: &mut [u8], at: usize, time: usize) -> usize {
-    if LATEST < time {
-        return add(out, at, b" (past 2040-02-06 06:28:15)");
-    }
-    let a = add(out, at, b" (");
-    if LONGEST < a {
-        return a;
-    }
-    let b = dates::put_time(out, a, time as u32);
-    add(out, b, b")")
-}
+// A time as a number, and in words.
+#[derive(Clone, Copy)]
+pub struct Time(pub usize);
 
-// A label, and a time as a number and in words.
-pub fn add_time(out: &mut [u8], at: usize, label: &[u8], time: usize) -> usize {
-    let a = add(out, at, label);
-    let b = add_number(out, a, time);
-    add_date(out, b, time)
-}
-
-// The last four hexadecimal digits of a number.
-fn add_four(out: &mut [u8], at: usize, n: usize) -> usize {
-    if LONGEST < at {
-        return at;
+impl Display for Time {
+    fn fmt<W: Write>(&self, f: &mut fmt::Formatter<W>) -> fmt::Result {
+        let seconds = self.0;
+        let dated = Dated(seconds);
+        write!(f, "{seconds} ({dated})")
     }
-    let glyphs = b"0123456789ABCDEF";
-    let digits = [
-        glyphs[n / 4096 % 16],
-        glyphs[n / 256 % 16],
-        glyphs[n / 16 % 16],
-        glyphs[n % 16],
-    ];
-    pen::put_part(out, at, &digits)
 }
 
 // A number of 16 or 32 bits in hexadecimal.
-pub fn add_hex(out: &mut [u8], at: usize, n: usize) -> usize {
-    let a = add(out, at, b"0x");
-    if n < 65536 {
-        return add_four(out, a, n);
+#[derive(Clone, Copy)]
+pub struct Hex(pub u64);
+
+impl Display for Hex {
+    fn fmt<W: Write>(&self, f: &mut fmt::Formatter<W>) -> fmt::Result {
+        let n = self.0;
+        if n < 65536 {
+            return write!(f, "0x{n:04X}");
+        }
+        write!(f, "0x{n:08X}")
     }
-    let b = add_four(out, a, n / 65536);
-    add_four(out, b, n % 65536)
 }

@@ -1,46 +1,41 @@
-// The words that the first argument can be, by their numbers.
-use crate::table;
+// The words that the first argument can be.
+#[derive(Clone, Copy, PartialEq, Eq, Debug)]
+pub enum Word {
+    List,
+    Outline,
+    Modes,
+    Shift,
+    Move,
+    Record,
+    Newer,
+    Sheet,
+    Table,
+    Amr,
+    Salvage,
+    Help,
+}
 
-pub const LIST: usize = 0;
+#[derive(Clone, Copy, PartialEq, Eq, Debug)]
+pub struct NoSuchWord;
 
-pub const OUTLINE: usize = 1;
+impl TryFrom<&[u8]> for Word {
+    type Error = NoSuchWord;
 
-pub const MODES: usize = 2;
-
-pub const SHIFT: usize = 3;
-
-pub const MOVE: usize = 4;
-
-pub const RECORD: usize = 5;
-
-pub const NEWER: usize = 6;
-
-pub const SHEET: usize = 7;
-
-pub const TABLE: usize = 8;
-
-pub const AMR: usize = 9;
-
-pub const SALVAGE: usize = 10;
-
-pub const HELP: usize = 11;
-
-// The number of a word; that of none where there is no such word.
-pub fn number(text: &[u8]) -> usize {
-    table::find(
-        b"\
-        list      \
-        outline   \
-        modes     \
-        shift     \
-        move      \
-        record    \
-        newer     \
-        sheet     \
-        table     \
-        amr       \
-        salvage   \
-        help      ",
-        text,
-    )
+    fn try_from(text: &[u8]) -> Result<Word, NoSuchWord> {
+        match text {
+            b"list" => Ok(Word::List),
+            b"outline" => Ok(Word::Outline),
+            b"modes" => Ok(Word::Modes),
+            b"shift" => Ok(Word::Shift),
+            b"move" => Ok(Word::Move),
+            b"record" => Ok(Word::Record),
+            b"newer" => Ok(Word::Newer),
+            b"sheet" => Ok(Word::Sheet),
+            b"table" => Ok(Word::Table),
+            b"amr" => Ok(Word::Amr),
+            b"salvage" => Ok(Word::Salvage),
+            b"help" => Ok(Word::Help),
+            _ => Err(NoSuchWord),
+        }
+    }
 }
