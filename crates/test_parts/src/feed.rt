@@ -1,50 +1,36 @@
-// Files of cases, each behind its length, and the calls that they go to.
-use crate::{on_entries, on_records, on_tables, parts, print};
+// Files of cases, each behind its length, and what is shown of each.
+ghost use Rattle.std.specs.Prelude.{length};
+ghost use Rattle.std.specs.Iterator.{at_most};
+
+use crate::{parts, print};
 use std::fs;
 use std::io::Result;
-use wire::number;
 
-// What the cases of a file are for.
-pub const PARTS: usize = 0;
+// The cases of a file from a place on; one that is cut short is none.
+#[derive(Clone, Copy)]
+struct Cases<'a>(&'a [u8]);
 
-pub const ENTRIES: usize = 1;
+impl<'a> Iterator for Cases<'a> {
+    type Item = &'a [u8];
 
-pub const DECODERS: usize = 2;
+    ghost remaining = { λ s. at_most (length s.0.now) };
 
-pub const TABLES: usize = 3;
-
-fn show(rt: HostRuntime, what: usize, case: &[u8]) {
-    if what == PARTS {
-        parts::show(rt, case);
-    }
-    if what == ENTRIES {
-        on_entries::show(rt, case);
-    }
-    if what == DECODERS {
-        on_records::show(rt, case);
-    }
-    if what == TABLES {
-        on_tables::show(rt, case);
-    }
-}
-
-fn show_all(rt: HostRuntime, what: usize, cases: &[u8]) {
-    let mut at = 0;
-    while at + 4 <= cases.len() {
-        let n = number::word32_in(cases, at);
-        let to = at + 4 + n;
-        if cases.len() < to {
-            return;
-        }
-        show(rt, what, &cases[at + 4..to]);
-        at = to;
+    fn next(&mut self) -> Option<&'a [u8]> {
+        let (length, rest) = self.0.split_first_chunk::<4>()?;
+        let (case, rest) = rest.split_at_checked(u32::from_be_bytes(*length) as usize)?;
+        self.0 = rest;
+        Some(case)
     }
 }
 
 // A file of cases.
-pub fn run(rt: HostRuntime, what: usize, path: &str) -> Result<()> {
+pub fn run<F: Fn(HostRuntime, &[u8])>(rt: HostRuntime, path: &str, show: F) -> Result<()>
+    requires { F.IsAlwaysCallable show }
+{
     let cases = fs::read(&rt, path)?;
-    show_all(rt, what, cases.as_slice());
+    for case in Cases(cases.as_slice()) {
+        show(rt, case);
+    }
     Ok(())
 }
 

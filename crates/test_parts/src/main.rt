@@ -12,16 +12,20 @@ mod print;
 use std::io::Result;
 
 fn main(rt: HostRuntime) -> Result<()> {
-    feed::run(rt, feed::PARTS, "parts")?;
-    feed::run(rt, feed::ENTRIES, "entries")?;
-    feed::run(rt, feed::ENTRIES, "heads")?;
-    feed::run(rt, feed::DECODERS, "decoders")?;
-    feed::run(rt, feed::TABLES, "tables")?;
-    feed::run_file(rt, "c05_faststart_cut.3gp")?;
-    feed::run_file(rt, "f02_amrnb_time.3gp")?;
-    feed::run_file(rt, "f04_amrwb.3gp")?;
-    feed::run_file(rt, "f06_amrnb_bitexact_faststart.3gp")?;
-    feed::run_file(rt, "f33_h264_aac.3gp")?;
-    feed::run_file(rt, "g01_amrnb.3gp")?;
+    feed::run(rt, "parts", parts::show)?;
+    feed::run(rt, "entries", on_entries::show)?;
+    feed::run(rt, "heads", on_entries::show)?;
+    feed::run(rt, "decoders", on_records::show)?;
+    feed::run(rt, "tables", on_tables::show)?;
+    for path in [
+        "c05_faststart_cut.3gp",
+        "f02_amrnb_time.3gp",
+        "f04_amrwb.3gp",
+        "f06_amrnb_bitexact_faststart.3gp",
+        "f33_h264_aac.3gp",
+        "g01_amrnb.3gp",
+    ] {
+        feed::run_file(rt, path)?;
+    }
     Ok(())
 }

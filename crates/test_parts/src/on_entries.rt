@@ -5,20 +5,20 @@ use entry_rules::entry::Around;
 use release::Release;
 use wire::{lend, number};
 
-fn in_track(rest: &[u8], entry: &[u8]) -> usize {
-    let around = Around::Track {
-        scale: number::word32(rest, 0),
-        handler: number::word32(rest, 4),
-        references: number::word32(rest, 8),
-    };
-    entry::entry_rule(entry, around, Release::Release6)
-}
-
 pub fn show(rt: HostRuntime, case: &[u8]) {
-    let rest = named::body(case);
-    let entry = lend::rest(rest, 12);
-    named::name(rt, case);
-    print::say(rt, b": track ", in_track(rest, entry));
+    let case = named::read(case);
+    let entry = lend::rest(case.body, 12);
+    let track = Around::Track {
+        scale: number::word32(case.body, 0),
+        handler: number::word32(case.body, 4),
+        references: number::word32(case.body, 8),
+    };
+    print::text(rt, case.name);
+    print::say(
+        rt,
+        b": track ",
+        entry::entry_rule(entry, track, Release::Release6),
+    );
     print::say(
         rt,
         b" alone ",

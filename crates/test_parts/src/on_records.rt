@@ -6,18 +6,19 @@ use wire::{lend, number};
 
 // The kind of entry that a record goes into, and its bytes.
 pub fn show(rt: HostRuntime, case: &[u8]) {
-    let rest = named::body(case);
-    let kind = number::word32(rest, 0);
-    named::name(rt, case);
+    let case = named::read(case);
+    let kind = number::word32(case.body, 0);
+    let record = lend::rest(case.body, 4);
+    print::text(rt, case.name);
     print::say(
         rt,
         b": ",
-        decoder::record_rule(kind, Release::Release6, lend::rest(rest, 4)),
+        decoder::record_rule(kind, Release::Release6, record),
     );
     print::say(
         rt,
         b" wider ",
-        decoder::record_rule(kind, Release::Release4, lend::rest(rest, 4)),
+        decoder::record_rule(kind, Release::Release4, record),
     );
     print::line(rt);
 }

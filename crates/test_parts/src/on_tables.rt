@@ -10,11 +10,19 @@ use sample_tables::{agree, chunk, size, table, time};
 use sample_times::walk::{TimedStep, TimedWalk};
 use wire::number;
 
-fn forms(rt: HostRuntime, stts: &[u8], stsc: &[u8], stsz: &[u8], stco: &[u8]) {
-    print::say(rt, b": forms ", table::table_form(stts, 8));
-    print::say(rt, b" ", table::table_form(stsc, 12));
-    print::say(rt, b" ", size::sizes_form(stsz));
-    print::say(rt, b" ", table::table_form(stco, 4));
+#[derive(Clone, Copy)]
+struct Tables<'a> {
+    stts: &'a [u8],
+    stsc: &'a [u8],
+    stsz: &'a [u8],
+    stco: &'a [u8],
+}
+
+fn forms(rt: HostRuntime, tables: Tables<'_>) {
+    print::say(rt, b": forms ", table::table_form(tables.stts, 8));
+    print::say(rt, b" ", table::table_form(tables.stsc, 12));
+    print::say(rt, b" ", size::sizes_form(tables.stsz));
+    print::say(rt, b" ", table::table_form(tables.stco, 4));
 }
 
 // Ticks are read of at most 65,536 samples.
@@ -23,38 +31,42 @@ fn ticks(rt: HostRuntime, stts: &[u8]) {
         return;
     }
     let n = time::timed(stts);
-    print::say(rt, b" timed ", n);
+    let _ = print!(rt; " timed {n}");
     if 65536 < n {
         return;
     }
     let sum = time::media_ticks(stts);
-    print::say(rt, b" ticks ", sum.0 as usize);
+    let _ = print!(rt; " ticks {}", sum.0);
 }
 
 // A chunk's number from 0, offset, first sample from 0, samples and description, its first tick by the walk and by itself, and how many bytes it has.
 fn say_chunk(rt: HostRuntime, stts: &[u8], stsz: &[u8], found: Chunk, tick: MediaTicks)
     requires { Table 8 stts.now × (found.first + found.samples ≤ 65536) }
 {
+    let Chunk {
+        nth,
+        first,
+        samples,
+        description,
+        ..
+    } = found;
     let lies = chunk::extent_of(stsz, found);
-    print::say(rt, b"\nchunk ", found.nth);
-    print::say(rt, b" ", lies.offset);
-    print::say(rt, b" ", found.first);
-    print::say(rt, b" ", found.samples);
-    print::say(rt, b" ", found.description);
-    print::say(rt, b" tick ", tick.0 as usize);
-    let alone = time::tick_at(stts, found.first);
-    print::say(rt, b" ", alone.0 as usize);
-    print::say(rt, b" bytes ", lies.bytes);
+    let alone = time::tick_at(stts, first);
+    let _ = print!(rt;
+        "\nchunk {nth} {} {first} {samples} {description}",
+        lies.offset
+    );
+    let _ = print!(rt; " tick {} {} bytes {}", tick.0, alone.0, lies.bytes);
 }
 
-fn chunks(rt: HostRuntime, stts: &[u8], stsc: &[u8], stsz: &[u8], stco: &[u8])
-    requires { Playable stts.now stsc.now stco.now }
+fn chunks(rt: HostRuntime, tables: Tables<'_>)
+    requires { Playable tables.stts.now tables.stsc.now tables.stco.now }
 {
     let mut walk = TimedWalk::start();
     loop {
-        match walk.step(stts, stsc, stco) {
+        match walk.step(tables.stts, tables.stsc, tables.stco) {
             TimedStep::Found(found, tick, next) => {
-                say_chunk(rt, stts, stsz, found, tick);
+                say_chunk(rt, tables.stts, tables.stsz, found, tick);
                 walk = next;
             }
             TimedStep::Ticking(next) => {
@@ -67,41 +79,51 @@ fn chunks(rt: HostRuntime, stts: &[u8], stsc: &[u8], stsz: &[u8], stco: &[u8])
     }
 }
 
-fn agree(rt: HostRuntime, stts: &[u8], stsc: &[u8], stsz: &[u8], stco: &[u8], descriptions: usize) {
-    if table::table_form(stts, 8) == 0 {
+fn agree(rt: HostRuntime, tables: Tables<'_>, descriptions: usize) {
+    if table::table_form(tables.stts, 8) == 0 {
         return;
     }
-    if table::table_form(stsc, 12) == 0 {
+    if table::table_form(tables.stsc, 12) == 0 {
         return;
     }
-    if size::sizes_form(stsz) == 0 {
+    if size::sizes_form(tables.stsz) == 0 {
         return;
     }
-    if table::table_form(stco, 4) == 0 {
+    if table::table_form(tables.stco, 4) == 0 {
         return;
     }
-    if agree::seven(stts, stsc, stsz, stco, descriptions) == 0 {
+    if agree::seven(
+        tables.stts,
+        tables.stsc,
+        tables.stsz,
+        tables.stco,
+        descriptions,
+    ) == 0
+    {
         print::text(rt, b" agree 0");
         return;
     }
     print::text(rt, b" agree 1");
-    chunks(rt, stts, stsc, stsz, stco);
+    chunks(rt, tables);
 }
 
 // The count of sample descriptions, then `stts`, `stsc`, `stsz` and `stco`, each behind its length.
 pub fn show(rt: HostRuntime, case: &[u8]) {
-    let rest = named::body(case);
-    let times = named::pieces(rest);
-    let runs = named::pieces(times);
-    let sizes = named::pieces(runs);
-    let stts = named::piece(times);
-    let stsc = named::piece(runs);
-    let stsz = named::piece(sizes);
-    let stco = named::piece(named::pieces(sizes));
-    let descriptions = number::word32(named::piece(rest), 0);
-    named::name(rt, case);
-    forms(rt, stts, stsc, stsz, stco);
+    let case = named::read(case);
+    let (count, rest) = named::piece(case.body);
+    let (stts, rest) = named::piece(rest);
+    let (stsc, rest) = named::piece(rest);
+    let (stsz, rest) = named::piece(rest);
+    let (stco, _) = named::piece(rest);
+    let tables = Tables {
+        stts,
+        stsc,
+        stsz,
+        stco,
+    };
+    print::text(rt, case.name);
+    forms(rt, tables);
     ticks(rt, stts);
-    agree(rt, stts, stsc, stsz, stco, descriptions);
+    agree(rt, tables, number::word32(count, 0));
     print::line(rt);
 }

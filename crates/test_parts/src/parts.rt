@@ -1,6 +1,5 @@
 // The walk over the boxes of a part, and what counting and finding say of it.
 use crate::print;
-use crate::print::say;
 use boxes::seek;
 use boxes::seek::Tiling;
 use boxes::walk::{BoxAt, Step, Walk};
@@ -9,21 +8,14 @@ use boxes::walk::{BoxAt, Step, Walk};
 const FREE: usize = 0x66726565;
 
 fn say_box(rt: HostRuntime, b: BoxAt) {
-    print::text(rt, b"box ");
-    print::hex(rt, b.code);
-    say(rt, b" place ", b.at);
-    say(rt, b" head ", b.head);
-    say(rt, b" size ", b.span);
-    print::line(rt);
-}
-
-fn say_end(rt: HostRuntime) {
-    print::text(rt, b"end\n");
-}
-
-fn say_broken(rt: HostRuntime, p: usize) {
-    say(rt, b"broken ", p);
-    print::line(rt);
+    let BoxAt {
+        code,
+        at,
+        head,
+        span,
+        ..
+    } = b;
+    let _ = println!(rt; "box {code:08x} place {at} head {head} size {span}");
 }
 
 fn walk(rt: HostRuntime, part: &[u8]) {
@@ -35,11 +27,11 @@ fn walk(rt: HostRuntime, part: &[u8]) {
                 w = next;
             }
             Step::End => {
-                say_end(rt);
+                let _ = println!(rt; "end");
                 return;
             }
             Step::Broken(p) => {
-                say_broken(rt, p);
+                let _ = println!(rt; "broken {p}");
                 return;
             }
         }
@@ -55,12 +47,13 @@ fn torn(part: &[u8]) -> usize {
 
 // Where the tiling ends, how many boxes are `free`, and how long the payloads of the first three are.
 fn sums(rt: HostRuntime, part: &[u8]) {
-    say(rt, b"tiled to ", torn(part));
-    say(rt, b" free ", seek::count(part, FREE));
-    say(rt, b" of ", seek::count(part, seek::ANY));
-    say(rt, b" ", seek::payload(part, FREE, 0).len());
-    say(rt, b" ", seek::payload(part, FREE, 1).len());
-    say(rt, b" ", seek::payload(part, FREE, 2).len());
+    let end = torn(part);
+    let free = seek::count(part, FREE);
+    let all = seek::count(part, seek::ANY);
+    let _ = print!(rt; "tiled to {end} free {free} of {all}");
+    for nth in 0..3 {
+        let _ = print!(rt; " {}", seek::payload(part, FREE, nth).len());
+    }
     print::line(rt);
 }
 

@@ -9,11 +9,6 @@ pub fn say(rt: HostRuntime, label: &[u8], n: usize) {
     let _ = rt.print(n);
 }
 
-// Eight hexadecimal digits.
-pub fn hex(rt: HostRuntime, n: usize) {
-    let _ = print!(rt; "{n:08x}");
-}
-
 pub fn line(rt: HostRuntime) {
     text(rt, b"\n");
 }

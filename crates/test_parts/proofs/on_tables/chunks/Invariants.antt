@@ -5,7 +5,7 @@ use Rattle.sample_times.specs.Walks.{Timed}
 use Rattle.test_parts.proofs.on_tables.chunks.Given as goal
 
 abbrev pub invariant-loop-found : goal.invariant-loop-found
-invariant-loop-found l = Timed l.stts l.stsc l.walk
+invariant-loop-found l = Timed l.tables.stts.now l.tables.stsc.now l.walk
 
 abbrev pub decreases-loop-found : goal.decreases-loop-found
-decreases-loop-found l = (items l.stco - l.walk.walk.chunk) + (items l.stts - l.walk.clock.item)
+decreases-loop-found l = (items l.tables.stco.now - l.walk.walk.chunk) + (items l.tables.stts.now - l.walk.clock.item)
