@@ -2,32 +2,19 @@
 use crate::group;
 use std::fs::File;
 use std::io::{Read, Result};
-use wire::{lend, number};
-
-// The longest group.
-const ROOM: usize = 65536;
 
 // The next 32-bit number.
 fn length_of_next(file: &mut File) -> Result<usize> {
     let mut word = [0u8; 4];
     file.read_exact(&mut word)?;
-    Ok(number::word32(&word, 0))
-}
-
-// The next so many bytes, as far as there is room for them.
-fn fill(file: &mut File, n: usize, room: &mut [u8]) -> Result<()> {
-    if n <= room.len() {
-        file.read_exact(&mut room[0..n])?;
-    }
-    Ok(())
+    Ok(u32::from_be_bytes(word) as usize)
 }
 
 fn make(rt: HostRuntime, file: &mut File) -> Result<()> {
-    let mut buffer = [0u8; ROOM];
     let n = length_of_next(file)?;
-    fill(file, n, &mut buffer)?;
-    group::make(rt, lend::front(&buffer, n));
-    Ok(())
+    let mut group = vec![in rt.alloc(); 0u8; n]?;
+    file.read_exact(group.as_mut_slice())?;
+    group::make(rt, group.as_slice())
 }
 
 pub fn run(rt: HostRuntime, path: &str) -> Result<()> {

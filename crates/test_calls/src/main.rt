@@ -1,7 +1,6 @@
 // Makes the calls of tests/calls.py, and writes what each answers and leaves; the answers that are right stand in stdout.
 #![tactic(auto)]
 
-mod ask;
 mod call;
 mod feed;
 mod group;

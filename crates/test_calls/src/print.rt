@@ -1,28 +1,20 @@
-// What is written of an answer, and of a room after it.
+// What is written of an answer, and of a room after it. What isn't written is missed where the output is compared.
 ghost use Rattle.std.specs.Prelude.{◌<◌};
 
 use wire::lend;
 
-// What isn't written is missed where the output is compared.
 pub fn put(rt: HostRuntime, words: &[u8]) {
     let _ = rt.stdout().write_all(words);
-}
-
-fn say(rt: HostRuntime, words: &[u8], n: u64) {
-    put(rt, words);
-    let _ = rt.print(n);
 }
 
 // Done with a value, or a refusal and its place.
 pub fn answer(rt: HostRuntime, answer: u64) {
     let number = answer / 4294967296;
     let value = answer % 4294967296;
-    if number == 0 {
-        say(rt, b": done ", value);
-        return;
-    }
-    say(rt, b": ", number);
-    say(rt, b" at ", value);
+    let _ = match number {
+        0 => print!(rt; ": done {value}"),
+        _ => print!(rt; ": {number} at {value}"),
+    };
 }
 
 // The text that a room begins with, on lines of its own.
@@ -36,7 +28,7 @@ pub fn text(rt: HostRuntime, answer: u64, room: &[u8]) {
 // Every number of a room.
 pub fn all(rt: HostRuntime, room: &[u64]) {
     for n in room {
-        say(rt, b" ", *n);
+        let _ = print!(rt; " {n}");
     }
 }
 
@@ -47,22 +39,13 @@ fn mix(sum: u64, n: u64) -> u64
     (sum % 2147483648 * 31 + n % 2147483648) % 2147483648
 }
 
-// All bytes of a room in one number.
-pub fn sum(rt: HostRuntime, room: &[u8]) {
-    let mut sum = 7;
-    for x in room {
-        sum = mix(sum, u64::from(*x));
-    }
-    say(rt, b" sum ", sum);
-}
-
-// All numbers of a list in one.
-pub fn sum_numbers(rt: HostRuntime, list: &[u32]) {
-    let mut sum = 7;
-    for x in list {
-        sum = mix(sum, u64::from(*x));
-    }
-    say(rt, b" sum ", sum);
+// All numbers of a room in one.
+pub fn sum<T: Copy>(rt: HostRuntime, room: &[T])
+where
+    u64: From<T>,
+{
+    let sum = room.iter().fold(7, |sum, n| mix(sum, u64::from(*n)));
+    let _ = print!(rt; " sum {sum}");
 }
 
 // A running sum with both halves of a number more.
@@ -72,11 +55,8 @@ fn mix_halves(sum: u64, n: u64) -> u64
     mix(mix(sum, n / 4294967296), n % 4294967296)
 }
 
-// All numbers of a list in one, both halves of each.
-pub fn sum_halves(rt: HostRuntime, list: &[u64]) {
-    let mut sum = 7;
-    for x in list {
-        sum = mix_halves(sum, *x);
-    }
-    say(rt, b" sum ", sum);
+// The same, both halves of each.
+pub fn sum_halves(rt: HostRuntime, room: &[u64]) {
+    let sum = room.iter().fold(7, |sum, n| mix_halves(sum, *n));
+    let _ = print!(rt; " sum {sum}");
 }

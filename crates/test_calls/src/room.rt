@@ -1,172 +1,178 @@
 // The rooms that a call is lent, and the line that is written of it and of them.
-use crate::{ask, call, print};
+use crate::call::{Call, What};
+use crate::{call, print};
+use std::io::Result;
 use wire::{lend, number};
-
-// The longest room but for the files of a megabyte.
-const SHORT: usize = 40000;
 
 // The longest room whose numbers are all written.
 const SHOWN: usize = 16;
 
-// The longest room of numbers but for a track of many samples.
-const FEW: usize = 400;
+// What stands in a room before.
+const FRESH: u64 = 0xAAAAAAAAAAAAAAAA;
 
-fn numbers(rt: HostRuntime, file: &[u8], call: &[u8]) {
-    let mut list = [0xAAAAAAAAAAAAAAAAu64; 16];
-    let all: &mut [u64] = &mut list;
-    let n = number::least(call::asked(call), all.len());
-    print::answer(rt, ask::numbers(file, call, &mut all[0..n]));
-    let written = &all[..];
-    print::all(rt, &written[0..n]);
-}
-
-// The sum of the numbers, where there are more.
-fn sum_numbers(rt: HostRuntime, file: &[u8], call: &[u8], all: &mut [u64]) {
-    let n = number::least(call::asked(call), all.len());
-    print::answer(rt, ask::numbers(file, call, &mut all[0..n]));
-    let written = &all[..];
-    print::sum_halves(rt, &written[0..n]);
-}
-
-fn few_numbers(rt: HostRuntime, file: &[u8], call: &[u8]) {
-    let mut list = [0xAAAAAAAAAAAAAAAAu64; 400];
-    sum_numbers(rt, file, call, &mut list);
-}
-
-fn fresh_numbers() -> [u64; 131080] {
-    [0xAAAAAAAAAAAAAAAA; 131080]
-}
-
-fn many_numbers(rt: HostRuntime, file: &[u8], call: &[u8]) {
-    let mut list = fresh_numbers();
-    sum_numbers(rt, file, call, &mut list);
-}
-
-fn samples(rt: HostRuntime, file: &[u8], call: &[u8]) {
-    let n = call::asked(call);
-    if n <= SHOWN {
-        numbers(rt, file, call);
-        return;
+// Those that write numbers: where there are more than are shown, their sum.
+fn numbers<F: FnOnce(&mut [u64]) -> u64>(rt: HostRuntime, asked: usize, ask: F) -> Result<()>
+    requires { F.IsAlwaysCallable ask }
+{
+    let mut room = vec![in rt.alloc(); FRESH; asked]?;
+    print::answer(rt, ask(room.as_mut_slice()));
+    if asked <= SHOWN {
+        print::all(rt, room.as_slice());
+    } else {
+        print::sum_halves(rt, room.as_slice());
     }
-    if n <= FEW {
-        few_numbers(rt, file, call);
-        return;
-    }
-    many_numbers(rt, file, call);
+    Ok(())
 }
 
-fn offsets(rt: HostRuntime, file: &[u8], call: &[u8]) {
-    let mut list = [0xAAAAAAAAu32; 200];
-    let all: &mut [u32] = &mut list;
-    let n = number::least(call::asked(call), all.len());
-    print::answer(
-        rt,
-        threegp::threegp_offsets(file, call::first(call) as u64, &mut all[0..n]),
-    );
-    print::sum_numbers(rt, all);
+// Chunk offsets: a call is lent the front of a room for 200.
+fn offsets(rt: HostRuntime, file: &[u8], call: Call<'_>) {
+    let mut room = [0xAAAAAAAAu32; 200];
+    let (front, _) = room.split_at_mut(call.asked.min(200));
+    print::answer(rt, threegp::threegp_offsets(file, call.first, front));
+    print::sum(rt, &room);
+}
+
+// Of two files that stand one after the other: the call says how long the first is.
+fn two<'a>(files: &'a [u8], call: Call<'_>) -> (&'a [u8], &'a [u8]) {
+    let n = number::word32(call.more, 0);
+    (lend::front(files, n), lend::rest(files, n))
+}
+
+fn newer(files: &[u8], call: Call<'_>, out: &mut [u64]) -> u64 {
+    let (first, second) = two(files, call);
+    let y = call::minutes(call.first);
+    let z = call::minutes(call.second);
+    threegp::threegp_newer(first, y, second, z, call.third, out)
 }
 
 // What it hands back beside the part, as one number in the form of the functions for C.
 fn told(numbers: [u64; 3]) -> u64 {
-    if numbers[0] == 0 {
-        return numbers[2] % 4294967296;
+    let [number, file, value] = numbers;
+    if number == 0 {
+        return value % 4294967296;
     }
-    (256 * (numbers[1] % 256) + numbers[0] % 256) * 4294967296 + numbers[2] % 4294967296
+    (256 * (file % 256) + number % 256) * 4294967296 + value % 4294967296
 }
 
 // The newer of two by the call that hands back a part of a file.
-fn part(rt: HostRuntime, files: &[u8], call: &[u8]) {
-    let n = number::word32(call::more(call), 0);
-    let y = call::minutes(call::first(call));
-    let z = call::minutes(call::second(call));
-    let mut numbers = [0xAAAAAAAAAAAAAAAAu64; 3];
-    let part = newer::newer(
-        lend::front(files, n),
-        y,
-        lend::rest(files, n),
-        z,
-        call::third(call),
-        &mut numbers,
-    );
+fn part(rt: HostRuntime, files: &[u8], call: Call<'_>) {
+    let (first, second) = two(files, call);
+    let y = call::minutes(call.first);
+    let z = call::minutes(call.second);
+    let mut numbers = [FRESH; 3];
+    let part = newer::newer(first, y, second, z, call.third as usize, &mut numbers);
     print::answer(rt, told(numbers));
     print::sum(rt, part);
 }
 
-// Whether a call's text is written, too: of listings all, of outlines those whose first number is 1.
-fn shown(call: &[u8]) -> bool {
-    if call::kind(call) == 18 {
-        return call::first(call) == 1;
-    }
-    call::kind(call) == 12
-}
-
-fn bytes(rt: HostRuntime, file: &[u8], call: &[u8], all: &mut [u8]) {
-    let n = number::least(call::asked(call), all.len());
-    let answer = ask::bytes(file, call, &mut all[0..n]);
+// Those that write bytes: their sum, and of some the text too.
+fn bytes<F: FnOnce(&mut [u8]) -> u64>(
+    rt: HostRuntime,
+    asked: usize,
+    shown: bool,
+    ask: F,
+) -> Result<()>
+    requires { F.IsAlwaysCallable ask }
+{
+    let mut room = vec![in rt.alloc(); 0xAAu8; asked]?;
+    let answer = ask(room.as_mut_slice());
     print::answer(rt, answer);
-    print::sum(rt, lend::front(all, n));
-    if shown(call) {
-        print::text(rt, answer, all);
+    print::sum(rt, room.as_slice());
+    if shown {
+        print::text(rt, answer, room.as_slice());
     }
+    Ok(())
 }
 
-// The one with two rooms: its second number says how long that of the report is.
-fn salvage(rt: HostRuntime, file: &[u8], call: &[u8], all: &mut [u8]) {
-    let mut list = [0xAAAAAAAAAAAAAAAAu64; 16];
-    let report: &mut [u64] = &mut list;
-    let n = number::least(call::asked(call), all.len());
-    let k = number::least(call::second(call), report.len());
-    print::answer(
-        rt,
-        ask::salvage(file, call, &mut all[0..n], &mut report[0..k]),
+// The numbers of a part, 20 at most.
+fn record_write(part: &[u8], release: u64, out: &mut [u8]) -> u64 {
+    let mut list = [0u64; 20];
+    for (k, n) in list.iter_mut().enumerate() {
+        *n = call::wide(part, k * 8);
+    }
+    let (front, _) = list.split_at((part.len() / 8).min(20));
+    threegp::threegp_record_write(front, release, out)
+}
+
+// The one with two rooms: its second number says how long that of the report is, 16 at most.
+fn salvage(rt: HostRuntime, file: &[u8], call: Call<'_>) -> Result<()> {
+    let mut room = vec![in rt.alloc(); 0xAAu8; call.asked]?;
+    let mut report = vec![in rt.alloc(); FRESH; call.second.min(16) as usize]?;
+    let answer = threegp::threegp_salvage(
+        file,
+        call.first,
+        room.as_mut_slice(),
+        report.as_mut_slice(),
     );
-    print::sum(rt, lend::front(all, n));
-    let written = &report[..];
-    print::all(rt, &written[0..k]);
+    print::answer(rt, answer);
+    print::sum(rt, room.as_slice());
+    print::all(rt, report.as_slice());
+    Ok(())
 }
 
-fn fill(rt: HostRuntime, file: &[u8], call: &[u8], all: &mut [u8]) {
-    if call::kind(call) == 17 {
-        salvage(rt, file, call, all);
-        return;
-    }
-    bytes(rt, file, call, all);
+// Those that answer a number alone.
+fn answered(rt: HostRuntime, answer: u64) -> Result<()> {
+    print::answer(rt, answer);
+    Ok(())
 }
 
-fn short(rt: HostRuntime, file: &[u8], call: &[u8]) {
-    let mut room = [0xAAu8; 40000];
-    fill(rt, file, call, &mut room);
-}
-
-fn fresh() -> [u8; 1050000] {
-    [0xAA; 1050000]
-}
-
-fn long(rt: HostRuntime, file: &[u8], call: &[u8]) {
-    let mut room = fresh();
-    fill(rt, file, call, &mut room);
-}
-
-fn make_kind(rt: HostRuntime, kind: usize, file: &[u8], call: &[u8]) {
-    match kind {
-        1 | 2 | 3 => print::answer(rt, ask::numbered(file, call)),
-        4 | 5 | 6 | 20 => numbers(rt, file, call),
-        7 => offsets(rt, file, call),
-        8 => part(rt, file, call),
-        19 => samples(rt, file, call),
-        _ => {
-            if call::asked(call) <= SHORT {
-                short(rt, file, call);
-                return;
-            }
-            long(rt, file, call);
+fn make_what(rt: HostRuntime, file: &[u8], call: Call<'_>) -> Result<()> {
+    let Call {
+        what,
+        asked,
+        first,
+        more,
+        ..
+    } = call;
+    let minutes = call::minutes(first);
+    match what {
+        What::Judge => answered(rt, threegp::threegp_judge(file)),
+        What::Tracks => answered(rt, threegp::threegp_tracks(file)),
+        What::Brand => {
+            let code = (first & 0xFFFFFFFF) as u32;
+            answered(rt, threegp::threegp_brand(file, code))
         }
+        What::Track => numbers(rt, asked, |out| threegp::threegp_track(file, first, out)),
+        What::RecordRead => numbers(rt, asked, |out| {
+            threegp::threegp_record_read(file, first, out)
+        }),
+        What::Newer => numbers(rt, asked, |out| newer(file, call, out)),
+        What::Samples => numbers(rt, asked, |out| threegp::threegp_samples(file, first, out)),
+        What::Modes => numbers(rt, asked, |out| threegp::threegp_modes(file, first, out)),
+        What::Offsets => {
+            offsets(rt, file, call);
+            Ok(())
+        }
+        What::NewerPart => {
+            part(rt, file, call);
+            Ok(())
+        }
+        What::Sheet => bytes(rt, asked, false, |out| threegp::threegp_sheet(file, out)),
+        What::Table => bytes(rt, asked, false, |out| {
+            threegp::threegp_table(file, first, out)
+        }),
+        What::RecordWrite => bytes(rt, asked, false, |out| record_write(file, first, out)),
+        What::Listing => bytes(rt, asked, true, |out| threegp::threegp_listing(file, out)),
+        What::Shift => bytes(rt, asked, false, |out| {
+            threegp::threegp_shift(file, minutes, out)
+        }),
+        What::Replace => bytes(rt, asked, false, |out| {
+            threegp::threegp_replace(file, first, more, out)
+        }),
+        What::Move => bytes(rt, asked, false, |out| threegp::threegp_move(file, out)),
+        What::FromAmr => bytes(rt, asked, false, |out| threegp::threegp_from_amr(file, out)),
+        // The text is written where the first number is 1.
+        What::Outline => bytes(rt, asked, first == 1, |out| {
+            threegp::threegp_outline(file, out)
+        }),
+        What::Salvage => salvage(rt, file, call),
     }
 }
 
 // One line: the name, the answer, and what the rooms hold.
-pub fn make(rt: HostRuntime, file: &[u8], call: &[u8]) {
-    print::put(rt, call::name(call));
-    make_kind(rt, call::kind(call), file, call);
+pub fn make(rt: HostRuntime, file: &[u8], call: Call<'_>) -> Result<()> {
+    print::put(rt, call.name);
+    make_what(rt, file, call)?;
     print::put(rt, b"\n");
+    Ok(())
 }
