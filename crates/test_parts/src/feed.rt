@@ -6,7 +6,7 @@ use crate::{parts, print};
 use std::fs;
 use std::io::Result;
 
-// The cases of a file from a place on; one that is cut short is none.
+// The cases of a file from a place on; one that is cut short is none. The calls of `test_calls` lie alike: two programs share no crate but the library's, which has no such list.
 #[derive(Clone, Copy)]
 struct Cases<'a>(&'a [u8]);
 

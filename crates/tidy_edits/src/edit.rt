@@ -2,7 +2,7 @@
 use rule::Answer;
 use tidy_files::output::Made;
 use tidy_files::{input, time};
-use tidy_words::line::Time;
+use tidy_words::line::{Line, Time};
 use tidy_words::tell::Outcome;
 use tidy_words::{line, tell};
 use wire::lend;
@@ -28,24 +28,21 @@ impl Edit {
     }
 
     // Of a shift it is said what the time was and is.
-    fn write(self, rt: HostRuntime, file: &[u8], bytes: &[u8], name: &[u8]) -> Outcome {
-        if let Edit::Shift(_) = self {
-            let was = Time(time::of(file));
-            let is = Time(time::of(bytes));
-            let said = line::of(format_args!("time was {was}, is {is}\n"));
-            return Made {
-                name,
-                bytes,
-                said: said.as_str(),
+    fn said(self, file: &[u8], made: &[u8]) -> Line {
+        match self {
+            Edit::Shift(_) => {
+                let was = Time(time::of(file));
+                let is = Time(time::of(made));
+                line::of(format_args!("time was {was}, is {is}\n"))
             }
-            .write(rt);
+            _ => Line::new(),
         }
-        Made {
-            name,
-            bytes,
-            said: "",
-        }
-        .write(rt)
+    }
+
+    fn write(self, rt: HostRuntime, file: &[u8], bytes: &[u8], name: &[u8]) -> Outcome {
+        let line = self.said(file, bytes);
+        let said = line.as_str();
+        Made { name, bytes, said }.write(rt)
     }
 
     pub fn run(self, rt: HostRuntime, file: &[u8], to: &[u8]) -> Outcome {
