@@ -3,7 +3,6 @@ ghost use Rattle.std.specs.Prelude.{◌≡◌, ◌*◌, ◌≤◌, ◌<◌, leng
 ghost use Rattle.mdat.specs.Search.{STRIDE, PLACES, Index, Nearest, Noted};
 
 use boxes::walk::{Step, Walk};
-use wire::number;
 
 // How many bytes of the file have one number.
 const STRIDE: usize = 256;
@@ -66,7 +65,7 @@ fn for_place(index: &[u32], offset: usize) -> usize
     if offset == 0 {
         return 0;
     }
-    let j = number::least((offset - 1) / STRIDE, index.len() - 1);
+    let j = ((offset - 1) / STRIDE).min(index.len() - 1);
     wide(index[j])
 }
 

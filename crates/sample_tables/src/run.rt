@@ -6,7 +6,6 @@ ghost use Rattle.sample_tables.specs.Runs.{first_chunk, per_chunk, description a
 ghost use Rattle.sample_tables.specs.Runs.{rises as rises_of, run_fine, runs_fine, run_of, run_start, Rising};
 
 use crate::table;
-use wire::number;
 
 // The number of run i's first chunk, from 1.
 fn start_of(stsc: &[u8], i: usize) -> usize
@@ -109,7 +108,7 @@ pub fn run_end(stsc: &[u8], chunks: usize, i: usize) -> usize
     ensures { result ≡ run_start stsc.now chunks (i + 1) }
 {
     if i + 1 < table::items(stsc) {
-        return number::least(start_of(stsc, i + 1) - 1, chunks);
+        return (start_of(stsc, i + 1) - 1).min(chunks);
     }
     chunks
 }

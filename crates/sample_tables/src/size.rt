@@ -105,7 +105,7 @@ fn inside(stsz: &[u8], first: usize, n: usize) -> usize
     if stsz.len() < from {
         return 0;
     }
-    number::least(n, (stsz.len() - from) / 4)
+    n.min((stsz.len() - from) / 4)
 }
 
 // The bytes of n samples from the given one on.

@@ -4,7 +4,6 @@ ghost use Rattle.sample_tables.specs.Tables.{Table};
 ghost use Rattle.sample_tables.specs.Times.{timed as timed_of, media_ticks, tick_at};
 
 use crate::table;
-use wire::number;
 
 // A number of the units that `mdhd` says: never added to or compared with movie ticks.
 #[derive(Clone, Copy)]
@@ -52,7 +51,7 @@ pub fn tick_at(stts: &[u8], sample: usize) -> MediaTicks
     let mut left = sample;
     let mut sum = 0;
     while i < n {
-        let counted = number::least(table::field(stts, 8, 0, i), left);
+        let counted = table::field(stts, 8, 0, i).min(left);
         let delta = table::field(stts, 8, 4, i);
         sum += counted * delta;
         left -= counted;

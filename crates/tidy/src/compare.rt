@@ -6,7 +6,6 @@ use newer::Outcome;
 use tidy_files::{input, time};
 use tidy_words::tell::To;
 use tidy_words::{line, tell};
-use wire::compare::same;
 use wire::lend;
 
 // Most seconds that a clock is ahead or behind.
@@ -95,7 +94,7 @@ fn with_second(rt: HostRuntime, first: &[u8], y: i64, name: &[u8], z: i64) -> us
 }
 
 pub fn run(rt: HostRuntime, first: &[u8], y: i64, second: &[u8], z: i64) -> usize {
-    if same(first, b"-") == 1 && same(second, b"-") == 1 {
+    if first == b"-".as_slice() && second == b"-".as_slice() {
         return tell::wrong(rt, b"only one of the files is standard input", b"");
     }
     let mut room = input::room();

@@ -11,4 +11,4 @@ pub returns-then-offset-eq0 : goal.returns-then-offset-eq0
 returns-then-offset-eq0 c = record { start = λ xs s i. start_front xs _ }
 
 pub returns : goal.returns
-returns c = index_nearest _ c.least-j.result _ _ (omega arith) (omega arith) c.wide.ensures
+returns c = index_nearest _ c.min-j.result _ _ (omega arith) (omega arith) c.wide.ensures
