@@ -15,6 +15,7 @@ use Rattle.wire.proofs.Clauses.{is_eq_lem, not_eq, eq_is, le_is, clause, yea, na
 use Rattle.frames.specs.declared.codec.Codec.{Codec}
 use Rattle.frames.specs.Frames.{type_of, frame_size, good, frames}
 use Rattle.frames.proofs.Entries.{each, at}
+use Rattle.frames.proofs.Fronts.{size_least}
 use Rattle.frames.proofs.Answers.{front_was, front_was_none}
 use Rattle.frames.proofs.Runs.{frames_stop, frames_next}
 use Rattle.frames.proofs.Reading.{type_next, next_inside}
@@ -76,7 +77,7 @@ module _ {modes : ℕ} {k : Codec} {xs : List ℕ} {at : ℕ} (s : Setting modes
 
     -- fewer bytes are left
     pub setting_less : length xs - (at + size) < length xs - at
-    setting_less = omega (arith, next_inside k xs at size was.0 was.1 s.inside)
+    setting_less = omega (arith, next_inside k xs at size was.0 was.1 s.inside, was.1, size_least k (drop at xs))
 
   -- one more, of type h / 8 % 16
   module _ {size : ℕ} (z : o ≡ Some size) (h : ℕ) (e : h ≡ get_or xs at 0) where

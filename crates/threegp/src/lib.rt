@@ -183,7 +183,7 @@ fn put_part(out: &mut [u64], f: Part) -> Answer
         return Answer::Refused(25, 0);
     }
     let order = f.order;
-    out[0] = clocks::order_number(order) as u64;
+    out[0] = usize::from(order) as u64;
     out[1] = f.file as u64;
     out[2] = f.place as u64;
     out[3] = f.span as u64;

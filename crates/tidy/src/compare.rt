@@ -1,7 +1,7 @@
 // The word `newer`: which of two files is newer.
 ghost use Rattle.std.specs.Prelude.{◌<◌, ◌^◌};
 
-use clocks::{Order, Zone, Zoned};
+use clocks::{Order, Zone};
 use newer::Outcome;
 use tidy_files::{input, time};
 use tidy_words::tell::To;
@@ -36,8 +36,8 @@ fn put_less(out: &mut [u8], at: usize, time: usize, zone: Zone) -> usize
 // A file's time in universal time.
 fn put_time(out: &mut [u8], at: usize, file: &[u8], minutes: i64) -> usize {
     match clocks::zone_of(minutes) {
-        Zoned::Seconds(zone) => put_less(out, at, time::of(file), zone),
-        Zoned::NoZone => at,
+        Some(zone) => put_less(out, at, time::of(file), zone),
+        None => at,
     }
 }
 
