@@ -15,11 +15,9 @@ pub fn timed(stts: &[u8]) -> usize
     ensures { result ≡ timed_of stts.now }
 {
     let n = table::items(stts);
-    let mut i = 0;
     let mut sum = 0;
-    while i < n {
+    for i in 0..n {
         sum += table::field(stts, 8, 0, i);
-        i += 1;
     }
     sum
 }
@@ -30,13 +28,11 @@ pub fn media_ticks(stts: &[u8]) -> MediaTicks
     ensures { result.0 ≡ media_ticks stts.now }
 {
     let n = table::items(stts);
-    let mut i = 0;
     let mut sum = 0;
-    while i < n {
+    for i in 0..n {
         let counted = table::field(stts, 8, 0, i);
         let delta = table::field(stts, 8, 4, i);
         sum += counted * delta;
-        i += 1;
     }
     MediaTicks(sum as u64)
 }
@@ -47,15 +43,13 @@ pub fn tick_at(stts: &[u8], sample: usize) -> MediaTicks
     ensures { result.0 ≡ tick_at stts.now sample }
 {
     let n = table::items(stts);
-    let mut i = 0;
     let mut left = sample;
     let mut sum = 0;
-    while i < n {
+    for i in 0..n {
         let counted = table::field(stts, 8, 0, i).min(left);
         let delta = table::field(stts, 8, 4, i);
         sum += counted * delta;
         left -= counted;
-        i += 1;
     }
     MediaTicks(sum as u64)
 }
