@@ -17,7 +17,7 @@ use boxes::seek::Seen;
 use boxes::walk::{BoxAt, Step, Walk};
 use boxes::words::{By, Target, Targets};
 use boxes::{seek, walk, words};
-use clocks::{Zone, Zoned};
+use clocks::Zone;
 use judge::Judgement;
 use rule::Answer;
 use wire::{number, pen};
@@ -27,10 +27,10 @@ fn both(head: &[u8], zone: Zone) -> usize
     requires { Near zone }
     ensures { result ≡ one_if (both_of (leaves zone) head.now) }
 {
-    if clocks::leaves(number::word32(head, 4), zone) == 0 {
+    if !clocks::leaves(number::word32(head, 4), zone) {
         return 0;
     }
-    if clocks::leaves(number::word32(head, 8), zone) == 0 {
+    if !clocks::leaves(number::word32(head, 8), zone) {
         return 0;
     }
     1
@@ -175,8 +175,8 @@ pub fn shift(file: &[u8], minutes: i64, out: &mut [u8]) -> Answer
 {
     match judge::judge(file) {
         Judgement::Accepted => match clocks::zone_of(minutes) {
-            Zoned::Seconds(zone) => shift_accepted(file, zone, out),
-            Zoned::NoZone => Answer::Refused(22, 0),
+            Some(zone) => shift_accepted(file, zone, out),
+            None => Answer::Refused(22, 0),
         },
         Judgement::Refused(n, p) => Answer::Refused(n, p),
     }

@@ -8,7 +8,7 @@ ghost use Rattle.newer.specs.declared.Outcome.TheVariants.{Refused};
 ghost use Rattle.newer.specs.Newer.{modified as modified_of, entry_in, entry_of, in_zones, newest_of, told_by, part_of};
 
 use boxes::seek;
-use clocks::{Order, Zone, Zoned};
+use clocks::{Order, Zone};
 use judge::Judgement;
 use movie::entry;
 use movie::entry::Named;
@@ -91,11 +91,11 @@ fn zoned(first: &[u8], y: i64, second: &[u8], z: i64, i: usize) -> Outcome
     ensures { result ≡ in_zones first.now y second.now z i }
 {
     match clocks::zone_of(y) {
-        Zoned::Seconds(a) => match clocks::zone_of(z) {
-            Zoned::Seconds(b) => compared(first, a, second, b, i),
-            Zoned::NoZone => refused(22),
+        Some(a) => match clocks::zone_of(z) {
+            Some(b) => compared(first, a, second, b, i),
+            None => refused(22),
         },
-        Zoned::NoZone => refused(22),
+        None => refused(22),
     }
 }
 
@@ -149,7 +149,7 @@ pub fn newer<'a>(
     match newest(first, y, second, z, i) {
         Outcome::Found(f) => {
             let order = f.order;
-            tell(answer, 0, f.file, clocks::order_number(order));
+            tell(answer, 0, f.file, usize::from(order));
             if f.file == 1 {
                 return cut(first, f.place, f.span);
             }

@@ -9,7 +9,7 @@ use judge::Judgement;
 use layout::gather;
 use layout::gather::Slot;
 use read_tracks::NumberedTrack;
-use sample_walk::walk::{Sample, SampleStep, SampleWalk};
+use sample_walk::walk::{Sample, SampleWalk};
 use wire::lend;
 
 // Where three tables of a track stand in a file, and a walk by sample over them.
@@ -80,7 +80,7 @@ pub fn next_at(file: &[u8], at: Stand) -> Next
         gather::bytes(file, stsz),
         gather::bytes(file, stco),
     ) {
-        SampleStep::Found(sample, walk) => Next::Found(
+        Some((sample, walk)) => Next::Found(
             sample,
             Stand {
                 stsc,
@@ -89,7 +89,7 @@ pub fn next_at(file: &[u8], at: Stand) -> Next
                 walk,
             },
         ),
-        SampleStep::End => Next::End,
+        None => Next::End,
     }
 }
 

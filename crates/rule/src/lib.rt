@@ -26,7 +26,7 @@ pub fn sooner(u: Verdict, v: Verdict) -> Verdict
         Verdict::Fine => v,
         Verdict::Bad(p) => match v {
             Verdict::Fine => u,
-            Verdict::Bad(q) => Verdict::Bad(wire::number::least(p, q)),
+            Verdict::Bad(q) => Verdict::Bad(p.min(q)),
         },
     }
 }

@@ -19,15 +19,15 @@ struct Tables<'a> {
 }
 
 fn forms(rt: HostRuntime, tables: Tables<'_>) {
-    print::say(rt, b": forms ", table::table_form(tables.stts, 8));
-    print::say(rt, b" ", table::table_form(tables.stsc, 12));
-    print::say(rt, b" ", size::sizes_form(tables.stsz));
-    print::say(rt, b" ", table::table_form(tables.stco, 4));
+    print::say(rt, b": forms ", usize::from(table::table_form(tables.stts, 8)));
+    print::say(rt, b" ", usize::from(table::table_form(tables.stsc, 12)));
+    print::say(rt, b" ", usize::from(size::sizes_form(tables.stsz)));
+    print::say(rt, b" ", usize::from(table::table_form(tables.stco, 4)));
 }
 
 // Ticks are read of at most 65,536 samples.
 fn ticks(rt: HostRuntime, stts: &[u8]) {
-    if table::table_form(stts, 8) == 0 {
+    if !table::table_form(stts, 8) {
         return;
     }
     let n = time::timed(stts);
@@ -80,26 +80,25 @@ fn chunks(rt: HostRuntime, tables: Tables<'_>)
 }
 
 fn agree(rt: HostRuntime, tables: Tables<'_>, descriptions: usize) {
-    if table::table_form(tables.stts, 8) == 0 {
+    if !table::table_form(tables.stts, 8) {
         return;
     }
-    if table::table_form(tables.stsc, 12) == 0 {
+    if !table::table_form(tables.stsc, 12) {
         return;
     }
-    if size::sizes_form(tables.stsz) == 0 {
+    if !size::sizes_form(tables.stsz) {
         return;
     }
-    if table::table_form(tables.stco, 4) == 0 {
+    if !table::table_form(tables.stco, 4) {
         return;
     }
-    if agree::seven(
+    if !agree::seven(
         tables.stts,
         tables.stsc,
         tables.stsz,
         tables.stco,
         descriptions,
-    ) == 0
-    {
+    ) {
         print::text(rt, b" agree 0");
         return;
     }

@@ -24,7 +24,7 @@ ghost use Rattle.from_amr.specs.Dump.{from_amr};
 ghost use Rattle.salvage.specs.Salvage.{report_of, salvage_result};
 ghost use Rattle.threegp.specs.Answers.{pair as pair_of, packed, judge_answer, ForC, ReportsForC, newer_result, Told};
 
-use frames::codec;
+use frames::codec::Codec;
 use judge::Judgement;
 use newer::{Outcome, Part};
 use rule::Answer;
@@ -144,7 +144,7 @@ pub fn threegp_salvage(file: &[u8], wideband: u64, out: &mut [u8], report: &mut 
     ensures { ReportsForC (salvage_result (codec_named wideband) file.now (length report.old))
         (report_of (codec_named wideband) file.now) out.old result out.new report.old report.new }
 {
-    pack(salvage::salvage(file, codec::of_number(wideband), out, report))
+    pack(salvage::salvage(file, Codec::from(wideband), out, report))
 }
 
 // The fields of a record of a release as numbers.
@@ -183,7 +183,7 @@ fn put_part(out: &mut [u64], f: Part) -> Answer
         return Answer::Refused(25, 0);
     }
     let order = f.order;
-    out[0] = clocks::order_number(order) as u64;
+    out[0] = usize::from(order) as u64;
     out[1] = f.file as u64;
     out[2] = f.place as u64;
     out[3] = f.span as u64;

@@ -1,5 +1,5 @@
 // The word `newer`: which of two files is newer.
-use clocks::{Order, Zoned};
+use clocks::Order;
 use newer::Outcome as Newest;
 use std::fmt;
 use std::fmt::{Display, Write};
@@ -24,7 +24,7 @@ struct Universal {
 
 impl Display for Universal {
     fn fmt<W: Write>(&self, f: &mut fmt::Formatter<W>) -> fmt::Result {
-        let Zoned::Seconds(zone) = clocks::zone_of(self.minutes) else {
+        let Some(zone) = clocks::zone_of(self.minutes) else {
             return Ok(());
         };
         let there = self.time.saturating_add(zone.behind);

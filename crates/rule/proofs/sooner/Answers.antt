@@ -8,4 +8,4 @@ pub returns-in-Fine-v : goal.returns-in-Fine-v
 returns-in-Fine-v c = sooner_left _ _ c.in-Bad.is c.in-Fine-v.is
 
 pub returns-in-Bad-v : goal.returns-in-Bad-v
-returns-in-Bad-v c = sooner_least _ _ c.in-Bad.is c.in-Bad-v.is c.least.ensures
+returns-in-Bad-v c = sooner_least _ _ c.in-Bad.is c.in-Bad-v.is c.min.ensures
