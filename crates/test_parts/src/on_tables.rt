@@ -19,7 +19,11 @@ struct Tables<'a> {
 }
 
 fn forms(rt: HostRuntime, tables: Tables<'_>) {
-    print::say(rt, b": forms ", usize::from(table::table_form(tables.stts, 8)));
+    print::say(
+        rt,
+        b": forms ",
+        usize::from(table::table_form(tables.stts, 8)),
+    );
     print::say(rt, b" ", usize::from(table::table_form(tables.stsc, 12)));
     print::say(rt, b" ", usize::from(size::sizes_form(tables.stsz)));
     print::say(rt, b" ", usize::from(table::table_form(tables.stco, 4)));
