@@ -13,7 +13,7 @@ use Rattle.wire.proofs.Clauses.{asked_yea, asked_nay}
 use Rattle.wire.proofs.Writing.{pen_front}
 use Rattle.release.specs.declared.Release.{Release}
 use Rattle.entry_heads.specs.Kinds.{kind_of}
-use Rattle.entry_rules.specs.declared.entry.Around.TheVariants.{Alone}
+use Rattle.std.specs.Prelude.{None}
 use Rattle.entry_rules.specs.Entries.{entry_rule}
 use Rattle.entry_records.specs.declared.field.Record.{Record}
 use Rattle.entry_records.specs.declared.field.Record.TheVariants.{Broken}
@@ -23,11 +23,11 @@ use Rattle.entry_records.specs.Texts.{text_of}
 use Rattle.entry_records.specs.Records.{read_of, written_of, out_of}
 
 module _ (release : Release) (xs : List ℕ) where
-  pub read_broken : one_if (entry_rule Alone release xs) ≡ 0 → Broken ≡ read_of release xs
+  pub read_broken : one_if (entry_rule None release xs) ≡ 0 → Broken ≡ read_of release xs
   unfolding read_of
   read_broken h = let e = asked_nay _ h in rw e
 
-  pub read_done : (one_if (entry_rule Alone release xs) ≡ 0 → ⊥) → {w k : ℕ} {r : Record} → w ≡ word 4 xs 4 → k ≡ kind_of w → r ≡ record_in k xs → r ≡ read_of release xs
+  pub read_done : (one_if (entry_rule None release xs) ≡ 0 → ⊥) → {w k : ℕ} {r : Record} → w ≡ word 4 xs 4 → k ≡ kind_of w → r ≡ record_in k xs → r ≡ read_of release xs
   unfolding read_of
   read_done h p q e = let m = asked_yea _ h in e ∙ rw (q, p, m)
 

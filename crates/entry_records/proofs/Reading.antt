@@ -13,7 +13,7 @@ use Rattle.wire.proofs.Clauses.{eq_is, clause, of_two}
 use Rattle.release.specs.declared.Release.{Release}
 use Rattle.entry_heads.specs.Kinds.{S263Kind, kind_of}
 use Rattle.entry_heads.proofs.Coding.{code_kind}
-use Rattle.entry_rules.specs.declared.entry.Around.TheVariants.{Alone}
+use Rattle.std.specs.Prelude.{None}
 use Rattle.entry_rules.specs.Entries.{rule_as, entry_rule}
 use Rattle.entry_rules.proofs.Speech.{Spoken, speech_is}
 use Rattle.entry_rules.proofs.Picture.{picture_is, rated_is}
@@ -38,7 +38,7 @@ unfolding amr_rule
 speech_kind release f e = of_two _ _ (clause 0 _ e) (λ w. inl (eq_is _ _ w)) (λ w. inr (eq_is _ _ w))
 
 -- an entry that meets its rule is read by its kind
-read_as : (release : Release) (kind : ℕ) (xs : List ℕ) → kind_of (word 4 xs 4) ≡ kind → rule_as kind Alone release xs ≡ true → record_in kind xs ≡ read_of release xs
+read_as : (release : Release) (kind : ℕ) (xs : List ℕ) → kind_of (word 4 xs 4) ≡ kind → rule_as kind None release xs ≡ true → record_in kind xs ≡ read_of release xs
 unfolding read_of entry_rule
 read_as release kind xs k e = rw (k, e)
 
@@ -54,11 +54,11 @@ read_speech : (release : Release) (f : Amr) → amr_rule release f ≡ true → 
 read_speech release f e =
     let s = speech_kind release f e in
     let k : kind_of (word 4 (amr_text f) 4) ≡ f.kind = ap kind_of (amr_words release f s e).code ∙ code_kind f.kind (⊎_elim (λ q. omega arith) (λ q. omega arith) s) in
-    sym (read_as release f.kind (amr_text f) k (speech_is f.kind release (amr_text f) s Alone (amr_at release f s e) refl))
+    sym (read_as release f.kind (amr_text f) k (speech_is f.kind release (amr_text f) s None (amr_at release f s e) refl))
     ∙ sym (record_speech f.kind (amr_text f) s) ∙ ap Speech (amr_back release f s e)
 
 -- a picture's text that shows the fields
-read_text : (release : Release) (n : ℕ) (f : H263) (xs : List ℕ) → Shows n f xs → rule_as S263Kind Alone release xs ≡ true → read_of release xs ≡ Picture f
+read_text : (release : Release) (n : ℕ) (f : H263) (xs : List ℕ) → Shows n f xs → rule_as S263Kind None release xs ≡ true → read_of release xs ≡ Picture f
 read_text release n f xs p e = sym (read_as release S263Kind xs (ap kind_of p.code ∙ kind_s263) e) ∙ sym (record_picture xs) ∙ ap Picture p.back
 
 read_picture : (release : Release) (f : H263) → h263_rule f ≡ true → read_of release (h263_text f) ≡ Picture f
@@ -67,11 +67,11 @@ read_picture release f e =
     ⊎_elim
     (λ r.
     let t : rated_text f ≡ if_eq f.rates.given 1 (rated_text f) (plain_text 101 15 f) = eq_yea _ _ _ _ _ r.flag refl in
-    rw (← t) (read_text release 31 f (rated_text f) (rated_shows f e r) (rated_is release (rated_text f) Alone refl (rated_at f e r))))
+    rw (← t) (read_text release 31 f (rated_text f) (rated_shows f e r) (rated_is release (rated_text f) None refl (rated_at f e r))))
     (λ r.
     let t : plain_text 101 15 f ≡ if_eq f.rates.given 1 (rated_text f) (plain_text 101 15 f) = eq_nay _ _ _ _ _ (λ z. omega (arith, r.flag)) refl in
     let p = plain_shows f e r in
-    rw (← t) (read_text release 15 f (plain_text 101 15 f) p (picture_is release (plain_text 101 15 f) Alone refl p.start)))
+    rw (← t) (read_text release 15 f (plain_text 101 15 f) p (picture_is release (plain_text 101 15 f) None refl p.start)))
     (rates_met f.rates (clause 7 _ e))
 
 -- a record that the writer takes reads back as itself

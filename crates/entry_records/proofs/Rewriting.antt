@@ -9,7 +9,7 @@ use Rattle.wire.specs.Numbers.{Bytes, word}
 use Rattle.wire.proofs.Tests.{eq_ways}
 use Rattle.release.specs.declared.Release.{Release}
 use Rattle.entry_heads.specs.Kinds.{S263Kind, kind_of}
-use Rattle.entry_rules.specs.declared.entry.Around.TheVariants.{Alone}
+use Rattle.std.specs.Prelude.{None}
 use Rattle.entry_rules.specs.Entries.{rule_as, entry_rule}
 use Rattle.entry_rules.proofs.Speech.{Spoken, speech_met}
 use Rattle.entry_rules.proofs.Picture.{picture_met}
@@ -27,18 +27,18 @@ pub record Again (release : Release) (xs : List ℕ) (r : Record) : Type 0 where
   pub text : text_of r ≡ xs
 
 module _ (release : Release) (xs : List ℕ) (b : Bytes xs) where
-  speech_again : (kind : ℕ) → Spoken kind → kind_of (word 4 xs 4) ≡ kind → rule_as kind Alone release xs ≡ true → Again release xs (Speech (amr_in kind xs))
+  speech_again : (kind : ℕ) → Spoken kind → kind_of (word 4 xs 4) ≡ kind → rule_as kind None release xs ≡ true → Again release xs (Speech (amr_in kind xs))
   speech_again kind s k e =
-      let p = speech_met kind release xs s Alone e in
+      let p = speech_met kind release xs s None e in
       record { rule = amr_read_rule release kind xs b s k p; text = amr_again release kind xs b s k p }
 
-  picture_again : kind_of (word 4 xs 4) ≡ S263Kind → rule_as S263Kind Alone release xs ≡ true → Again release xs (Picture (h263_in xs))
+  picture_again : kind_of (word 4 xs 4) ≡ S263Kind → rule_as S263Kind None release xs ≡ true → Again release xs (Picture (h263_in xs))
   picture_again k e =
       ⊎_elim (λ p. let g = plain_again xs b k p in record { rule = g.0; text = g.1 })
       (λ p. let g = rated_again xs b k p in record { rule = g.0; text = g.1 })
-      (picture_met release xs Alone e)
+      (picture_met release xs None e)
 
-  kind_again : (kind : ℕ) (r : Record) → kind_of (word 4 xs 4) ≡ kind → rule_as kind Alone release xs ≡ true → record_in kind xs ≡ r → (r ≡ Broken → ⊥)
+  kind_again : (kind : ℕ) (r : Record) → kind_of (word 4 xs 4) ≡ kind → rule_as kind None release xs ≡ true → record_in kind xs ≡ r → (r ≡ Broken → ⊥)
       → Again release xs r
   unfolding record_in
   kind_again kind r k e h n =
@@ -55,8 +55,8 @@ module _ (release : Release) (xs : List ℕ) (b : Bytes xs) where
   -- a record that was read is one that the writer takes, and writes back its bytes
   pub read_writes : (r : Record) → read_of release xs ≡ r → (r ≡ Broken → ⊥) → Again release xs r
   unfolding read_of entry_rule
-  read_writes r h n = go (entry_rule Alone release xs) refl h
+  read_writes r h n = go (entry_rule None release xs) refl h
     where
-      go : (t : Bool) → entry_rule Alone release xs ≡ t → pick t (record_in (kind_of (word 4 xs 4)) xs) Broken ≡ r → Again release xs r
+      go : (t : Bool) → entry_rule None release xs ≡ t → pick t (record_in (kind_of (word 4 xs 4)) xs) Broken ≡ r → Again release xs r
       go true e q = kind_again (kind_of (word 4 xs 4)) r refl e q n
       go false e q = absurd (n (sym q))

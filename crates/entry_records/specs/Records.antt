@@ -1,10 +1,9 @@
 -- The record reader and writer.
-use Rattle.std.specs.Prelude.{ℕ, List, [], ◌∷◌, ◌++◌, length, drop}
+use Rattle.std.specs.Prelude.{ℕ, None, List, [], ◌∷◌, ◌++◌, length, drop}
 use Rattle.wire.specs.Tests.{pick, if_lt}
 use Rattle.wire.specs.Numbers.{word}
 use Rattle.release.specs.declared.Release.{Release}
 use Rattle.entry_heads.specs.Kinds.{S263Kind, kind_of}
-use Rattle.entry_rules.specs.declared.entry.Around.TheVariants.{Alone}
 use Rattle.entry_rules.specs.Entries.{entry_rule}
 use Rattle.entry_records.specs.declared.field.Record.{Record}
 use Rattle.entry_records.specs.declared.field.Record.TheVariants.{Speech, Picture, Broken}
@@ -44,7 +43,7 @@ written_value TooShort = 0
 
 -- the fields of an entry of one of the three kinds that meets its rule alone
 unfoldable pub read_of : Release → List ℕ → Record
-read_of release xs = pick (entry_rule Alone release xs) (record_in (kind_of (word 4 xs 4)) xs) Broken
+read_of release xs = pick (entry_rule None release xs) (record_in (kind_of (word 4 xs 4)) xs) Broken
 
 -- ---- the writer
 
