@@ -19,6 +19,7 @@ use Rattle.entry_heads.specs.Heads.{box_header, common_head, audio_head}
 use Rattle.entry_rules.specs.Decoders.{modes_rule, period_rule, frames_rule}
 use Rattle.entry_rules.specs.Entries.{in_track, handler_rule, scale_rule, track_rule, entry_rule}
 use Rattle.entry_rules.proofs.Speech.{Spoken, speech_is}
+use Rattle.std.specs.Prelude.{Some}
 use Rattle.entry_records.specs.declared.field.Record.TheVariants.{Speech}
 use Rattle.entry_records.specs.Fields.{amr_rule}
 use Rattle.entry_records.specs.Texts.{amr_text}
@@ -99,5 +100,5 @@ module _ (m : ℕ) where
     entries_fine_lem = rw (one_entry_lem k m, entry_bytes k m, entry_rule_lem)
 
     -- it reads back as the record with these modes
-    pub entry_reads : read_of Release6 (entry_text k m) ≡ Speech (entry_by k m)
+    pub entry_reads : read_of Release6 (entry_text k m) ≡ Some (Speech (entry_by k m))
     entry_reads = written_reads Release6 (Speech (entry_by k m)) (fields_rule k f)

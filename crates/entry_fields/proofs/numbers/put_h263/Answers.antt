@@ -1,12 +1,12 @@
 -- `numbers::put_h263` meets its contract. Assumes nothing.
 use Rattle.rule.proofs.Results.{exact_short}
-use Rattle.entry_fields.proofs.Answering.{put_fits}
+use Rattle.entry_fields.proofs.Answering.{put_fits, rates_length}
 use lib.ListN.{length-set}
 use native.Mathlib.Omega.{arith}
 use Rattle.entry_fields.proofs.numbers.put_h263.Goals as goal
 
 pub returns-then-out-lt11 : goal.returns-then-out-lt11
-returns-then-out-lt11 c = exact_short _ _ (omega arith)
+returns-then-out-lt11 c = exact_short _ _ (omega (arith, rates_length c.args.f.rates))
 
 pub bounds-out-1 : goal.bounds-out-1
 bounds-out-1 c = simp length-set (omega arith)
@@ -38,5 +38,8 @@ bounds-out-9 c = simp length-set (omega arith)
 pub bounds-out-10 : goal.bounds-out-10
 bounds-out-10 c = simp length-set (omega arith)
 
-pub returns : goal.returns
-returns c = put_fits _ _ (omega arith)
+pub returns-in-Some : goal.returns-in-Some
+returns-in-Some c = rw c.in-Some.is (put_fits _ _ (omega arith))
+
+pub returns-in-None : goal.returns-in-None
+returns-in-None c = rw c.in-None.is (put_fits _ _ (omega arith))
