@@ -1,12 +1,11 @@
 -- How the two calls keep their promises. Assumes nothing.
-use Prim.Native.Nat.{ℕ, ◌+◌, ◌≤◌}
+use Prim.Native.Nat.{ℕ, ◌≤◌}
 use native.Mathlib.Omega.{arith}
 use mathlib.Core.Path.{◌≡◌, refl, sym, ap, ◌∙◌}
 use mathlib.Core.Bool.{Bool, true, false}
 use mathlib.Core.List.{List, [], ◌∷◌, ◌++◌}
 use lib.Dec.{ltb}
-use lib.ListN.{length, drop}
-use lib.Seq.{sets, sets-eq}
+use lib.ListN.{length, get_or, drop}
 use Rattle.wire.specs.Tests.{pick, if_lt}
 use Rattle.release.specs.declared.Release.{Release}
 use Rattle.entry_records.specs.declared.field.Rates.{Rates}
@@ -27,13 +26,20 @@ use Rattle.entry_fields.specs.Numbers.{record_of, read_result, record_result, wr
 
 -- ---- numbers into a list
 
-pub put_fits : (ns out : List ℕ) → length ns ≤ length out → Exact (gives ns) out (Done (length ns)) (sets out 0 ns)
-put_fits ns out h = let z : 0 + length ns ≡ length ns = omega arith in exact_wrote ns out h (record { span = refl; is = rw z at (sets-eq ns out 0 (omega arith)) })
+-- as many of them as its length, at the front
+pub front_fits : (ns out : List ℕ) {n : ℕ} → n ≡ length ns → n ≤ length out → {xs : List ℕ} → xs ≡ ns → Exact (gives ns) out (Done n) (xs ++ drop n out)
+front_fits ns out {n} e h q = exact_wrote ns out (omega arith) (record { span = e; is = ap (λ (ys : List ℕ). ys ++ drop n out) q })
 
 -- three of them are of the rates
 pub rates_length : (o : Option Rates) → length (rates_of o) ≡ 3
 rates_length (Some r) = refl
 rates_length None = refl
+
+-- read one by one, behind eight others
+pub rates_last : (a b c d e f g h : ℕ) (o : Option Rates) {xs : List ℕ} → xs ≡ rates_of o
+    → a ∷ b ∷ c ∷ d ∷ e ∷ f ∷ g ∷ h ∷ get_or xs 0 0 ∷ get_or xs 1 0 ∷ get_or xs 2 0 ∷ [] ≡ a ∷ b ∷ c ∷ d ∷ e ∷ f ∷ g ∷ h ∷ rates_of o
+rates_last a b c d e f g h (Some r) q = rw q
+rates_last a b c d e f g h None q = rw q
 
 -- ---- the reader
 

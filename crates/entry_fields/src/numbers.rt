@@ -3,7 +3,7 @@
 
 ghost use Rattle.std.specs.Prelude.{◌≤◌, ◌≡◌, length};
 ghost use Rattle.entry_records.specs.declared.field.Record.TheVariants.{Speech, Picture};
-ghost use Rattle.entry_records.specs.Records.{fields_of};
+ghost use Rattle.entry_records.specs.Records.{rates_of, fields_of};
 ghost use Rattle.rule.specs.Results.{Exact};
 ghost use Rattle.rule.specs.Results.Result.{gives};
 ghost use Rattle.entry_fields.specs.Numbers.{amr_of, h263_of, picture_of, record_of};
@@ -19,15 +19,27 @@ pub fn put_amr(f: Amr, out: &mut [u64]) -> Answer
     if out.len() < 8 {
         return Answer::Refused(25, 0);
     }
-    out[0] = f.kind as u64;
-    out[1] = f.reference as u64;
-    out[2] = f.scale as u64;
-    out[3] = f.vendor as u64;
-    out[4] = f.version as u64;
-    out[5] = f.modes as u64;
-    out[6] = f.period as u64;
-    out[7] = f.frames as u64;
+    out[..8].copy_from_slice(&[
+        f.kind as u64,
+        f.reference as u64,
+        f.scale as u64,
+        f.vendor as u64,
+        f.version as u64,
+        f.modes as u64,
+        f.period as u64,
+        f.frames as u64,
+    ]);
     Answer::Done(8)
+}
+
+// 1 and the rates of a `bitr`, or three times 0 where none follows.
+fn rates_of(rates: Option<Rates>) -> [u64; 3]
+    ensures { result ≡ rates_of rates }
+{
+    match rates {
+        Some(r) => [1, r.average as u64, r.maximum as u64],
+        None => [0, 0, 0],
+    }
 }
 
 // The eleven fields of an `s263`.
@@ -37,28 +49,21 @@ pub fn put_h263(f: H263, out: &mut [u64]) -> Answer
     if out.len() < 11 {
         return Answer::Refused(25, 0);
     }
-    out[0] = kind::S263 as u64;
-    out[1] = f.reference as u64;
-    out[2] = f.width as u64;
-    out[3] = f.height as u64;
-    out[4] = f.vendor as u64;
-    out[5] = f.version as u64;
-    out[6] = f.level as u64;
-    out[7] = f.profile as u64;
-    match f.rates {
-        Some(rates) => {
-            out[8] = 1;
-            out[9] = rates.average as u64;
-            out[10] = rates.maximum as u64;
-            Answer::Done(11)
-        }
-        None => {
-            out[8] = 0;
-            out[9] = 0;
-            out[10] = 0;
-            Answer::Done(11)
-        }
-    }
+    let rates = rates_of(f.rates);
+    out[..11].copy_from_slice(&[
+        kind::S263 as u64,
+        f.reference as u64,
+        f.width as u64,
+        f.height as u64,
+        f.vendor as u64,
+        f.version as u64,
+        f.level as u64,
+        f.profile as u64,
+        rates[0],
+        rates[1],
+        rates[2],
+    ]);
+    Answer::Done(11)
 }
 
 // The fields of a `samr` or `sawb` in eight numbers.

@@ -109,16 +109,18 @@ fn put(e: Esds, out: &mut [u64]) -> Answer
         return Answer::Refused(25, 0);
     }
     let v = e.values;
-    out[0] = v.kind as u64;
-    out[1] = v.number as u64;
-    out[2] = v.object as u64;
-    out[3] = v.stream as u64;
-    out[4] = v.buffer as u64;
-    out[5] = v.maximum as u64;
-    out[6] = v.average as u64;
-    out[7] = v.specific as u64;
-    out[8] = e.place as u64;
-    out[9] = e.span as u64;
+    out[..10].copy_from_slice(&[
+        v.kind as u64,
+        v.number as u64,
+        v.object as u64,
+        v.stream as u64,
+        v.buffer as u64,
+        v.maximum as u64,
+        v.average as u64,
+        v.specific as u64,
+        e.place as u64,
+        e.span as u64,
+    ]);
     Answer::Done(10)
 }
 

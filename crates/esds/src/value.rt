@@ -11,6 +11,7 @@ use entry_heads::kind;
 use wire::{number, test};
 
 // The kind of the entry, the ES number, what the decoder configuration says, and 1 where specific information is there, else 0.
+// That stays a number: it is one of the eight that are given, and `specific_rule` refuses any other (50).
 #[derive(Clone, Copy, Debug, PartialEq, Eq)]
 pub struct Values {
     pub kind: usize,
