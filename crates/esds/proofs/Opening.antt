@@ -6,6 +6,7 @@ use mathlib.Core.Bool.{Bool, true, false, not}
 use mathlib.Core.List.{List, [], ◌∷◌}
 use lib.ListN.{length}
 use Rattle.wire.specs.Tests.{pick, if_eq}
+use Rattle.wire.proofs.Tests.{eq_yea, eq_nay}
 use Rattle.wire.specs.Clauses.{is_eq}
 use Rattle.wire.proofs.Clauses.{is_eq_lem, not_eq}
 use Rattle.descriptors.specs.declared.list.Reading.{Reading}
@@ -44,17 +45,26 @@ module _ (xs held : List ℕ) (a : tree (holding TOP) held ≡ first_held (tree 
     unfolding holding if_eq specific
     in_configuration = b ∙ ap first_held in_es
 
-    pub esds_read : (kind p : ℕ) {es own info : List ℕ} {h h1 h2 g at n : ℕ} {v : Values} → ((k : ℕ) → h ≡ first_head (tree k xs)) → ((k : ℕ) → h1 ≡ first_head (tree k held))
-        → ((k : ℕ) → h2 ≡ first_head (tree k inner)) → g ≡ if_eq h2 0 0 1 → es ≡ first_own (tree TOP xs) → own ≡ first_own (tree ES held)
-        → v ≡ values_by kind es own g → at ≡ if_eq g 0 0 (p + h + 3 + h1 + 13 + h2) → info ≡ first_own (tree CONFIGURATION inner) → n ≡ if_eq g 0 0 (length info)
-        → record { values = v; place = at; span = n } ≡ esds_in kind p (tree TOP xs)
-    unfolding esds_in values_in given specific_at fixed_of if_eq
-    esds_read kind p {info = info} {h = h} {h1 = h1} {h2 = h2} {g = g} i j l c q r v w u m =
-        let x : h2 ≡ first_head (specific (tree TOP xs)) = l CONFIGURATION ∙ ap first_head in_configuration in
-        let y : g ≡ given (tree TOP xs) = c ∙ rw x in
-        let z : p + h + 3 + h1 + 13 + h2 ≡ p + specific_at (tree TOP xs) = omega (arith, i TOP, j ES, ap first_head in_es, x) in
-        let o : info ≡ first_own (specific (tree TOP xs)) = u ∙ ap first_own in_configuration in
-        rw (v, w, m, q, r, y, z, o, configuration_is)
+    module _ (kind p : ℕ) {es own : List ℕ} {head : ℕ} (l : (k : ℕ) → head ≡ first_head (tree k inner)) (q : es ≡ first_own (tree TOP xs)) (r : own ≡ first_own (tree ES held)) where
+      head_is : head ≡ first_head (specific (tree TOP xs))
+      head_is = l CONFIGURATION ∙ ap first_head in_configuration
+
+      -- it holds none
+      pub esds_plain : {v : Values} → head ≡ 0 → v ≡ values_by kind es own 0 → record { values = v; place = 0; span = 0 } ≡ esds_in kind p (tree TOP xs)
+      unfolding esds_in values_in given if_eq
+      esds_plain z u =
+          let y : given (tree TOP xs) ≡ 0 = sym (eq_yea _ _ _ _ _ (sym head_is ∙ z) refl) in
+          rw (u, q, r, configuration_is, y)
+
+      -- it holds the specific information
+      pub esds_given : {v : Values} → (head ≡ 0 → ⊥) → v ≡ values_by kind es own 1 → {h h1 : ℕ} {info : List ℕ} → ((k : ℕ) → h ≡ first_head (tree k xs)) → ((k : ℕ) → h1 ≡ first_head (tree k held))
+          → info ≡ first_own (tree CONFIGURATION inner) → record { values = v; place = p + h + 3 + h1 + 13 + head; span = length info } ≡ esds_in kind p (tree TOP xs)
+      unfolding esds_in values_in given specific_at fixed_of if_eq
+      esds_given n u {h = h} {h1 = h1} {info = info} i j w =
+          let y : 1 ≡ given (tree TOP xs) = eq_nay _ _ _ _ _ (λ z. n (head_is ∙ z)) refl in
+          let z : p + h + 3 + h1 + 13 + head ≡ p + specific_at (tree TOP xs) = omega (arith, i TOP, j ES, ap first_head in_es, head_is) in
+          let o : info ≡ first_own (specific (tree TOP xs)) = w ∙ ap first_own in_configuration in
+          rw (u, q, r, z, o, configuration_is, ← y)
 
 -- ---- the answer
 

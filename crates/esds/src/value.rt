@@ -8,7 +8,7 @@ ghost use Rattle.esds.specs.Values.{values_by, esds_in, has_esds, kind_rule, fix
 
 use descriptors::{first, part};
 use entry_heads::kind;
-use wire::{number, test};
+use wire::number;
 
 // The kind of the entry, the ES number, what the decoder configuration says, and 1 where specific information is there, else 0.
 // That stays a number: it is one of the eight that are given, and `specific_rule` refuses any other (50).
@@ -83,19 +83,21 @@ pub fn read(bytes: &[u8], kind: usize, place: usize) -> Esds
     ensures { result ≡ esds_in kind place (tree TOP bytes.now) }
 {
     let held = first::held(bytes, part::TOP);
+    let es = first::own(bytes, part::TOP);
+    let own = first::own(held, part::ES);
     let specific = first::held(held, part::ES);
     let head = first::head(specific);
-    let at = place + first::head(bytes) + 3 + first::head(held) + 13 + head;
-    let given = test::choose(head, 0, 0, 1);
+    if head == 0 {
+        return Esds {
+            values: values_by(kind, es, own, 0),
+            place: 0,
+            span: 0,
+        };
+    }
     Esds {
-        values: values_by(
-            kind,
-            first::own(bytes, part::TOP),
-            first::own(held, part::ES),
-            given,
-        ),
-        place: test::choose(given, 0, 0, at),
-        span: test::choose(given, 0, 0, first::own(specific, part::CONFIGURATION).len()),
+        values: values_by(kind, es, own, 1),
+        place: place + first::head(bytes) + 3 + first::head(held) + 13 + head,
+        span: first::own(specific, part::CONFIGURATION).len(),
     }
 }
 
