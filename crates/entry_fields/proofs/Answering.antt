@@ -16,7 +16,7 @@ use Rattle.entry_records.specs.declared.record.WriteError.{WriteError}
 use Rattle.entry_records.specs.declared.record.WriteError.TheVariants.{BadFields, TooShort}
 use Rattle.entry_records.specs.Fields.{fields_rule}
 use Rattle.entry_records.specs.Texts.{text_of}
-use Rattle.entry_records.specs.Records.{rates_of, fields_of, written_number, written_value, read_of, written_of, out_of}
+use Rattle.entry_records.specs.Records.{rate_numbers, fields_of, written_number, written_value, read_of, written_of, out_of}
 use Rattle.rule.specs.declared.Answer.{Answer}
 use Rattle.rule.specs.declared.Answer.TheVariants.{Done, Refused}
 use Rattle.rule.specs.Results.{asked, answer_in, left_in, Exact}
@@ -31,13 +31,13 @@ pub front_fits : (ns out : List ℕ) {n : ℕ} → n ≡ length ns → n ≤ len
 front_fits ns out {n} e h q = exact_wrote ns out (omega arith) (record { span = e; is = ap (λ (ys : List ℕ). ys ++ drop n out) q })
 
 -- three of them are of the rates
-pub rates_length : (o : Option Rates) → length (rates_of o) ≡ 3
+pub rates_length : (o : Option Rates) → length (rate_numbers o) ≡ 3
 rates_length (Some r) = refl
 rates_length None = refl
 
 -- read one by one, behind eight others
-pub rates_last : (a b c d e f g h : ℕ) (o : Option Rates) {xs : List ℕ} → xs ≡ rates_of o
-    → a ∷ b ∷ c ∷ d ∷ e ∷ f ∷ g ∷ h ∷ get_or xs 0 0 ∷ get_or xs 1 0 ∷ get_or xs 2 0 ∷ [] ≡ a ∷ b ∷ c ∷ d ∷ e ∷ f ∷ g ∷ h ∷ rates_of o
+pub rates_last : (a b c d e f g h : ℕ) (o : Option Rates) {xs : List ℕ} → xs ≡ rate_numbers o
+    → a ∷ b ∷ c ∷ d ∷ e ∷ f ∷ g ∷ h ∷ get_or xs 0 0 ∷ get_or xs 1 0 ∷ get_or xs 2 0 ∷ [] ≡ a ∷ b ∷ c ∷ d ∷ e ∷ f ∷ g ∷ h ∷ rate_numbers o
 rates_last a b c d e f g h (Some r) q = rw q
 rates_last a b c d e f g h None q = rw q
 

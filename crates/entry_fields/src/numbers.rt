@@ -3,7 +3,7 @@
 
 ghost use Rattle.std.specs.Prelude.{◌≤◌, ◌≡◌, length};
 ghost use Rattle.entry_records.specs.declared.field.Record.TheVariants.{Speech, Picture};
-ghost use Rattle.entry_records.specs.Records.{rates_of, fields_of};
+ghost use Rattle.entry_records.specs.Records.{rate_numbers, fields_of};
 ghost use Rattle.rule.specs.Results.{Exact};
 ghost use Rattle.rule.specs.Results.Result.{gives};
 ghost use Rattle.entry_fields.specs.Numbers.{amr_of, h263_of, picture_of, record_of};
@@ -33,8 +33,8 @@ pub fn put_amr(f: Amr, out: &mut [u64]) -> Answer
 }
 
 // 1 and the rates of a `bitr`, or three times 0 where none follows.
-fn rates_of(rates: Option<Rates>) -> [u64; 3]
-    ensures { result ≡ rates_of rates }
+fn rate_numbers(rates: Option<Rates>) -> [u64; 3]
+    ensures { result ≡ rate_numbers rates }
 {
     match rates {
         Some(r) => [1, r.average as u64, r.maximum as u64],
@@ -49,7 +49,7 @@ pub fn put_h263(f: H263, out: &mut [u64]) -> Answer
     if out.len() < 11 {
         return Answer::Refused(25, 0);
     }
-    let rates = rates_of(f.rates);
+    let rates = rate_numbers(f.rates);
     out[..11].copy_from_slice(&[
         kind::S263 as u64,
         f.reference as u64,

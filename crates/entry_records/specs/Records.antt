@@ -16,16 +16,16 @@ use Rattle.entry_records.specs.Texts.{text_of}
 -- ---- the answers, in the paper's numbers and values
 
 -- 1 and the rates where a `bitr` follows; where none does, three times 0
-abbrev pub rates_of : Option Rates → List ℕ
-rates_of (Some r) = 1 ∷ r.average ∷ r.maximum ∷ []
-rates_of None = 0 ∷ 0 ∷ 0 ∷ []
+abbrev pub rate_numbers : Option Rates → List ℕ
+rate_numbers (Some r) = 1 ∷ r.average ∷ r.maximum ∷ []
+rate_numbers None = 0 ∷ 0 ∷ 0 ∷ []
 
 -- the fields in order, kind first
 abbrev pub fields_of : Record → List ℕ
 fields_of (Speech f) = f.kind ∷ f.reference ∷ f.scale ∷ f.vendor ∷ f.version ∷ f.modes ∷ f.period ∷ f.frames ∷ []
 fields_of (Picture f) =
     S263Kind ∷ f.reference ∷ f.width ∷ f.height ∷ f.vendor ∷ f.version ∷ f.level ∷ f.profile
-    ∷ rates_of f.rates
+    ∷ rate_numbers f.rates
 
 -- 0, or the refusal
 abbrev pub read_number : Option Record → ℕ

@@ -13,4 +13,4 @@ returns-then-out-lt11 c = exact_short _ _ (omega (arith, rates_length c.args.f.r
 pub returns : goal.returns
 returns c =
     let n = rates_length c.args.f.rates in
-    front_fits (fields_of (Picture c.args.f)) c.args.out.now (omega arith) (omega arith) (c.copy_from_slice.ensures.after ∙ rates_last _ _ _ _ _ _ _ _ c.args.f.rates c.rates_of-rates.ensures)
+    front_fits (fields_of (Picture c.args.f)) c.args.out.now (omega arith) (omega arith) (c.copy_from_slice.ensures.after ∙ rates_last _ _ _ _ _ _ _ _ c.args.f.rates c.rate_numbers-rates.ensures)
