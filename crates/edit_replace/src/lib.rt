@@ -51,7 +51,7 @@ fn replace_entry(file: &[u8], b: BoxAt, p: Place, new: &[u8], out: &mut [u8]) ->
     if record::takes(kind, new) == 0 {
         return Answer::Refused(20, 0);
     }
-    if decoder::record_rule(kind, release::of_file(file), new) == 0 {
+    if !decoder::record_rule(kind, release::of_file(file), new) {
         return Answer::Refused(21, 0);
     }
     if judge::editable(file) == 0 {

@@ -2,11 +2,11 @@
 #![tactic(auto)]
 
 ghost use Rattle.rule.specs.Results.{Exact};
-ghost use Rattle.entry_fields.specs.Numbers.{read_result, write_result};
+ghost use Rattle.entry_fields.specs.Numbers.{read_result, record_result, write_result};
 
 use entry_records::field::Record;
 use entry_records::record;
-use entry_records::record::Written;
+use entry_records::record::WriteError;
 use release::Release;
 use rule::Answer;
 
@@ -17,9 +17,20 @@ pub fn read(entry: &[u8], release: Release, out: &mut [u64]) -> Answer
     ensures { Exact (read_result release entry.now) out.old result out.new }
 {
     match record::read(entry, release) {
-        Record::Speech(f) => numbers::put_amr(f, out),
-        Record::Picture(f) => numbers::put_h263(f, out),
-        Record::Broken => Answer::Refused(21, 0),
+        Some(Record::Speech(f)) => numbers::put_amr(f, out),
+        Some(Record::Picture(f)) => numbers::put_h263(f, out),
+        None => Answer::Refused(21, 0),
+    }
+}
+
+// Writes the entry of a record, of a release.
+fn write_record(fields: Record, release: Release, out: &mut [u8]) -> Answer
+    ensures { Exact (record_result release fields) out.old result out.new }
+{
+    match record::write(fields, release, out) {
+        Ok(n) => Answer::Done(n),
+        Err(WriteError::BadFields) => Answer::Refused(21, 0),
+        Err(WriteError::TooShort) => Answer::Refused(25, 0),
     }
 }
 
@@ -27,9 +38,8 @@ pub fn read(entry: &[u8], release: Release, out: &mut [u64]) -> Answer
 pub fn write(fields: &[u64], release: Release, out: &mut [u8]) -> Answer
     ensures { Exact (write_result release fields.now) out.old result out.new }
 {
-    match record::write(numbers::record_of(fields), release, out) {
-        Written::Done(n) => Answer::Done(n),
-        Written::BadFields => Answer::Refused(21, 0),
-        Written::TooShort => Answer::Refused(25, 0),
+    match numbers::record_of(fields) {
+        Some(f) => write_record(f, release, out),
+        None => Answer::Refused(21, 0),
     }
 }

@@ -4,10 +4,9 @@ use native.Mathlib.Omega.{arith}
 use mathlib.Core.Path.{◌≡◌, refl, sym, ap, ◌∙◌}
 use mathlib.Core.List.{List, []}
 use lib.ListN.{length, take, drop, drop_of_length-le}
-use Rattle.wire.specs.Clauses.{one_if}
 use Rattle.wire.specs.Numbers.{word}
 use Rattle.wire.proofs.Tests.{eq_yea, eq_nay, eq_any}
-use Rattle.wire.proofs.Clauses.{was_yea, was_nay}
+use mathlib.Core.Bool.{Bool, true, false}
 use Rattle.codes.specs.Codes.{SOUN, VIDE}
 use Rattle.entry_heads.specs.Kinds.{kind_of, handler_of}
 use Rattle.entry_heads.specs.Heads.{VISUAL, head_size}
@@ -39,18 +38,18 @@ head_most kind e =
 
 -- ---- an entry
 
-module _ (p : ℕ) (xs : List ℕ) {w kind o : ℕ} (c : w ≡ word 4 xs 4) (k : kind ≡ kind_of w) (h : o ≡ one_if (has_esds kind)) where
+module _ (p : ℕ) (xs : List ℕ) {w kind : ℕ} {o : Bool} (c : w ≡ word 4 xs 4) (k : kind ≡ kind_of w) (h : o ≡ has_esds kind) where
   kind_is : kind_of (word 4 xs 4) ≡ kind
   kind_is = rw (← c) (sym k)
 
-  pub other_kind : o ≡ 0 → refuses 20 0 ≡ opened_as (kind_of (word 4 xs 4)) p xs
+  pub other_kind : o ≡ false → refuses 20 0 ≡ opened_as (kind_of (word 4 xs 4)) p xs
   unfolding opened_as asked
-  other_kind z = rw (kind_is, was_nay _ _ z h)
+  other_kind z = rw (kind_is, sym h ∙ z)
 
-  pub this_kind : (o ≡ 0 → ⊥) → {n : ℕ} {ys : List ℕ} {r : Result} → n ≡ head_size kind → ys ≡ drop (n + BEFORE) xs
+  pub this_kind : o ≡ true → {n : ℕ} {ys : List ℕ} {r : Result} → n ≡ head_size kind → ys ≡ drop (n + BEFORE) xs
       → r ≡ tree_result kind (p + (n + BEFORE)) (tree TOP ys) → r ≡ opened_as (kind_of (word 4 xs 4)) p xs
   unfolding opened_as asked
-  this_kind z e q f = rw (kind_is, was_yea _ _ z h, ← e, ← q) f
+  this_kind z e q f = rw (kind_is, sym h ∙ z, ← e, ← q) f
 
 -- ---- by its number
 

@@ -42,11 +42,11 @@ fn open_tree(bytes: &[u8], kind: usize, place: usize) -> Opened
     ensures { opened_result result ≡ tree_result kind place (tree TOP bytes.now) }
 {
     let start = Reading {
-        fits: 1,
+        fits: true,
         last: part::TOP,
     };
     let r = list::read(bytes, part::TOP, start);
-    if r.fits == 0 {
+    if !r.fits {
         return Opened::Refused(50, 0);
     }
     if r.last != part::SL {
@@ -54,7 +54,7 @@ fn open_tree(bytes: &[u8], kind: usize, place: usize) -> Opened
     }
     let e = value::read(bytes, kind, place);
     let v = e.values;
-    if value::fixed(bytes, v) == 0 {
+    if !value::fixed(bytes, v) {
         return Opened::Refused(52, 0);
     }
     Opened::Found(e)
@@ -66,7 +66,7 @@ fn open_entry(entry: &[u8], place: usize) -> Opened
     ensures { opened_result result ≡ opened_as (kind_of (word 4 entry.now 4)) place entry.now }
 {
     let kind = kind::of_code(number::word32(entry, 4));
-    if value::has_esds(kind) == 0 {
+    if !value::has_esds(kind) {
         return Opened::Refused(20, 0);
     }
     let before = head::size(kind) + BEFORE;
@@ -109,16 +109,18 @@ fn put(e: Esds, out: &mut [u64]) -> Answer
         return Answer::Refused(25, 0);
     }
     let v = e.values;
-    out[0] = v.kind as u64;
-    out[1] = v.number as u64;
-    out[2] = v.object as u64;
-    out[3] = v.stream as u64;
-    out[4] = v.buffer as u64;
-    out[5] = v.maximum as u64;
-    out[6] = v.average as u64;
-    out[7] = v.specific as u64;
-    out[8] = e.place as u64;
-    out[9] = e.span as u64;
+    out[..10].copy_from_slice(&[
+        v.kind as u64,
+        v.number as u64,
+        v.object as u64,
+        v.stream as u64,
+        v.buffer as u64,
+        v.maximum as u64,
+        v.average as u64,
+        v.specific as u64,
+        e.place as u64,
+        e.span as u64,
+    ]);
     Answer::Done(10)
 }
 
@@ -163,10 +165,10 @@ fn values_of(fields: &[u64]) -> Values
 fn write_values(v: Values, specific: &[u8], out: &mut [u8]) -> Answer
     ensures { Exact (asked ((50, values_rule v specific.now) ∷ (52, kind_rule v) ∷ []) (gives (esds_text v specific.now))) out.old result out.new }
 {
-    if text::values_rule(v, specific) == 0 {
+    if !text::values_rule(v, specific) {
         return Answer::Refused(50, 0);
     }
-    if value::kind_rule(v) == 0 {
+    if !value::kind_rule(v) {
         return Answer::Refused(52, 0);
     }
     let z = text::measure(v, specific);
@@ -184,7 +186,7 @@ pub fn write(fields: &[u64], specific: &[u8], out: &mut [u8]) -> Answer
         return Answer::Refused(20, 0);
     }
     let v = values_of(fields);
-    if value::has_esds(v.kind) == 0 {
+    if !value::has_esds(v.kind) {
         return Answer::Refused(20, 0);
     }
     write_values(v, specific, out)

@@ -8,7 +8,7 @@ use wire::{lend, number};
 pub fn show(rt: HostRuntime, case: &[u8]) {
     let case = named::read(case);
     let entry = lend::rest(case.body, 12);
-    let track = Around::Track {
+    let track = Around {
         scale: number::word32(case.body, 0),
         handler: number::word32(case.body, 4),
         references: number::word32(case.body, 8),
@@ -17,17 +17,17 @@ pub fn show(rt: HostRuntime, case: &[u8]) {
     print::say(
         rt,
         b": track ",
-        entry::entry_rule(entry, track, Release::Release6),
+        usize::from(entry::entry_rule(entry, Some(track), Release::Release6)),
     );
     print::say(
         rt,
         b" alone ",
-        entry::entry_rule(entry, Around::Alone, Release::Release6),
+        usize::from(entry::entry_rule(entry, None, Release::Release6)),
     );
     print::say(
         rt,
         b" wider ",
-        entry::entry_rule(entry, Around::Alone, Release::Release4),
+        usize::from(entry::entry_rule(entry, None, Release::Release4)),
     );
     print::line(rt);
 }

@@ -13,12 +13,12 @@ pub fn show(rt: HostRuntime, case: &[u8]) {
     print::say(
         rt,
         b": ",
-        decoder::record_rule(kind, Release::Release6, record),
+        usize::from(decoder::record_rule(kind, Release::Release6, record)),
     );
     print::say(
         rt,
         b" wider ",
-        decoder::record_rule(kind, Release::Release4, record),
+        usize::from(decoder::record_rule(kind, Release::Release4, record)),
     );
     print::line(rt);
 }
