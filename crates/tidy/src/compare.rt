@@ -15,7 +15,7 @@ pub struct Clocked<'a> {
     pub minutes: i64,
 }
 
-// A time of a clock in universal time. A stored 0 is no time, whatever the zone makes of it.
+// A time of a clock in universal time: no time and no zone is so far that their sum is cut. A stored 0 is no time, whatever the zone makes of it.
 #[derive(Clone, Copy)]
 struct Universal {
     time: usize,

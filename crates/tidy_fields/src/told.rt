@@ -8,7 +8,7 @@ use tidy_words::line::Hex;
 impl Display for Record {
     fn fmt<W: Write>(&self, f: &mut fmt::Formatter<W>) -> fmt::Result {
         let kind = self.kind();
-        write!(f, "kind={kind}\n")?;
+        writeln!(f, "kind={kind}")?;
         for (place, (name, n)) in kind
             .names()
             .iter()
@@ -18,18 +18,16 @@ impl Display for Record {
         {
             if kind.is_hex(place) {
                 let n = Hex(*n);
-                write!(f, "{name}={n}\n")?;
+                writeln!(f, "{name}={n}")?;
             } else {
-                write!(f, "{name}={n}\n")?;
+                writeln!(f, "{name}={n}")?;
             }
         }
-        if kind != Kind::S263 {
-            return Ok(());
-        }
         // Only pictures have rates.
-        match self.rates() {
-            Some((average, maximum)) => write!(f, "rates={average},{maximum}\n"),
-            None => write!(f, "rates=none\n"),
+        match (kind, self.rates()) {
+            (Kind::S263, Some((average, maximum))) => writeln!(f, "rates={average},{maximum}"),
+            (Kind::S263, None) => writeln!(f, "rates=none"),
+            _ => Ok(()),
         }
     }
 }

@@ -31,7 +31,7 @@ pub fn read_all<R: Read>(input: &mut R, buffer: &mut [u8]) -> io::Result<usize>
 }
 
 // The same, and a read that fails is told.
-pub fn read_told<'a, R: Read>(
+fn read_told<'a, R: Read>(
     rt: HostRuntime,
     input: &mut R,
     name: &[u8],
