@@ -19,11 +19,11 @@ use Rattle.entry_records.specs.Texts.{text_of}
 use Rattle.entry_records.specs.Records.{fields_of, read_of}
 use Rattle.entry_records.proofs.Reading.{written_reads}
 use Rattle.entry_records.proofs.Rewriting.{read_writes}
-use Rattle.rule.specs.declared.Answer.TheVariants.{Done}
-use Rattle.rule.specs.Results.{Result, asked, answer_in, left_in}
-use Rattle.rule.specs.Results.Result.{gives}
+use Rattle.rule.specs.Results.{ToWrite, asked, answer_in, left_in}
+use Rattle.rule.specs.Results.ToWrite.{gives}
 use Rattle.rule.proofs.Results.{asked_gave}
 use Rattle.entry_fields.specs.Numbers.{record_of, is_record, read_result, write_result}
+use Rattle.rule.specs.Answers.{Done}
 
 -- ---- records and their numbers
 
@@ -72,7 +72,7 @@ rule_some : (release : Release) (r : Record) → fields_rule release r ≡ true 
 rule_some release r e g = false≢true (sym (ap (fields_rule release) g) ∙ e)
 
 -- a test that holds says nothing
-holding : (n : ℕ) (t : Bool) (g : Result) → t ≡ true → asked ((n, t) ∷ []) g ≡ g
+holding : (n : ℕ) (t : Bool) (g : ToWrite) → t ≡ true → asked ((n, t) ∷ []) g ≡ g
 unfolding asked
 holding n t g e = rw e
 

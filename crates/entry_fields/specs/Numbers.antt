@@ -12,8 +12,8 @@ use Rattle.entry_records.specs.declared.record.Written.TheVariants.{BadFields}
 use Rattle.entry_records.specs.Fields.{fields_rule}
 use Rattle.entry_records.specs.Texts.{text_of}
 use Rattle.entry_records.specs.Records.{fields_of, read_number, written_number, read_of}
-use Rattle.rule.specs.Results.{Result, asked}
-use Rattle.rule.specs.Results.Result.{gives}
+use Rattle.rule.specs.Results.{ToWrite, asked}
+use Rattle.rule.specs.Results.ToWrite.{gives}
 
 -- ---- the record of numbers
 
@@ -64,9 +64,9 @@ is_record (Picture f) = true
 is_record Broken = false
 
 -- the fields of an entry of a release: 21, 25
-unfoldable pub read_result : Release → List ℕ → Result
+unfoldable pub read_result : Release → List ℕ → ToWrite
 read_result release xs = asked ((read_number Broken, is_record (read_of release xs)) ∷ []) (gives (fields_of (read_of release xs)))
 
 -- the entry of fields, of a release: 21, 25
-unfoldable pub write_result : Release → List ℕ → Result
+unfoldable pub write_result : Release → List ℕ → ToWrite
 write_result release ns = asked ((written_number BadFields, fields_rule release (record_of ns)) ∷ []) (gives (text_of (record_of ns)))

@@ -8,7 +8,7 @@ use entry_records::field::Record;
 use entry_records::record;
 use entry_records::record::Written;
 use release::Release;
-use rule::Answer;
+use rule::{Answer, refusals};
 
 mod numbers;
 
@@ -19,7 +19,7 @@ pub fn read(entry: &[u8], release: Release, out: &mut [u64]) -> Answer
     match record::read(entry, release) {
         Record::Speech(f) => numbers::put_amr(f, out),
         Record::Picture(f) => numbers::put_h263(f, out),
-        Record::Broken => Answer::Refused(21, 0),
+        Record::Broken => Err(refusals::BAD_RECORD),
     }
 }
 
@@ -28,8 +28,8 @@ pub fn write(fields: &[u64], release: Release, out: &mut [u8]) -> Answer
     ensures { Exact (write_result release fields.now) out.old result out.new }
 {
     match record::write(numbers::record_of(fields), release, out) {
-        Written::Done(n) => Answer::Done(n),
-        Written::BadFields => Answer::Refused(21, 0),
-        Written::TooShort => Answer::Refused(25, 0),
+        Written::Done(n) => Ok(n),
+        Written::BadFields => Err(refusals::BAD_RECORD),
+        Written::TooShort => Err(refusals::NO_ROOM),
     }
 }

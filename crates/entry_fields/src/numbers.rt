@@ -3,19 +3,19 @@ ghost use Rattle.std.specs.Prelude.{◌≤◌, ◌≡◌, length};
 ghost use Rattle.entry_records.specs.declared.field.Record.TheVariants.{Speech, Picture};
 ghost use Rattle.entry_records.specs.Records.{fields_of};
 ghost use Rattle.rule.specs.Results.{Exact};
-ghost use Rattle.rule.specs.Results.Result.{gives};
+ghost use Rattle.rule.specs.Results.ToWrite.{gives};
 ghost use Rattle.entry_fields.specs.Numbers.{amr_of, rates_of, h263_of, record_of};
 
 use entry_heads::kind;
 use entry_records::field::{Amr, H263, Rates, Record};
-use rule::Answer;
+use rule::{Answer, refusals};
 
 // The eight fields of a `samr` or `sawb`.
 pub fn put_amr(f: Amr, out: &mut [u64]) -> Answer
     ensures { Exact (gives (fields_of (Speech f))) out.old result out.new }
 {
     if out.len() < 8 {
-        return Answer::Refused(25, 0);
+        return Err(refusals::NO_ROOM);
     }
     out[0] = f.kind as u64;
     out[1] = f.reference as u64;
@@ -25,7 +25,7 @@ pub fn put_amr(f: Amr, out: &mut [u64]) -> Answer
     out[5] = f.modes as u64;
     out[6] = f.period as u64;
     out[7] = f.frames as u64;
-    Answer::Done(8)
+    Ok(8)
 }
 
 // The eleven fields of an `s263`.
@@ -33,7 +33,7 @@ pub fn put_h263(f: H263, out: &mut [u64]) -> Answer
     ensures { Exact (gives (fields_of (Picture f))) out.old result out.new }
 {
     if out.len() < 11 {
-        return Answer::Refused(25, 0);
+        return Err(refusals::NO_ROOM);
     }
     out[0] = kind::S263 as u64;
     out[1] = f.reference as u64;
@@ -46,7 +46,7 @@ pub fn put_h263(f: H263, out: &mut [u64]) -> Answer
     out[8] = f.rates.given as u64;
     out[9] = f.rates.average as u64;
     out[10] = f.rates.maximum as u64;
-    Answer::Done(11)
+    Ok(11)
 }
 
 // The fields of a `samr` or `sawb` in eight numbers.

@@ -6,13 +6,12 @@ use mathlib.Core.List.{List}
 use lib.ListN.{length, take}
 use Rattle.wire.specs.Same.{same}
 use Rattle.wire.proofs.Clauses.{is_eq_lem, not_eq}
-use Rattle.rule.specs.declared.Answer.{Answer}
-use Rattle.rule.specs.declared.Answer.TheVariants.{Refused}
 use Rattle.rule.specs.Results.{Exact}
 use Rattle.rule.proofs.Results.{exact_refuses}
 use Rattle.frames.specs.declared.codec.Codec.{Codec}
 use Rattle.frames.specs.declared.codec.Codec.TheVariants.{Amr, Wideband}
 use Rattle.from_amr.specs.Dump.{magic, opens, dump_of, from_amr}
+use Rattle.rule.specs.Answers.{Answer, Refused}
 
 -- the front of the dump, compared with a magic
 module _ (k : Codec) (xs : List ℕ) {ys : List ℕ} (y : ys ≡ take (length (magic k)) xs) {i : ℕ} (e : i ≡ same ys (magic k)) where

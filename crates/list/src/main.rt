@@ -20,7 +20,7 @@ fn print(rt: HostRuntime, text: &[u8]) -> usize {
 fn list(rt: HostRuntime, file: &[u8]) -> usize {
     let mut text = [0u8; listing::ROOM];
     match listing::listing(file, &mut text) {
-        Answer::Done(n) => print(rt, lend::front(&text, n)),
+        Ok(n) => print(rt, lend::front(&text, n)),
         Answer::Refused(_, _) => no_room(rt),
     }
 }

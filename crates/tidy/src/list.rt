@@ -12,7 +12,7 @@ const LONGEST: usize = 65536;
 // A refused file has a listing too.
 fn judged(rt: HostRuntime, file: &[u8]) -> usize {
     match judge::judge(file) {
-        Judgement::Accepted => tell::DONE,
+        Ok(()) => tell::DONE,
         Judgement::Refused(number, place) => tell::refused(rt, number, place),
     }
 }
@@ -37,7 +37,7 @@ pub fn run(rt: HostRuntime, file: &[u8]) -> usize {
     }
     let mut text = [0u8; listing::ROOM];
     match listing::listing(file, &mut text) {
-        Answer::Done(n) => show(rt, lend::front(&text, n), file),
+        Ok(n) => show(rt, lend::front(&text, n), file),
         Answer::Refused(number, place) => tell::refused(rt, number, place),
     }
 }
@@ -49,7 +49,7 @@ pub fn outline(rt: HostRuntime, file: &[u8]) -> usize {
     }
     let mut text = input::room();
     match outline::outline(file, &mut text) {
-        Answer::Done(n) => tell::print(rt, To::Output, lend::front(&text, n)),
+        Ok(n) => tell::print(rt, To::Output, lend::front(&text, n)),
         Answer::Refused(number, place) => tell::refused(rt, number, place),
     }
 }

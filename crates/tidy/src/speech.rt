@@ -36,7 +36,7 @@ fn fails(rt: HostRuntime, number: u64, why: u64) -> usize {
 pub fn run(rt: HostRuntime, file: &[u8], track: usize) -> usize {
     let mut found = [0u64; 2];
     match modes::modes(file, track, &mut found) {
-        Answer::Done(n) => {
+        Ok(n) => {
             if n == 0 {
                 return tell::print(rt, To::Output, b"every sample passes\n");
             }

@@ -46,7 +46,7 @@ fn write(rt: HostRuntime, edit: Edit, file: &[u8], made: &[u8], to: &[u8]) -> us
 pub fn run(rt: HostRuntime, edit: Edit, file: &[u8], to: &[u8]) -> usize {
     let mut room = input::room();
     match apply(edit, file, &mut room) {
-        Answer::Done(n) => write(rt, edit, file, lend::front(&room, n), to),
+        Ok(n) => write(rt, edit, file, lend::front(&room, n), to),
         Answer::Refused(number, place) => tell::refused(rt, number, place),
     }
 }

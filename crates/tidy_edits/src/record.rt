@@ -1,11 +1,9 @@
 // The word `record`: the record of an entry, told or changed.
 use boxes::containers::LONGEST;
 use entry_heads::head;
-use judge::Judgement;
 use movie::entry;
-use movie::entry::Named;
 use release::Release;
-use rule::Answer;
+use rule::{Answer, refusals};
 use tidy_fields::{change, told};
 use tidy_files::{input, output};
 use tidy_words::tell;
@@ -14,41 +12,39 @@ use wire::lend;
 // In an accepted file, of its release, only an entry of another kind has no fields.
 fn read_part(entry: &[u8], release: Release, numbers: &mut [u64]) -> Answer {
     match entry_fields::read(entry, release, numbers) {
-        Answer::Done(n) => Answer::Done(n),
-        Answer::Refused(_, _) => Answer::Refused(20, 0),
+        Ok(n) => Ok(n),
+        Answer::Refused(_, _) => Err(refusals::NO_SUCH),
     }
 }
 
 fn read_accepted(file: &[u8], i: usize, numbers: &mut [u64]) -> Answer {
     if i == 0 {
-        return Answer::Refused(20, 0);
+        return Err(refusals::NO_SUCH);
     }
     if LONGEST < file.len() {
-        return Answer::Refused(1, 0);
+        return Err(refusals::LENGTH);
     }
     match entry::entry(file, i - 1) {
-        Named::At(e) => read_part(
+        Some(e) => read_part(
             lend::front(lend::rest(file, e.place), e.span),
             release::of_file(file),
             numbers,
         ),
-        Named::Missing => Answer::Refused(20, 0),
+        None => Err(refusals::NO_SUCH),
     }
 }
 
 // The numbers of the record of entry i, from 1: how many there are, or a refusal.
 fn read(file: &[u8], i: usize, numbers: &mut [u64]) -> Answer {
-    match judge::judge(file) {
-        Judgement::Accepted => read_accepted(file, i, numbers),
-        Judgement::Refused(number, place) => Answer::Refused(number, place),
-    }
+    judge::judge(file)?;
+    read_accepted(file, i, numbers)
 }
 
 // Tells the record of entry i, from 1.
 pub fn show(rt: HostRuntime, file: &[u8], i: usize) -> usize {
     let mut numbers = [0u64; 11];
     match read(file, i, &mut numbers) {
-        Answer::Done(_) => told::print(rt, &numbers),
+        Ok(_) => told::print(rt, &numbers),
         Answer::Refused(number, place) => tell::refused(rt, number, place),
     }
 }
@@ -56,7 +52,7 @@ pub fn show(rt: HostRuntime, file: &[u8], i: usize) -> usize {
 fn replace(rt: HostRuntime, file: &[u8], i: usize, record: &[u8], to: &[u8]) -> usize {
     let mut room = input::room();
     match edit_replace::replace(file, i, record, &mut room) {
-        Answer::Done(n) => output::write(rt, to, lend::front(&room, n), b""),
+        Ok(n) => output::write(rt, to, lend::front(&room, n), b""),
         Answer::Refused(number, place) => tell::refused(rt, number, place),
     }
 }
@@ -79,7 +75,7 @@ fn first(numbers: &[u64; 11], n: usize) -> &[u64] {
 fn make(rt: HostRuntime, file: &[u8], i: usize, numbers: &[u64; 11], n: usize, to: &[u8]) -> usize {
     let mut entry = [0u8; 128];
     match entry_fields::write(first(numbers, n), release::of_file(file), &mut entry) {
-        Answer::Done(m) => replace(
+        Ok(m) => replace(
             rt,
             file,
             i,
@@ -94,7 +90,7 @@ fn make(rt: HostRuntime, file: &[u8], i: usize, numbers: &[u64; 11], n: usize, t
 pub fn change(rt: HostRuntime, file: &[u8], i: usize, end: usize, to: &[u8]) -> usize {
     let mut numbers = [0u64; 11];
     match read(file, i, &mut numbers) {
-        Answer::Done(n) => {
+        Ok(n) => {
             if change::change_all(rt, &mut numbers, end) == 0 {
                 return tell::FAILED;
             }

@@ -47,7 +47,7 @@ pub fn run(rt: HostRuntime, codec: Codec, file: &[u8], to: &[u8]) -> usize {
     let mut room = input::room();
     let mut report = [0u64; 4];
     match salvage::salvage(file, codec, &mut room, &mut report) {
-        Answer::Done(n) => write(rt, lend::front(&room, n), &report, to),
+        Ok(n) => write(rt, lend::front(&room, n), &report, to),
         Answer::Refused(number, place) => tell::refused(rt, number, place),
     }
 }

@@ -1,5 +1,4 @@
 -- 22, or the order by the two zones.
-use mathlib.Core.Path.{◌∙◌}
 use mir.Syntax.{w64}
 use mir.ValLaws.{to_z-of_z}
 use Rattle.clocks.proofs.Signed.{zone_found}
@@ -22,10 +21,10 @@ pub returns-in-NoZone-zone_of : goal.returns-in-NoZone-zone_of
 returns-in-NoZone-zone_of c =
     let b = to_z-of_z w64 c.args.y c.ranges.y in
     let d = to_z-of_z w64 c.args.z c.ranges.z in
-    c.refused.ensures ∙ zone_second _ c.args.y _ c.args.z _ (rw d at c.zone_of-in-Seconds.ensures) c.in-NoZone-zone_of.is
+    zone_second _ c.args.y _ c.args.z _ (rw d at c.zone_of-in-Seconds.ensures) c.in-NoZone-zone_of.is
 
 pub returns-in-NoZone : goal.returns-in-NoZone
 returns-in-NoZone c =
     let b = to_z-of_z w64 c.args.y c.ranges.y in
     let d = to_z-of_z w64 c.args.z c.ranges.z in
-    c.refused-in-NoZone.ensures ∙ zone_first _ c.args.y _ c.args.z _ (rw b at c.zone_of.ensures) c.in-NoZone.is
+    zone_first _ c.args.y _ c.args.z _ (rw b at c.zone_of.ensures) c.in-NoZone.is
