@@ -71,7 +71,7 @@ fn put_tail(out: &mut [u8], at: usize, src: &[u8], keep: usize, new: &[u8]) -> u
     requires { at + length src.now + length new.now < 2 ^ 62 }
     ensures { Put (tail_by keep new.now src.now) out.old at result out.new }
 {
-    let n = number::least(keep, src.len());
+    let n = keep.min(src.len());
     let j = pen::put_part(out, at, &src[..n]);
     pen::put_part(out, j, new)
 }
@@ -158,7 +158,7 @@ pub fn put_way(
         return put_tail(out, at, src, keep, new);
     }
     let t = turn_at(way, i);
-    let n = number::least(t.skip, src.len());
+    let n = t.skip.min(src.len());
     let j = pen::put_part(out, at, &src[..n]);
     put_turn(out, j, &src[n..], t, way, i + 3, keep, new)
 }

@@ -68,7 +68,7 @@ fn reword(body: &mut [u8], from: usize, span: usize, by: By)
     ensures { body.new ≡ reword_by (moved_by by) from span body.old }
 {
     if from < body.len() {
-        let to = from + number::least(span, body.len() - from);
+        let to = from + span.min(body.len() - from);
         reword_all(&mut body[from..to], by);
     }
 }

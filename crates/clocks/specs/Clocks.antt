@@ -3,8 +3,8 @@ use Rattle.std.specs.Prelude.{ℕ, suc, ◌*◌, Bool, true, false, [], ◌∷�
 use Rattle.wire.specs.Tests.{pick, if_eq, if_lt}
 use Rattle.wire.specs.Clauses.{is_le, is_lt, every}
 use Rattle.clocks.specs.declared.Zone.{Zone}
-use Rattle.clocks.specs.declared.Zoned.{Zoned}
-use Rattle.clocks.specs.declared.Zoned.TheVariants.{Seconds, NoZone}
+use Rattle.std.specs.declared.option.Option.{Option}
+use Rattle.std.specs.declared.option.Option.TheVariants.{Some, None}
 use Rattle.clocks.specs.declared.Order.{Order}
 use Rattle.clocks.specs.declared.Order.TheVariants.{Earlier, Same, Later}
 
@@ -60,5 +60,5 @@ abbrev pub zone_of : ℤ → Zone
 zone_of (pos n) = record { ahead = 60 * n; behind = 0 }
 zone_of (negsuc n) = record { ahead = 0; behind = 60 * suc n }
 
-abbrev pub zoned_of : ℤ → Zoned
-zoned_of z = pick (zone_fine z) (Seconds (zone_of z)) NoZone
+abbrev pub zoned_of : ℤ → Option Zone
+zoned_of z = pick (zone_fine z) (Some (zone_of z)) None

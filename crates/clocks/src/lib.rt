@@ -2,7 +2,6 @@
 #![tactic(auto)]
 
 ghost use Rattle.std.specs.Prelude.{◌≡◌, ◌+◌, ◌^◌, ◌<◌};
-ghost use Rattle.wire.specs.Clauses.{one_if};
 ghost use Rattle.clocks.specs.Clocks.{order_number, zoned_of};
 ghost use Rattle.clocks.specs.Zones.{Near, leaves as leaves_of, compared};
 
@@ -13,14 +12,8 @@ pub struct Zone {
     pub behind: usize,
 }
 
-#[derive(Clone, Copy)]
-pub enum Zoned {
-    Seconds(Zone),
-    NoZone,
-}
-
-// What the first of two times is.
-#[derive(Clone, Copy)]
+// What the first of two times is: the definitions' own words, in place of std's Less, Equal and Greater.
+#[derive(Clone, Copy, Debug, PartialEq, Eq)]
 pub enum Order {
     Earlier,
     Same,
@@ -28,56 +21,52 @@ pub enum Order {
 }
 
 // An order as a number: 0 earlier, 1 same, 2 later.
-pub fn order_number(order: Order) -> usize
-    ensures { result ≡ order_number order }
-{
-    match order {
-        Order::Earlier => 0,
-        Order::Same => 1,
-        Order::Later => 2,
+impl From<Order> for usize {
+    ghost from_gives = { λ order r. r ≡ order_number order };
+
+    fn from(order: Order) -> usize {
+        match order {
+            Order::Earlier => 0,
+            Order::Same => 1,
+            Order::Later => 2,
+        }
     }
 }
 
-// The one function that looks at a sign.
-pub fn zone_of(z: i64) -> Zoned
+// The zone of so many minutes, where it is one. The one function that looks at a sign.
+pub fn zone_of(z: i64) -> Option<Zone>
     ensures { result ≡ zoned_of z }
 {
     if z < -840 {
-        return Zoned::NoZone;
+        return None;
     }
     if 840 < z {
-        return Zoned::NoZone;
+        return None;
     }
     if z < 0 {
         let behind = (-z) as usize;
-        return Zoned::Seconds(Zone {
+        return Some(Zone {
             ahead: 0,
             behind: 60 * behind,
         });
     }
     let ahead = z as usize;
-    Zoned::Seconds(Zone {
+    Some(Zone {
         ahead: 60 * ahead,
         behind: 0,
     })
 }
 
-// Whether a time may be shifted: 1 or 0.
-pub fn leaves(t: usize, zone: Zone) -> usize
+// Whether a time may be shifted.
+pub fn leaves(t: usize, zone: Zone) -> bool
     requires { (Near zone) × (t < 2 ^ 32) }
-    ensures { result ≡ one_if (leaves_of zone t) }
+    ensures { result ≡ leaves_of zone t }
 {
     if t == 0 {
-        return 1;
+        return true;
     }
     let up = t + zone.behind;
-    if up <= zone.ahead {
-        return 0;
-    }
-    if 4294967295 < up - zone.ahead {
-        return 0;
-    }
-    1
+    zone.ahead < up && up - zone.ahead <= 4294967295
 }
 
 // Two times, each less its clock's zone.

@@ -5,7 +5,8 @@ use mathlib.Core.Bool.{Bool, true, false}
 use mathlib.Core.List.{List, [], ◌∷◌, ◌++◌}
 use Rattle.wire.specs.Tests.{pick, if_eq}
 use Rattle.wire.specs.Clauses.{is_eq, every, either}
-use Rattle.wire.specs.Same.{same}
+use borrow.Author.Tests.{ne_eqb}
+use Rattle.std.specs.Str.{bytes_eq}
 use Rattle.wire.proofs.Tests.{eq_yea, eq_nay, eq_or}
 use Rattle.descriptors.specs.declared.list.Reading.{Reading}
 use Rattle.descriptors.specs.Parts.{ES, CONFIGURATION, SPECIFIC, SL, TOP, OTHER, own_fits}
@@ -57,18 +58,18 @@ unfolding leads parts_after part_after if_eq is_eq
 nowhere [] = refl
 nowhere (x ∷ l) = nowhere l
 
-last_leads : (l : List ℕ) → leads SL l ≡ is_eq (same l []) 1
-unfolding leads parts_after part_after if_eq is_eq same
+last_leads : (l : List ℕ) → leads SL l ≡ bytes_eq l []
+unfolding leads parts_after part_after if_eq is_eq
 last_leads [] = refl
 last_leads (x ∷ l) = nowhere l
 
 -- the rest is m
 is : List ℕ → List ℕ → Bool
-is m l = is_eq (same l m) 1
+is m l = bytes_eq l m
 
 other_is : (x t : ℕ) (l m : List ℕ) → (x ≡ t → ⊥) → is (t ∷ m) (x ∷ l) ≡ false
-unfolding is same is_eq
-other_is x t l m n = let q : if_eq x t (same l m) 0 ≡ 0 = sym (eq_nay _ _ _ _ _ n refl) in rw q
+unfolding is
+other_is x t l m n = rw (ne_eqb x t n)
 
 -- the rest is m or n
 one_of : (m n l : List ℕ) → Bool
@@ -98,7 +99,7 @@ abbrev long : List ℕ
 long = SPECIFIC ∷ ends
 
 specific_leads : (l : List ℕ) → leads SPECIFIC l ≡ is ends l
-unfolding is part_after same if_eq is_eq
+unfolding is part_after if_eq is_eq
 specific_leads = one_leads SPECIFIC SL (is []) (is ends) (λ x. refl) refl last_leads refl (λ l. refl) (λ x l n. other_is x SL l [] n)
 
 -- here two may part_after
@@ -113,7 +114,7 @@ first true = refl
 first false = refl
 
 configuration_leads : (l : List ℕ) → leads CONFIGURATION l ≡ one_of ends long l
-unfolding leads parts_after part_after one_of either is same if_eq is_eq
+unfolding leads parts_after part_after one_of either is if_eq is_eq
 configuration_leads [] = refl
 configuration_leads (x ∷ l) =
     eq_or x SPECIFIC (λ e. rw e (specific_leads l ∙ second (is ends l)))
@@ -123,13 +124,13 @@ configuration_leads (x ∷ l) =
     rw (q, other_is x SL l [] n, other_is x SPECIFIC l ends m) (nowhere l)))
 
 es_leads : (l : List ℕ) → leads ES l ≡ one_of (CONFIGURATION ∷ ends) (CONFIGURATION ∷ long) l
-unfolding is one_of part_after same if_eq is_eq either
+unfolding is one_of part_after if_eq is_eq either
 es_leads =
     one_leads ES CONFIGURATION (one_of ends long) (one_of (CONFIGURATION ∷ ends) (CONFIGURATION ∷ long)) (λ x. refl) refl configuration_leads refl
     (λ l. refl) (λ x l n. none_of x CONFIGURATION l ends long n)
 
 pub wanted_leads : (l : List ℕ) → is_eq (parts_after TOP l) SL ≡ wanted_parts l
-unfolding leads is one_of part_after same if_eq is_eq either wanted_parts
+unfolding leads is one_of part_after if_eq is_eq either wanted_parts
 wanted_leads =
     one_leads TOP ES (one_of (CONFIGURATION ∷ ends) (CONFIGURATION ∷ long)) wanted_parts (λ x. refl) refl es_leads refl
     (λ l. refl) (λ x l n. none_of x ES l (CONFIGURATION ∷ ends) (CONFIGURATION ∷ long) n)

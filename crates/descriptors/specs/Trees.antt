@@ -2,7 +2,7 @@
 use Rattle.std.specs.Prelude.{ℕ, zero, suc, ◌+◌, ◌-◌, Bool, true, false, List, [], ◌∷◌, ◌++◌, length, take, drop, get_or}
 use Rattle.wire.specs.Tests.{if_eq, if_lt}
 use Rattle.wire.specs.Clauses.{is_eq, every, either}
-use Rattle.wire.specs.Same.{same}
+use Rattle.std.specs.Str.{bytes_eq}
 use Rattle.descriptors.specs.declared.length.Length.{Length}
 use Rattle.descriptors.specs.declared.length.Length.TheVariants.{Says, Broken}
 use Rattle.descriptors.specs.declared.descriptor.Descriptor.{Descriptor}
@@ -89,4 +89,4 @@ in_order (descriptor j h own held next) = j ∷ (in_order held ++ in_order next)
 -- A tag counts as its part only in what it belongs into, so that the order says who holds whom
 unfoldable pub wanted_parts : List ℕ → Bool
 wanted_parts l =
-    either (is_eq (same l (ES ∷ CONFIGURATION ∷ SL ∷ [])) 1 ∷ is_eq (same l (ES ∷ CONFIGURATION ∷ SPECIFIC ∷ SL ∷ [])) 1 ∷ [])
+    either (bytes_eq l (ES ∷ CONFIGURATION ∷ SL ∷ []) ∷ bytes_eq l (ES ∷ CONFIGURATION ∷ SPECIFIC ∷ SL ∷ []) ∷ [])

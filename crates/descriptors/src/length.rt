@@ -19,7 +19,7 @@ pub enum Length {
 pub fn read(part: &[u8]) -> Length
     ensures { result ≡ length_at part.now }
 {
-    let most = number::least(MOST, part.len());
+    let most = MOST.min(part.len());
     let mut n = 0;
     let mut k = 0;
     while k < most {

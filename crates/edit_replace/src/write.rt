@@ -13,7 +13,6 @@ use crate::place::Place;
 use boxes::walk::BoxAt;
 use boxes::words::By;
 use boxes::{seek, walk, way};
-use wire::number;
 
 // The way from a track to its entry n, from 0: three numbers to a turn.
 fn way_to(n: usize) -> [usize; 15]
@@ -53,7 +52,7 @@ pub fn result_length(file: &[u8], e: BoxAt, keep: usize, new: &[u8]) -> usize
     ensures { result ≡ length_in (length_of file.now) e keep (length_of new.now) }
 {
     let body = e.span - e.head;
-    file.len() - body + (number::least(keep, body) + new.len())
+    file.len() - body + (keep.min(body) + new.len())
 }
 
 // Writes the file with another record, and answers its length: a chunk offset past `moov` moves by as much as the file grows, if it does.

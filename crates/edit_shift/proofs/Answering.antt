@@ -12,8 +12,8 @@ use Rattle.wire.specs.Writing.{Wrote}
 use Rattle.wire.proofs.Clauses.{fails, holds, decides, nay}
 use Rattle.boxes.specs.Words.{moved}
 use Rattle.clocks.specs.declared.Zone.{Zone}
-use Rattle.clocks.specs.declared.Zoned.{Zoned}
-use Rattle.clocks.specs.declared.Zoned.TheVariants.{Seconds, NoZone}
+use Rattle.std.specs.declared.option.Option.{Option}
+use Rattle.std.specs.declared.option.Option.TheVariants.{Some, None}
 use Rattle.clocks.specs.Clocks.{zone_fine, zone_of, zoned_of, may_shift}
 use Rattle.clocks.proofs.Signed.{zone_found, zone_missing}
 use Rattle.rule.specs.Results.{asked, Exact}
@@ -53,12 +53,12 @@ far_is : (z : ℤ) (xs : List ℕ) → zone_fine z ≡ false → 0 ≡ one_if (s
 unfolding shiftable
 far_is z xs h = nay _ (fails 0 _ h)
 
-module _ (z : ℤ) (xs out : List ℕ) {j : Judgement} (e : j ≡ judged xs) (f : j ≡ Accepted) {w : Zoned} (g : w ≡ zoned_of z) where
-  pub shift_far : w ≡ NoZone → Exact (shift_result z xs) out (Refused 22 0) out
+module _ (z : ℤ) (xs out : List ℕ) {j : Judgement} (e : j ≡ judged xs) (f : j ≡ Accepted) {w : Option Zone} (g : w ≡ zoned_of z) where
+  pub shift_far : w ≡ None → Exact (shift_result z xs) out (Refused 22 0) out
   unfolding shift_result
   shift_far h = result_accepted xs e _ _ out f (test_nay 22 _ _ _ out (far_is z xs (zone_missing z g h)) refl)
 
-  pub shift_near : Bytes xs → (v : Zone) → w ≡ Seconds v → {r : Answer} {left : List ℕ} → Exact (zone_result v xs) out r left → Exact (shift_result z xs) out r left
+  pub shift_near : Bytes xs → (v : Zone) → w ≡ Some v → {r : Answer} {left : List ℕ} → Exact (zone_result v xs) out r left → Exact (shift_result z xs) out r left
   unfolding shift_result
   shift_near b v h x =
       let o = zone_found z g v h in

@@ -16,7 +16,7 @@ ghost use Rattle.edit_shift.specs.Amount.{box_times, tracks_times, moov_times, t
 use boxes::walk::{BoxAt, Step, Walk};
 use boxes::words::{By, Target, Targets};
 use boxes::{seek, walk, words};
-use clocks::{Zone, Zoned};
+use clocks::Zone;
 use rule::{Answer, refusals};
 use wire::{number, pen};
 
@@ -25,10 +25,10 @@ fn both(head: &[u8], zone: Zone) -> usize
     requires { Near zone }
     ensures { result ≡ one_if (both_of (leaves zone) head.now) }
 {
-    if clocks::leaves(number::word32(head, 4), zone) == 0 {
+    if !clocks::leaves(number::word32(head, 4), zone) {
         return 0;
     }
-    if clocks::leaves(number::word32(head, 8), zone) == 0 {
+    if !clocks::leaves(number::word32(head, 8), zone) {
         return 0;
     }
     1
@@ -173,7 +173,7 @@ pub fn shift(file: &[u8], minutes: i64, out: &mut [u8]) -> Answer
 {
     judge::judge(file)?;
     match clocks::zone_of(minutes) {
-        Zoned::Seconds(zone) => shift_accepted(file, zone, out),
-        Zoned::NoZone => Err(refusals::BAD_TIME),
+        Some(zone) => shift_accepted(file, zone, out),
+        None => Err(refusals::BAD_TIME),
     }
 }

@@ -83,7 +83,7 @@ fn common(entry: &[u8]) -> usize
     if entry.len() < COMMON {
         return 0;
     }
-    if number::zeros(entry, 8, 6) == 0 {
+    if !number::zeros(entry, 8, 6) {
         return 0;
     }
     1
@@ -96,10 +96,10 @@ fn audio(entry: &[u8]) -> usize
     if entry.len() < AUDIO {
         return 0;
     }
-    if number::zeros(entry, 8, 6) == 0 {
+    if !number::zeros(entry, 8, 6) {
         return 0;
     }
-    if number::zeros(entry, 16, 8) == 0 {
+    if !number::zeros(entry, 16, 8) {
         return 0;
     }
     if number::word16_in(entry, 24) != 2 {
@@ -124,7 +124,10 @@ fn name(kind: usize, entry: &[u8]) -> usize
     if kind == kind::AVC1 {
         return 1;
     }
-    number::zeros(entry, 50, 32)
+    if number::zeros(entry, 50, 32) {
+        return 1;
+    }
+    0
 }
 
 // 1 where an entry has the visual head of its kind, else 0.
@@ -134,10 +137,10 @@ fn visual(kind: usize, entry: &[u8]) -> usize
     if entry.len() < VISUAL {
         return 0;
     }
-    if number::zeros(entry, 8, 6) == 0 {
+    if !number::zeros(entry, 8, 6) {
         return 0;
     }
-    if number::zeros(entry, 16, 16) == 0 {
+    if !number::zeros(entry, 16, 16) {
         return 0;
     }
     if number::word32_in(entry, 36) != 0x00480000 {

@@ -9,7 +9,6 @@ use lib.ListN.{length}
 use Rattle.wire.specs.Tests.{if_eq, if_le}
 use Rattle.wire.specs.Clauses.{is_eq, every, either}
 use Rattle.wire.specs.Numbers.{bytes_on, bytes, word}
-use Rattle.wire.specs.Same.{same}
 use Rattle.wire.proofs.Clauses.{is_eq_lem, holds, done}
 use Rattle.wire.proofs.Numbers.{word_bytes, length_bytes_lem}
 use Rattle.wire.proofs.Tests.{eq_yea, eq_nay}
@@ -77,7 +76,7 @@ module _ (v : Values) (s : List ℕ) (f : Fine v s) where
         rw (length_front v s, length_own v s, length_bytes_lem 1 2, a)
 
     pub order_back : wanted_parts (in_order (es_tree v s)) ≡ true
-    unfolding in_order wanted_parts same either if_eq is_eq
+    unfolding in_order wanted_parts either if_eq is_eq
     order_back = by_specific (λ t n. wanted_parts (ES ∷ ((CONFIGURATION ∷ (in_order t ++ (SL ∷ []))) ++ [])) ≡ true) refl refl
 
     pub fixed_back : kind_rule v ≡ true → fixed_in (es_tree v s) v ≡ true

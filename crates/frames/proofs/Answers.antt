@@ -5,6 +5,8 @@ use mathlib.Core.Path.{◌≡◌, refl}
 use mathlib.Core.Bool.{Bool, true, false}
 use mathlib.Core.List.{List}
 use lib.ListN.{length}
+use Rattle.std.specs.declared.option.Option.{Option}
+use Rattle.std.specs.declared.option.Option.TheVariants.{Some, None}
 use Rattle.wire.specs.Tests.{pick}
 use Rattle.frames.specs.declared.codec.Codec.{Codec}
 use Rattle.frames.specs.Codecs.{NONE, data_bytes}
@@ -12,7 +14,7 @@ use Rattle.frames.specs.Frames.{header_of, type_of, frame_size, good}
 use Rattle.frames.proofs.Fronts.{unknown_not, cut_not, front_good}
 
 module _ (k : Codec) (xs : List ℕ) where
-  pub front_none : good k xs ≡ false → 0 ≡ pick (good k xs) (frame_size k xs) 0
+  pub front_none : good k xs ≡ false → None ≡ pick (good k xs) (Some (frame_size k xs)) None
   front_none e = rw e
 
   module _ (h d : ℕ) (e : h ≡ header_of xs) (q : d ≡ data_bytes k (h / 8 % 16)) where
@@ -20,14 +22,14 @@ module _ (k : Codec) (xs : List ℕ) where
     unfolding type_of
     data_is = rw e at q
 
-    pub unknown_none : NONE ≤ d → 0 ≡ pick (good k xs) (frame_size k xs) 0
+    pub unknown_none : NONE ≤ d → None ≡ pick (good k xs) (Some (frame_size k xs)) None
     unknown_none l = front_none (unknown_not k xs (omega (arith, data_is)))
 
-    pub cut_none : length xs < 1 + d → 0 ≡ pick (good k xs) (frame_size k xs) 0
+    pub cut_none : length xs < 1 + d → None ≡ pick (good k xs) (Some (frame_size k xs)) None
     unfolding frame_size
     cut_none l = front_none (cut_not k xs (omega (arith, data_is)))
 
-    pub front_some : h / 128 ≡ 0 → h % 4 ≡ 0 → d < NONE → 1 + d ≤ length xs → 1 + d ≡ pick (good k xs) (frame_size k xs) 0
+    pub front_some : h / 128 ≡ 0 → h % 4 ≡ 0 → d < NONE → 1 + d ≤ length xs → Some (1 + d) ≡ pick (good k xs) (Some (frame_size k xs)) None
     unfolding frame_size
     front_some u v l i =
         let f = front_good k xs (record { there = omega arith; high = rw e at u; low = rw e at v; known = rw data_is at l; inside = rw data_is at i }) in
@@ -35,10 +37,10 @@ module _ (k : Codec) (xs : List ℕ) where
 
 -- ---- back
 
-pub front_was : (t : Bool) (s size : ℕ) → size ≡ pick t s 0 → (size ≡ 0 → ⊥) → (t ≡ true) × (size ≡ s)
-front_was true s size e z = (refl, e)
-front_was false s size e z = absurd (z e)
+pub front_was : (t : Bool) (s : ℕ) (o : Option ℕ) {size : ℕ} → o ≡ pick t (Some s) None → o ≡ Some size → (t ≡ true) × (size ≡ s)
+front_was true s o e z = (refl, cc)
+front_was false s o e z = (cc, cc)
 
-pub front_was_none : (t : Bool) (s size : ℕ) → size ≡ pick t s 0 → 1 ≤ s → size ≡ 0 → t ≡ false
-front_was_none true s size e l z = absurd (omega arith)
-front_was_none false s size e l z = refl
+pub front_was_none : (t : Bool) (s : ℕ) (o : Option ℕ) → o ≡ pick t (Some s) None → o ≡ None → t ≡ false
+front_was_none true s o e z = cc
+front_was_none false s o e z = refl

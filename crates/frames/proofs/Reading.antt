@@ -6,6 +6,8 @@ use mathlib.Core.Bool.{true}
 use mathlib.Core.List.{List, ◌∷◌}
 use lib.ListN.{length, get_or, take, drop, set, length-drop}
 use lib.Seq.{get_or-take, get_or-drop, drop-drop, length-take-le}
+use Rattle.std.specs.declared.option.Option.{Option}
+use Rattle.std.specs.declared.option.Option.TheVariants.{Some, None}
 use Rattle.wire.specs.Tests.{pick}
 use Rattle.frames.specs.declared.codec.Codec.{Codec}
 use Rattle.frames.specs.Frames.{type_of, frame_size, good, frames_to}
@@ -46,11 +48,11 @@ module _ (k : Codec) (xs : List ℕ) (at size : ℕ) (g : good k (drop at xs) �
   length_next : size ≡ length (take size (drop at xs))
   length_next = sym (length-take-le size (drop at xs) (omega (arith, size_inside k (drop at xs) g)))
 
-pub reading_more : {k : Codec} {xs flags : List ℕ} {most n at : ℕ} (ys : List ℕ) (size h : ℕ) → Reading k xs most flags n at → ys ≡ drop at xs
-    → size ≡ pick (good k ys) (frame_size k ys) 0 → h ≡ get_or xs at 0 → n < most → (size ≡ 0 → ⊥)
+pub reading_more : {k : Codec} {xs flags : List ℕ} {most n at : ℕ} (ys : List ℕ) (o : Option ℕ) (size h : ℕ) → Reading k xs most flags n at → ys ≡ drop at xs
+    → o ≡ pick (good k ys) (Some (frame_size k ys)) None → h ≡ get_or xs at 0 → n < most → o ≡ Some size
     → Reading k xs most (set flags (h / 8 % 16) 1) (n + 1) (at + size)
-reading_more {k} {xs} {flags} {most} {n} {at} ys size h r y f e l z =
-    let w = front_was (good k (drop at xs)) (frame_size k (drop at xs)) size (rw y at f) z in
+reading_more {k} {xs} {flags} {most} {n} {at} ys o size h r y f e l z =
+    let w = front_was (good k (drop at xs)) (frame_size k (drop at xs)) o (rw y at f) z in
     let p = rw (left_next k xs at size w.0 w.1 n most l) at r.passed in
     record {
       passed = passed_more (h / 8 % 16) size p (type_next k xs at size w.0 w.1 h e) (length_next k xs at size w.0 w.1);
@@ -61,12 +63,12 @@ reading_more {k} {xs} {flags} {most} {n} {at} ys size h r y f e l z =
 -- ---- no more
 
 module _ {k : Codec} {xs flags : List ℕ} {most n at : ℕ} (modes : ℕ) (r : Reading k xs most flags n at) (m : modes ≡ flagged flags) where
-  pub reading_stop : (ys : List ℕ) (size : ℕ) → ys ≡ drop at xs → size ≡ pick (good k ys) (frame_size k ys) 0 → size ≡ 0
+  pub reading_stop : (ys : List ℕ) (o : Option ℕ) → ys ≡ drop at xs → o ≡ pick (good k ys) (Some (frame_size k ys)) None → o ≡ None
       → RunOf (frames_to most k xs) (record { count = n; bytes = at; modes = modes })
-  reading_stop ys size y f z =
-      let g = front_was_none (good k (drop at xs)) (frame_size k (drop at xs)) size (rw y at f) (size_least k (drop at xs)) z in
+  reading_stop ys o y f z =
+      let g = front_was_none (good k (drop at xs)) (frame_size k (drop at xs)) o (rw y at f) z in
       passed_all modes (rw (to_stop (most - n) k (drop at xs) g) at r.passed) m
 
-  pub reading_full : most ≤ n → RunOf (frames_to most k xs) (record { count = n; bytes = at; modes = modes })
+  pub reading_full : most ≤ n → RunOf (frames_to most k xs) (record { count = most; bytes = at; modes = modes })
   unfolding frames_to
-  reading_full h = let e : most - n ≡ 0 = omega arith in passed_all modes (rw e at r.passed) m
+  reading_full h = let e : n ≡ most = omega (arith, r.fewer) in let z : most - most ≡ 0 = omega arith in passed_all modes (rw (e, z) at r.passed) m

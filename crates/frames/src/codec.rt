@@ -2,23 +2,25 @@
 ghost use Rattle.std.specs.Prelude.{◌≡◌, ◌<◌};
 ghost use Rattle.frames.specs.Codecs.{codec_named, data_bytes};
 
-#[derive(Clone, Copy)]
+#[derive(Clone, Copy, Debug, PartialEq, Eq)]
 pub enum Codec {
     Amr,
     Wideband,
 }
 
 // The codec that a caller names by a number.
-pub fn of_number(n: u64) -> Codec
-    ensures { result ≡ codec_named n }
-{
-    if n == 0 {
-        return Codec::Amr;
+impl From<u64> for Codec {
+    ghost from_gives = { λ n r. r ≡ codec_named n };
+
+    fn from(n: u64) -> Codec {
+        if n == 0 {
+            return Codec::Amr;
+        }
+        Codec::Wideband
     }
-    Codec::Wideband
 }
 
-// For a type that the codec doesn't have.
+// For a type that the codec doesn't have: a number, since the definition has one there.
 pub const NONE: usize = 255;
 
 const AMR: [u8; 16] = [

@@ -4,7 +4,6 @@ use mathlib.Core.List.{[], ◌∷◌, ◌++◌}
 use Rattle.wire.specs.Tests.{if_eq, if_le, if_lt}
 use Rattle.wire.specs.Clauses.{is_eq, is_le, is_lt, every}
 use Rattle.wire.specs.Numbers.{bytes, bytes_on}
-use Rattle.wire.specs.Same.{same}
 use Rattle.wire.specs.Sums.{sum_to}
 use Rattle.wire.specs.Text.{text}
 use Rattle.boxes.specs.Box.{header, write}
@@ -25,7 +24,7 @@ use Rattle.rule.specs.Answers.{Done}
 
 -- no frames; and two without data, of types 14 and 15
 made : (answer_in (from_amr (magic Amr)) (bytes 600 0) ≡ Done 526) × (answer_in (from_amr (magic Wideband ++ 0x70 ∷ 0x7C ∷ [])) (bytes 600 0) ≡ Done 560)
-unfolding from_amr opens same dump_of without_magic frames_to frames rest joined good type_of frame_size data_bytes every is_eq is_le is_lt made_of asked
+unfolding from_amr opens dump_of without_magic frames_to frames rest joined good type_of frame_size data_bytes every is_eq is_le is_lt made_of asked
     answer_in if_eq if_le if_lt
     file_of start write header ftyp mvhd tkhd mdhd hdlr smhd dref stsd stsz one_for sizes_of fields bytes bytes_on amr_text audio_head common_head box_header code_of
     mode_set mode_bit type_bit seen sum_to
@@ -36,7 +35,7 @@ refused : (from_amr (text "#!AMR_MC1.0\n") ≡ refuses 40 0)
     × (from_amr (magic Amr ++ 0x7C ∷ 0xFC ∷ []) ≡ refuses 41 7)
     × (from_amr (magic Amr ++ 0x70 ∷ []) ≡ refuses 41 6)
     × (from_amr (magic Wideband ++ 0x7C ∷ 0x04 ∷ 1 ∷ []) ≡ refuses 41 10)
-unfolding from_amr opens same dump_of without_magic frames_to frames rest joined good type_of frame_size data_bytes every is_eq is_le is_lt if_eq if_le if_lt
+unfolding from_amr opens dump_of without_magic frames_to frames rest joined good type_of frame_size data_bytes every is_eq is_le is_lt if_eq if_le if_lt
 refused = (refl, refl, refl, refl)
 
 -- type 15 sets bit 15, and 14 none

@@ -1,11 +1,10 @@
 -- Which codec a dump is of, by its magic, branch by branch of the code. Assumes nothing.
 use Prim.Native.Nat.{ℕ}
-use mathlib.Core.Path.{◌≡◌}
-use mathlib.Core.Bool.{true, false}
+use mathlib.Core.Path.{◌≡◌, sym, ◌∙◌}
+use mathlib.Core.Bool.{Bool, true, false}
 use mathlib.Core.List.{List}
-use lib.ListN.{length, take}
-use Rattle.wire.specs.Same.{same}
-use Rattle.wire.proofs.Clauses.{is_eq_lem, not_eq}
+use Rattle.std.specs.Prelude.{nat_eq}
+use Rattle.std.specs.List.{starts_with}
 use Rattle.rule.specs.Results.{Exact}
 use Rattle.rule.proofs.Results.{exact_refuses}
 use Rattle.frames.specs.declared.codec.Codec.{Codec}
@@ -13,15 +12,15 @@ use Rattle.frames.specs.declared.codec.Codec.TheVariants.{Amr, Wideband}
 use Rattle.from_amr.specs.Dump.{magic, opens, dump_of, from_amr}
 use Rattle.rule.specs.Answers.{Answer, Refused}
 
--- the front of the dump, compared with a magic
-module _ (k : Codec) (xs : List ℕ) {ys : List ℕ} (y : ys ≡ take (length (magic k)) xs) {i : ℕ} (e : i ≡ same ys (magic k)) where
-  pub opens_so : i ≡ 1 → opens k xs ≡ true
+-- the dump, asked whether it starts with a magic
+module _ (k : Codec) (xs : List ℕ) {t : Bool} (e : t ≡ starts_with nat_eq xs (magic k)) where
+  pub opens_so : t ≡ true → opens k xs ≡ true
   unfolding opens
-  opens_so h = is_eq_lem _ 1 (rw (← y, ← e) h)
+  opens_so h = sym e ∙ h
 
-  pub opens_not : (i ≡ 1 → ⊥) → opens k xs ≡ false
+  pub opens_not : t ≡ false → opens k xs ≡ false
   unfolding opens
-  opens_not h = not_eq _ 1 (rw (← y, ← e) h)
+  opens_not h = sym e ∙ h
 
 module _ (xs : List ℕ) {out left : List ℕ} {r : Answer} where
   pub from_first : opens Amr xs ≡ true → Exact (dump_of Amr xs) out r left → Exact (from_amr xs) out r left

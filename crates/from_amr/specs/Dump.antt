@@ -1,9 +1,9 @@
 -- From a dump: what the call comes to.
-use Rattle.std.specs.Prelude.{ℕ, ◌-◌, Bool, List, [], ◌∷◌, length, take, drop}
+use Rattle.std.specs.Prelude.{ℕ, ◌-◌, Bool, nat_eq, List, [], ◌∷◌, length, drop}
+use Rattle.std.specs.List.{starts_with}
 use Rattle.wire.specs.Tests.{pick}
 use Rattle.wire.specs.Text.{text}
-use Rattle.wire.specs.Same.{same}
-use Rattle.wire.specs.Clauses.{is_eq, is_le}
+use Rattle.wire.specs.Clauses.{is_le}
 use Rattle.boxes.specs.Boxes.{nothing}
 use Rattle.rule.specs.Results.{ToWrite, asked, in_limit}
 use Rattle.rule.specs.Results.ToWrite.{gives, refuses}
@@ -18,7 +18,7 @@ magic Amr = text "#!AMR\n"
 magic Wideband = text "#!AMR-WB\n"
 
 unfoldable pub opens : Codec → List ℕ → Bool
-opens k xs = is_eq (same (take (length (magic k)) xs) (magic k)) 1
+opens k xs = starts_with nat_eq xs (magic k)
 
 -- the dump without its magic
 unfoldable pub without_magic : Codec → List ℕ → List ℕ

@@ -12,7 +12,7 @@ use frames::codec::Codec;
 use frames::run;
 use frames::run::Run;
 use rule::{Answer, Refusal, refusals};
-use wire::{compare, lend};
+use wire::lend;
 
 mod field;
 pub mod file;
@@ -61,10 +61,10 @@ fn dump_of(codec: Codec, dump: &[u8], magic: usize, out: &mut [u8]) -> Answer
 pub fn from_amr(dump: &[u8], out: &mut [u8]) -> Answer
     ensures { Exact (from_amr dump.now) out.old result out.new }
 {
-    if compare::same(lend::front(dump, 6), b"#!AMR\n") == 1 {
+    if dump.starts_with(b"#!AMR\n") {
         return dump_of(Codec::Amr, dump, 6, out);
     }
-    if compare::same(lend::front(dump, 9), b"#!AMR-WB\n") == 1 {
+    if dump.starts_with(b"#!AMR-WB\n") {
         return dump_of(Codec::Wideband, dump, 9, out);
     }
     Err(refusals::NO_DUMP)

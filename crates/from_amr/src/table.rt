@@ -151,14 +151,11 @@ fn put_sizes(out: &mut [u8], at: usize, codec: Codec, part: &[u8]) -> usize
 {
     let mut to = at;
     let mut i = 0;
-    loop {
-        let s = run::front(codec, &part[i..]);
-        if s == 0 {
-            return to;
-        }
-        to = put_word(out, to, s);
-        i += s;
+    while let Some(size) = run::front(codec, &part[i..]) {
+        to = put_word(out, to, size);
+        i += size;
     }
+    to
 }
 
 // The samples' sizes.

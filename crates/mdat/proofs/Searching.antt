@@ -15,8 +15,11 @@ use Rattle.boxes.specs.declared.walk.Walk.{Walk}
 use Rattle.boxes.specs.declared.walk.BoxAt.{BoxAt}
 use Rattle.boxes.proofs.Seeking.{ran_size}
 use Rattle.mdat.specs.declared.payload.Payload.{Payload}
-use Rattle.mdat.specs.declared.payload.Looked.{Looked}
-use Rattle.mdat.specs.declared.payload.Looked.TheVariants.{In, Out, Far}
+use Rattle.std.specs.Result.{is_ok}
+use Rattle.std.specs.declared.result.Result.{Result}
+use Rattle.std.specs.declared.result.Result.TheVariants.{Ok, Err}
+use Rattle.mdat.specs.declared.payload.Missed.{Missed}
+use Rattle.mdat.specs.declared.payload.Missed.TheVariants.{Out, Far}
 use Rattle.mdat.specs.Rules.{lies}
 use Rattle.mdat.specs.Search.{Start, Media, held_by, looked, LookedAs}
 use Rattle.mdat.proofs.Inside.{held, lies_here}
@@ -46,7 +49,7 @@ module _ {xs : List ℕ} {o at : ℕ} {b : BoxAt} {w : Walk} (s : Start xs o at)
   start_held n F h = record { says = go (held b.code (b.at + b.head) (b.at + b.span) o n) refl }
     where
       go : (t : Bool) → held b.code (b.at + b.head) (b.at + b.span) o n ≡ t → looked xs (lies (boxes xs) 0 o n ≡ true) (lies (boxes xs) 0 o n ≡ false) F
-          (pick t (In (record { start = b.at + b.head; end = b.at + b.span })) Out)
+          (pick t (Ok (record { start = b.at + b.head; end = b.at + b.span })) (Err Out))
       go true e = (start_here o n s.before h ∙ e, start_media (eq_is _ _ (clause 0 _ e)))
       go false e = start_here o n s.before h ∙ e
 
@@ -58,32 +61,43 @@ start_over {xs} {o} {at} s v n = start_lies xs o at n s ∙ rw v.list
 -- ---- the answer of one box
 
 module _ (b : BoxAt) (o n : ℕ) where
-  pub held_other : (b.code ≡ MDAT → ⊥) → Out ≡ held_by b o n
+  pub held_other : (b.code ≡ MDAT → ⊥) → Err Out ≡ held_by b o n
   unfolding held_by
   held_other e = rw (← fails 0 _ (not_eq b.code MDAT e))
 
   pub held_within : {t : Bool} → b.code ≡ MDAT → every (is_le (b.at + b.head) o ∷ is_le (o + n) (b.at + b.span) ∷ []) ≡ t
-      → pick t (In (record { start = b.at + b.head; end = b.at + b.span })) Out ≡ held_by b o n
+      → pick t (Ok (record { start = b.at + b.head; end = b.at + b.span })) (Err Out) ≡ held_by b o n
   unfolding held_by
   held_within c e = rw (← and _ _ (is_eq_lem b.code MDAT c) (sym e))
 
 -- ---- answers
 
-module _ {xs : List ℕ} {H M F : Type 0} {r : Looked} (s : LookedAs xs H M F r) where
-  pub looked_in : (p : Payload) → r ≡ In p → H × Media xs p
+module _ {xs : List ℕ} {H M F : Type 0} {r : Result Payload Missed} (s : LookedAs xs H M F r) where
+  pub looked_in : (p : Payload) → r ≡ Ok p → H × Media xs p
   looked_in p e = subst (looked xs H M F) e s.says
 
-  pub looked_out : r ≡ Out → M
+  pub looked_out : r ≡ Err Out → M
   looked_out e = subst (looked xs H M F) e s.says
 
-  pub looked_far : r ≡ Far → F
+  pub looked_far : r ≡ Err Far → F
   looked_far e = subst (looked xs H M F) e s.says
 
+  -- a refusal passed on, of what is refused with it
+  pub looked_on : {H' M' : Type 0} (m : Missed) → (M → M') → r ≡ Err m → LookedAs xs H' M' F (Err m)
+  looked_on Out f e = record { says = f (looked_out e) }
+  looked_on Far f e = record { says = looked_far e }
+
 -- given up for another reason
-pub looked_for : {xs : List ℕ} {H M F G : Type 0} (r : Looked) → (F → G) → LookedAs xs H M F r → LookedAs xs H M G r
-looked_for (In p) f s = record { says = s.says }
-looked_for Out f s = record { says = s.says }
-looked_for Far f s = record { says = f s.says }
+pub looked_for : {xs : List ℕ} {H M F G : Type 0} (r : Result Payload Missed) → (F → G) → LookedAs xs H M F r → LookedAs xs H M G r
+looked_for (Ok p) f s = record { says = s.says }
+looked_for (Err Out) f s = record { says = s.says }
+looked_for (Err Far) f s = record { says = f s.says }
+
+-- what is found is what holds, where it is never given up
+pub looked_held : {xs : List ℕ} {t : Bool} {F : Type 0} (r : Result Payload Missed) → (F → ⊥) → LookedAs xs (t ≡ true) (t ≡ false) F r → is_ok r ≡ t
+looked_held (Ok p) f s = sym s.says.0
+looked_held (Err Out) f s = sym s.says
+looked_held (Err Far) f s = absurd (f s.says)
 
 -- nothing lies in no payload
 pub media_none : (xs : List ℕ) (p : Payload) → p.start ≡ 1 → p.end ≡ 0 → Media xs p

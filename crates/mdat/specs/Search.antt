@@ -8,8 +8,10 @@ use Rattle.boxes.specs.Box.{Box}
 use Rattle.boxes.specs.Boxes.{boxes, total}
 use Rattle.boxes.specs.Seek.{find, start_in}
 use Rattle.mdat.specs.declared.payload.Payload.{Payload}
-use Rattle.mdat.specs.declared.payload.Looked.{Looked}
-use Rattle.mdat.specs.declared.payload.Looked.TheVariants.{In, Out, Far}
+use Rattle.std.specs.declared.result.Result.{Result}
+use Rattle.std.specs.declared.result.Result.TheVariants.{Ok, Err}
+use Rattle.mdat.specs.declared.payload.Missed.{Missed}
+use Rattle.mdat.specs.declared.payload.Missed.TheVariants.{Out, Far}
 use Rattle.mdat.specs.Rules.{lies}
 
 -- a search for what stands at place o may start at place p: one of the file's boxes starts there, and before o, or p is the front
@@ -42,22 +44,22 @@ pub record Index (xs index : List ℕ) : Type 0 where
   pub start : (j : ℕ) → j < length index → Start xs (STRIDE * j + 1) (get_or index j 0)
 
 -- the n bytes from place o on, by a box that has place o
-unfoldable pub held_by : BoxAt → ℕ → ℕ → Looked
+unfoldable pub held_by : BoxAt → ℕ → ℕ → Result Payload Missed
 held_by b o n =
     pick (every (is_eq b.code MDAT ∷ is_le (b.at + b.head) o ∷ is_le (o + n) (b.at + b.span) ∷ []))
-    (In (record { start = b.at + b.head; end = b.at + b.span })) Out
+    (Ok (record { start = b.at + b.head; end = b.at + b.span })) (Err Out)
 
 -- what an answer says: they lie inside, and in this payload; they don't; or why the search was given up
-abbrev pub looked : List ℕ → (hit miss far : Type 0) → Looked → Type 0
-looked xs hit miss far (In p) = hit × Media xs p
-looked xs hit miss far Out = miss
-looked xs hit miss far Far = far
+abbrev pub looked : List ℕ → (hit miss far : Type 0) → Result Payload Missed → Type 0
+looked xs hit miss far (Ok p) = hit × Media xs p
+looked xs hit miss far (Err Out) = miss
+looked xs hit miss far (Err Far) = far
 
-pub record LookedAs (xs : List ℕ) (hit miss far : Type 0) (r : Looked) : Type 0 where
+pub record LookedAs (xs : List ℕ) (hit miss far : Type 0) (r : Result Payload Missed) : Type 0 where
   pub says : looked xs hit miss far r
 
 -- the same of a test that holds or fails
-abbrev pub TestedAs : List ℕ → Bool → (far : Type 0) → Looked → Type 0
+abbrev pub TestedAs : List ℕ → Bool → (far : Type 0) → Result Payload Missed → Type 0
 TestedAs xs t far r = LookedAs xs (t ≡ true) (t ≡ false) far r
 
 -- of any file with the index: r is a start for place o, where a box starts at `end`

@@ -3,7 +3,6 @@ ghost use Rattle.std.specs.Prelude.{◌≡◌, ◌*◌, ◌≤◌, ◌<◌, leng
 ghost use Rattle.mdat.specs.Search.{STRIDE, PLACES, Index, Nearest, Noted};
 
 use boxes::walk::{Step, Walk};
-use wire::number;
 
 // How many bytes of the file have one number.
 const STRIDE: usize = 256;
@@ -16,15 +15,13 @@ fn note(index: &mut [u32], from: usize, at: usize, end: usize) -> usize
     requires { (length index.old ≤ PLACES) × (from < length index.old → at ≤ STRIDE * from) }
     ensures { Noted at end result index.old index.new }
 {
-    let mut j = from;
-    while j < index.len() {
+    for j in from..index.len() {
         if end <= STRIDE * j {
             return j;
         }
         index[j] = at as u32;
-        j += 1;
     }
-    j
+    index.len()
 }
 
 // Fills it by one walk over the boxes.
@@ -60,13 +57,13 @@ fn wide(x: u32) -> usize
 fn for_place(index: &[u32], offset: usize) -> usize
     ensures { Nearest index.now 0 offset result }
 {
-    if index.len() == 0 {
+    if index.is_empty() {
         return 0;
     }
     if offset == 0 {
         return 0;
     }
-    let j = number::least((offset - 1) / STRIDE, index.len() - 1);
+    let j = ((offset - 1) / STRIDE).min(index.len() - 1);
     wide(index[j])
 }
 

@@ -6,6 +6,8 @@ use mathlib.Core.Bool.{Bool, true, false}
 use mathlib.Core.List.{List, [], ◌∷◌}
 use lib.ListN.{length, get_or, take, drop}
 use lib.Seq.{drop-drop}
+use Rattle.std.specs.declared.option.Option.{Option}
+use Rattle.std.specs.declared.option.Option.TheVariants.{Some, None}
 use Rattle.wire.specs.Tests.{pick}
 use Rattle.wire.specs.Clauses.{is_eq, is_le, every, one_if}
 use Rattle.wire.proofs.Tests.{eq_yea, eq_nay}
@@ -60,25 +62,25 @@ pub record Setting (modes : ℕ) (k : Codec) (xs : List ℕ) (at : ℕ) : Type 0
 pub setting_none : (modes : ℕ) (k : Codec) (xs : List ℕ) → Setting modes k xs 0
 setting_none modes k xs = record { same = refl; inside = omega arith }
 
-module _ {modes : ℕ} {k : Codec} {xs : List ℕ} {at : ℕ} (s : Setting modes k xs at) (ys : List ℕ) (size : ℕ) (y : ys ≡ drop at xs)
-    (f : size ≡ pick (good k ys) (frame_size k ys) 0) where
+module _ {modes : ℕ} {k : Codec} {xs : List ℕ} {at : ℕ} (s : Setting modes k xs at) (ys : List ℕ) (o : Option ℕ) (y : ys ≡ drop at xs)
+    (f : o ≡ pick (good k ys) (Some (frame_size k ys)) None) where
   -- no frame more
-  pub setting_all : size ≡ 0 → 1 ≡ one_if (all_set modes (frames k xs))
+  pub setting_all : o ≡ None → 1 ≡ one_if (all_set modes (frames k xs))
   unfolding all_set
   setting_all z =
-      let g = front_was_none (good k (drop at xs)) (frame_size k (drop at xs)) size (rw y at f) (size_least k (drop at xs)) z in
+      let g = front_was_none (good k (drop at xs)) (frame_size k (drop at xs)) o (rw y at f) z in
       yea _ (sym (s.same ∙ rw (frames_stop k (drop at xs) g)))
 
-  module _ (z : size ≡ 0 → ⊥) where
+  module _ {size : ℕ} (z : o ≡ Some size) where
     was : (good k (drop at xs) ≡ true) × (size ≡ frame_size k (drop at xs))
-    was = front_was (good k (drop at xs)) (frame_size k (drop at xs)) size (rw y at f) z
+    was = front_was (good k (drop at xs)) (frame_size k (drop at xs)) o (rw y at f) z
 
     -- fewer bytes are left
     pub setting_less : length xs - (at + size) < length xs - at
-    setting_less = omega (arith, next_inside k xs at size was.0 was.1 s.inside)
+    setting_less = omega (arith, next_inside k xs at size was.0 was.1 s.inside, was.1, size_least k (drop at xs))
 
   -- one more, of type h / 8 % 16
-  module _ (z : size ≡ 0 → ⊥) (h : ℕ) (e : h ≡ get_or xs at 0) where
+  module _ {size : ℕ} (z : o ≡ Some size) (h : ℕ) (e : h ≡ get_or xs at 0) where
     next : all_set modes (frames k xs) ≡ pick (bit_set modes (h / 8 % 16)) (all_set modes (frames k (drop (at + size) xs))) false
     unfolding all_set
     next =

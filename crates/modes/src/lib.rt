@@ -19,7 +19,7 @@ use boxes::walk;
 use layout::gather;
 use rule::{Answer, refusals};
 use sample_tables::size;
-use sample_walk::walk::{Sample, SampleStep, SampleWalk};
+use sample_walk::walk::{Sample, SampleWalk};
 use wire::lend;
 
 // The first sample that fails, from 1, and why; 0 and 0 where none does.
@@ -48,23 +48,17 @@ fn first_failing(file: &[u8], list: &[u8], stsc: &[u8], stsz: &[u8], stco: &[u8]
 {
     let n = size::samples(stsz);
     let mut walk = SampleWalk::start();
-    loop {
-        match walk.step(stsc, stsz, stco) {
-            SampleStep::Found(s, next) => {
-                let why = why_of(file, list, s, n - next.number);
-                if why != 0 {
-                    return Failing {
-                        number: next.number,
-                        why,
-                    };
-                }
-                walk = next;
-            }
-            SampleStep::End => {
-                return Failing { number: 0, why: 0 };
-            }
+    while let Some((s, next)) = walk.step(stsc, stsz, stco) {
+        let why = why_of(file, list, s, n - next.number);
+        if why != 0 {
+            return Failing {
+                number: next.number,
+                why,
+            };
         }
+        walk = next;
     }
+    Failing { number: 0, why: 0 }
 }
 
 // Nothing where none fails, else the two numbers.

@@ -52,16 +52,13 @@ fn all_set(modes: usize, codec: Codec, part: &[u8]) -> usize
     ensures { result ≡ one_if (all_set modes (frames codec part.now)) }
 {
     let mut at = 0;
-    loop {
-        let size = run::front(codec, &part[at..]);
-        if size == 0 {
-            return 1;
-        }
+    while let Some(size) = run::front(codec, &part[at..]) {
         if bit_set(modes, number::byte(part, at) / 8 % 16) == 0 {
             return 0;
         }
         at += size;
     }
+    1
 }
 
 // Why a sample fails that has so many after it; 0 where it passes.

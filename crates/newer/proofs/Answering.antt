@@ -7,8 +7,8 @@ use lib.IntN.{ℤ}
 use Rattle.wire.specs.Clauses.{every}
 use Rattle.wire.proofs.Clauses.{fails, holds, done}
 use Rattle.clocks.specs.declared.Zone.{Zone}
-use Rattle.clocks.specs.declared.Zoned.{Zoned}
-use Rattle.clocks.specs.declared.Zoned.TheVariants.{Seconds, NoZone}
+use Rattle.std.specs.declared.option.Option.{Option}
+use Rattle.std.specs.declared.option.Option.TheVariants.{Some, None}
 use Rattle.clocks.specs.declared.Order.{Order}
 use Rattle.clocks.specs.declared.Order.TheVariants.{Earlier, Same, Later}
 use Rattle.clocks.specs.Clocks as clocks
@@ -36,15 +36,15 @@ module _ (xs ys : List ℕ) (i : ℕ) (y z : Zone) {m n : ℕ} {o : Order} (e : 
   order_later h q = rw (← found, h) (rw h at q)
 
 module _ (xs : List ℕ) (y : ℤ) (ys : List ℕ) (z : ℤ) (i : ℕ) where
-  pub zone_first : {w : Zoned} → w ≡ clocks.zoned_of y → w ≡ NoZone → RefusedIn 0 22 0 ≡ in_zones xs y ys z i
+  pub zone_first : {w : Option Zone} → w ≡ clocks.zoned_of y → w ≡ None → RefusedIn 0 22 0 ≡ in_zones xs y ys z i
   unfolding in_zones
   zone_first e h = let q : false ≡ every (zone_fine y ∷ zone_fine z ∷ []) = fails 0 _ (zone_missing y e h) in rw (← q)
 
-  pub zone_second : {w : Zoned} → w ≡ clocks.zoned_of z → w ≡ NoZone → RefusedIn 0 22 0 ≡ in_zones xs y ys z i
+  pub zone_second : {w : Option Zone} → w ≡ clocks.zoned_of z → w ≡ None → RefusedIn 0 22 0 ≡ in_zones xs y ys z i
   unfolding in_zones
   zone_second e h = let q : false ≡ every (zone_fine y ∷ zone_fine z ∷ []) = fails 1 _ (zone_missing z e h) in rw (← q)
 
-  pub zone_both : {v w : Zoned} {a b : Zone} {r : Outcome} → v ≡ clocks.zoned_of y → v ≡ Seconds a → w ≡ clocks.zoned_of z → w ≡ Seconds b
+  pub zone_both : {v w : Option Zone} {a b : Zone} {r : Outcome} → v ≡ clocks.zoned_of y → v ≡ Some a → w ≡ clocks.zoned_of z → w ≡ Some b
       → r ≡ entry_of (compared (modified xs) a (modified ys) b) xs ys i → r ≡ in_zones xs y ys z i
   unfolding in_zones order_of
   zone_both {a = a} {b = b} e h f k q =

@@ -7,7 +7,7 @@ ghost use Rattle.clocks.specs.Zones.{Near, compared as compared_of};
 ghost use Rattle.newer.specs.Newer.{modified as modified_of, entry_in, entry_of, in_zones, newest_of, told_by, part_of};
 
 use boxes::seek;
-use clocks::{Order, Zone, Zoned};
+use clocks::{Order, Zone};
 use movie::entry;
 use rule::{Refusal, refusals};
 use wire::{lend, number};
@@ -86,11 +86,11 @@ fn zoned(first: &[u8], y: i64, second: &[u8], z: i64, i: usize) -> Result<Part, 
     ensures { result ≡ in_zones first.now y second.now z i }
 {
     match clocks::zone_of(y) {
-        Zoned::Seconds(a) => match clocks::zone_of(z) {
-            Zoned::Seconds(b) => compared(first, a, second, b, i),
-            Zoned::NoZone => Err(BAD_TIME),
+        Some(a) => match clocks::zone_of(z) {
+            Some(b) => compared(first, a, second, b, i),
+            None => Err(BAD_TIME),
         },
-        Zoned::NoZone => Err(BAD_TIME),
+        None => Err(BAD_TIME),
     }
 }
 
@@ -136,7 +136,7 @@ pub fn newer<'a>(
     match newest(first, y, second, z, i) {
         Ok(f) => {
             let order = f.order;
-            tell(answer, 0, f.file, clocks::order_number(order));
+            tell(answer, 0, f.file, usize::from(order));
             if f.file == 1 {
                 return cut(first, f.place, f.span);
             }

@@ -17,7 +17,7 @@ ghost use Rattle.read_samples.specs.Reads.{track_samples, places_of, samples_res
 use layout::gather;
 use rule::{Answer, refusals};
 use sample_tables::size;
-use sample_walk::walk::{Sample, SampleStep, SampleWalk};
+use sample_walk::walk::{Sample, SampleWalk};
 
 // The place and the length of a sample, where there is room for both.
 fn put_sample(sample: Sample, out: &mut [u64], at: usize)
@@ -35,18 +35,12 @@ fn put(stsc: &[u8], stsz: &[u8], stco: &[u8], out: &mut [u64]) -> usize
 {
     let mut walk = SampleWalk::start();
     let mut at = 0;
-    loop {
-        match walk.step(stsc, stsz, stco) {
-            SampleStep::Found(sample, next) => {
-                put_sample(sample, out, at);
-                at += 2;
-                walk = next;
-            }
-            SampleStep::End => {
-                return at;
-            }
-        }
+    while let Some((sample, next)) = walk.step(stsc, stsz, stco) {
+        put_sample(sample, out, at);
+        at += 2;
+        walk = next;
     }
+    at
 }
 
 // Of a file that is accepted.

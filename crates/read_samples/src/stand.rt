@@ -7,7 +7,7 @@ ghost use Rattle.read_samples.specs.Stands.{StandsIn, NextAs, StoodAs};
 use layout::gather;
 use layout::gather::Slot;
 use rule::{Refusal, refusals};
-use sample_walk::walk::{Sample, SampleStep, SampleWalk};
+use sample_walk::walk::{Sample, SampleWalk};
 use wire::lend;
 
 // Where three tables of a track stand in a file, and a walk by sample over them.
@@ -60,7 +60,7 @@ pub fn next_at(file: &[u8], at: Stand) -> Option<(Sample, Stand)>
         gather::bytes(file, stsz),
         gather::bytes(file, stco),
     ) {
-        SampleStep::Found(sample, walk) => Some((
+        Some((sample, walk)) => Some((
             sample,
             Stand {
                 stsc,
@@ -69,7 +69,7 @@ pub fn next_at(file: &[u8], at: Stand) -> Option<(Sample, Stand)>
                 walk,
             },
         )),
-        SampleStep::End => None,
+        None => None,
     }
 }
 

@@ -27,7 +27,7 @@ pub fn sooner(u: Verdict, v: Verdict) -> Verdict
         Ok(()) => v,
         Err(p) => match v {
             Ok(()) => u,
-            Err(q) => Err(wire::number::least(p, q)),
+            Err(q) => Err(p.min(q)),
         },
     }
 }

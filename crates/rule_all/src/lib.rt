@@ -22,7 +22,6 @@ use layout::tracks::Movie;
 use layout::{every, gather, tracks};
 use rule_headers::forms;
 use rule_lists::total;
-use wire::number;
 
 // What a track says: before which rule it is sure to be fine, its ID, and how many sample entries it has.
 #[derive(Clone, Copy)]
@@ -111,7 +110,7 @@ fn sure_with(p: SoFar, i: usize, t: TrackSays) -> usize
     if total::MOST < p.total + t.entries {
         return 2;
     }
-    number::least(p.sure, t.sure)
+    p.sure.min(t.sure)
 }
 
 // The tracks so far, and track i.

@@ -53,31 +53,25 @@ fn lists_fine(file: &[u8], t: Track) -> usize
     form::list_form(gather::bytes(file, stsd))
 }
 
-// Rule 6: 1 or 0.
-fn forms_fine(file: &[u8], t: Track) -> usize
+// Rule 6.
+fn forms_fine(file: &[u8], t: Track) -> bool
     requires { Inside file.now t }
-    ensures { result ≡ one_if (forms_fine file.now t) }
+    ensures { result ≡ forms_fine file.now t }
 {
     let stts = t.stts;
-    if table::table_form(gather::bytes(file, stts), 8) == 0 {
-        return 0;
-    }
     let stsc = t.stsc;
-    if table::table_form(gather::bytes(file, stsc), 12) == 0 {
-        return 0;
-    }
     let stsz = t.stsz;
-    if size::sizes_form(gather::bytes(file, stsz)) == 0 {
-        return 0;
-    }
     let stco = t.stco;
-    table::table_form(gather::bytes(file, stco), 4)
+    table::table_form(gather::bytes(file, stts), 8)
+        && table::table_form(gather::bytes(file, stsc), 12)
+        && size::sizes_form(gather::bytes(file, stsz))
+        && table::table_form(gather::bytes(file, stco), 4)
 }
 
-// Rules 7 and 8 where rule 6 holds: 1 or 0.
-fn tables_fine(file: &[u8], t: Track, mdat: Slot) -> usize
+// Rules 7 and 8 where rule 6 holds.
+fn tables_fine(file: &[u8], t: Track, mdat: Slot) -> bool
     requires { Inside file.now t × (forms_fine file.now t ≡ true) × FirstMdat file.now mdat }
-    ensures { result ≡ one_if (tables_fine (boxes file.now) file.now t) }
+    ensures { result ≡ tables_fine (boxes file.now) file.now t }
 {
     let stts = t.stts;
     let stsc = t.stsc;
@@ -88,16 +82,14 @@ fn tables_fine(file: &[u8], t: Track, mdat: Slot) -> usize
     let sizes = gather::bytes(file, stsz);
     let offsets = gather::bytes(file, stco);
     let entries = number::word32(gather::bytes(file, stsd), 4);
-    if agree::seven(gather::bytes(file, stts), runs, sizes, offsets, entries) == 0 {
-        return 0;
-    }
-    chunks::eight(
-        file,
-        runs,
-        sizes,
-        offsets,
-        payload::first(mdat.from, mdat.to),
-    )
+    agree::seven(gather::bytes(file, stts), runs, sizes, offsets, entries)
+        && chunks::eight(
+            file,
+            runs,
+            sizes,
+            offsets,
+            payload::first(mdat.from, mdat.to),
+        )
 }
 
 // Rule 10 in the narrower release, which is asked first since few files need the wider: 1 or 0.
@@ -136,10 +128,10 @@ fn all_fine(file: &[u8], t: Track, mdat: Slot) -> usize
     if lists_fine(file, t) == 0 {
         return 2;
     }
-    if forms_fine(file, t) == 0 {
+    if !forms_fine(file, t) {
         return 2;
     }
-    if tables_fine(file, t, mdat) == 0 {
+    if !tables_fine(file, t, mdat) {
         return 2;
     }
     if entries_fine(file, t) == 0 {

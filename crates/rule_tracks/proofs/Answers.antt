@@ -8,7 +8,7 @@ use Rattle.wire.specs.Tests.{if_eq}
 use Rattle.wire.specs.Numbers.{word}
 use Rattle.wire.specs.Clauses.{one_if}
 use Rattle.codes.specs.Codes.{STSD, STTS, STSC, STSZ, STCO}
-use Rattle.wire.proofs.Clauses.{clause, was_nay, was_yea, yea}
+use Rattle.wire.proofs.Clauses.{clause, was_nay, was_yea}
 use Rattle.boxes.specs.Box.{Box}
 use Rattle.boxes.specs.Seek.{find}
 use Rattle.sample_tables.specs.Rules.{tables_agree, Six}
@@ -42,11 +42,11 @@ six_is l e = record { times = form_is _ _ (clause 0 _ e); runs = form_is _ _ (cl
 
 -- rule 7 is read where rule 6 holds
 module _ (l : List Box) where
-  pub seven_shut : six_holds l ≡ false → 1 ≡ one_if (seven_asked l)
+  pub seven_shut : six_holds l ≡ false → true ≡ seven_asked l
   unfolding seven_asked
-  seven_shut e = rw e (yea true refl)
+  seven_shut e = rw e
 
-  pub seven_open : {r : ℕ} → six_holds l ≡ true
-      → r ≡ one_if (tables_agree (find STTS l) (find STSC l) (find STSZ l) (find STCO l) (word 4 (find STSD l) 4)) → r ≡ one_if (seven_asked l)
+  pub seven_open : {r : Bool} → six_holds l ≡ true
+      → r ≡ tables_agree (find STTS l) (find STSC l) (find STSZ l) (find STCO l) (word 4 (find STSD l) 4) → r ≡ seven_asked l
   unfolding seven_asked seven_holds
   seven_open e q = rw e q

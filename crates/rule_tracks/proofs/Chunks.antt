@@ -1,11 +1,9 @@
 -- What the answers of rule 8 say. Assumes nothing.
 use Prim.Native.Nat.{ℕ, ◌+◌}
 use mathlib.Core.Path.{◌≡◌, refl, sym, ap, ◌∙◌}
-use mathlib.Core.Bool.{true, false}
+use mathlib.Core.Bool.{Bool, true, false}
 use mathlib.Core.List.{List}
-use Rattle.wire.specs.Clauses.{one_if}
 use Rattle.codes.specs.Codes.{STBL, STSC, STSZ, STCO}
-use Rattle.wire.proofs.Clauses.{yea, was_nay, was_yea}
 use Rattle.wire.proofs.Tests.{eq_yea, eq_nay}
 use Rattle.boxes.specs.Box.{Box}
 use Rattle.boxes.specs.Boxes.{boxes}
@@ -33,27 +31,27 @@ module _ (m : List Box) (s : six_holds m ≡ true) where
       record { walk = t.walk; sizes = six.sizes; few = t.few; total = t.total }
 
 module _ (l m : List Box) where
-  pub eight_open : {r : ℕ} → six_holds m ≡ true → seven_asked m ≡ true
-      → r ≡ one_if (chunks_lie l (find STSC m) (find STSZ m) (find STCO m)) → r ≡ one_if (eight_asked l m)
+  pub eight_open : {r : Bool} → six_holds m ≡ true → seven_asked m ≡ true
+      → r ≡ chunks_lie l (find STSC m) (find STSZ m) (find STCO m) → r ≡ eight_asked l m
   unfolding eight_asked eight_holds
   eight_open s e q = rw (s, sym (asked_is m s) ∙ e) q
 
-  pub eight_six : six_holds m ≡ false → 1 ≡ one_if (eight_asked l m)
+  pub eight_six : six_holds m ≡ false → true ≡ eight_asked l m
   unfolding eight_asked
-  eight_six s = rw s (yea true refl)
+  eight_six s = rw s
 
-  pub eight_seven : six_holds m ≡ true → seven_asked m ≡ false → 1 ≡ one_if (eight_asked l m)
+  pub eight_seven : six_holds m ≡ true → seven_asked m ≡ false → true ≡ eight_asked l m
   unfolding eight_asked
-  eight_seven s e = rw (s, sym (asked_is m s) ∙ e) (yea true refl)
+  eight_seven s e = rw (s, sym (asked_is m s) ∙ e)
 
 module _ (l : List Box) (k : ℕ) (xs : List ℕ) (p : ℕ) where
-  pub at_bad : {r q : ℕ} → k ≡ STBL → r ≡ one_if (eight_asked l (boxes xs)) → r ≡ 0 → q ≡ place_in STCO 0 (boxes xs) → Bad (p + q) ≡ eight_asked_at l k xs p
+  pub at_bad : {r : Bool} {q : ℕ} → k ≡ STBL → r ≡ eight_asked l (boxes xs) → r ≡ false → q ≡ place_in STCO 0 (boxes xs) → Bad (p + q) ≡ eight_asked_at l k xs p
   unfolding eight_asked_at
-  at_bad {r} h e z q = eq_yea _ _ _ _ _ h (ap (λ (n : ℕ). Bad (p + n)) q ∙ unless_nay _ _ (sym (was_nay _ r z e)))
+  at_bad {r} h e z q = eq_yea _ _ _ _ _ h (ap (λ (n : ℕ). Bad (p + n)) q ∙ unless_nay _ _ (sym z ∙ e))
 
-  pub at_fine : {r : ℕ} → k ≡ STBL → r ≡ one_if (eight_asked l (boxes xs)) → (r ≡ 0 → ⊥) → Fine ≡ eight_asked_at l k xs p
+  pub at_fine : {r : Bool} → k ≡ STBL → r ≡ eight_asked l (boxes xs) → r ≡ true → Fine ≡ eight_asked_at l k xs p
   unfolding eight_asked_at
-  at_fine {r} h e z = eq_yea _ _ _ _ _ h (unless_yea _ _ (sym (was_yea _ r z e)))
+  at_fine {r} h e z = eq_yea _ _ _ _ _ h (unless_yea _ _ (sym z ∙ e))
 
   pub at_other : (k ≡ STBL → ⊥) → Fine ≡ eight_asked_at l k xs p
   unfolding eight_asked_at

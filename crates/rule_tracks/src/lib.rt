@@ -14,8 +14,8 @@ use sample_tables::{agree, size, table};
 use wire::number;
 
 // Whether a table has its length.
-fn table_of(c: usize, body: &[u8]) -> usize
-    ensures { result ≡ one_if (table_fine c body.now) }
+fn table_of(c: usize, body: &[u8]) -> bool
+    ensures { result ≡ table_fine c body.now }
 {
     if c == codes::STTS {
         return table::table_form(body, 8);
@@ -29,7 +29,7 @@ fn table_of(c: usize, body: &[u8]) -> usize
     if c == codes::STSZ {
         return size::sizes_form(body);
     }
-    1
+    true
 }
 
 // Rule 6 of a box of a container of kind k.
@@ -37,36 +37,27 @@ pub fn table_in(k: usize, c: usize, body: &[u8]) -> usize
     ensures { result ≡ one_if (table_in k c body.now) }
 {
     if k == codes::STBL {
-        return table_of(c, body);
+        return usize::from(table_of(c, body));
     }
     1
 }
 
 // Whether rule 6 holds of the tables of an `stbl`.
-fn six_holds(stbl: &[u8]) -> usize
-    ensures { result ≡ one_if (six_holds (boxes stbl.now)) }
+fn six_holds(stbl: &[u8]) -> bool
+    ensures { result ≡ six_holds (boxes stbl.now) }
 {
-    if table::table_form(seek::payload(stbl, codes::STTS, 0), 8) == 0 {
-        return 0;
-    }
-    if table::table_form(seek::payload(stbl, codes::STSC, 0), 12) == 0 {
-        return 0;
-    }
-    if size::sizes_form(seek::payload(stbl, codes::STSZ, 0)) == 0 {
-        return 0;
-    }
-    if table::table_form(seek::payload(stbl, codes::STCO, 0), 4) == 0 {
-        return 0;
-    }
-    1
+    table::table_form(seek::payload(stbl, codes::STTS, 0), 8)
+        && table::table_form(seek::payload(stbl, codes::STSC, 0), 12)
+        && size::sizes_form(seek::payload(stbl, codes::STSZ, 0))
+        && table::table_form(seek::payload(stbl, codes::STCO, 0), 4)
 }
 
 // Whether the tables of an `stbl` agree, where they have their lengths.
-fn seven_holds(stbl: &[u8]) -> usize
-    ensures { result ≡ one_if (seven_asked (boxes stbl.now)) }
+fn seven_holds(stbl: &[u8]) -> bool
+    ensures { result ≡ seven_asked (boxes stbl.now) }
 {
-    if six_holds(stbl) == 0 {
-        return 1;
+    if !six_holds(stbl) {
+        return true;
     }
     agree::seven(
         seek::payload(stbl, codes::STTS, 0),
@@ -82,20 +73,20 @@ pub fn seven_in(k: usize, part: &[u8]) -> usize
     ensures { result ≡ one_if (seven_asked_in k part.now) }
 {
     if k == codes::STBL {
-        return seven_holds(part);
+        return usize::from(seven_holds(part));
     }
     1
 }
 
 // Whether the chunks of an `stbl` lie in the file's payloads, where its tables agree.
-fn eight_holds(file: &[u8], stbl: &[u8]) -> usize
-    ensures { result ≡ one_if (eight_asked (boxes file.now) (boxes stbl.now)) }
+fn eight_holds(file: &[u8], stbl: &[u8]) -> bool
+    ensures { result ≡ eight_asked (boxes file.now) (boxes stbl.now) }
 {
-    if six_holds(stbl) == 0 {
-        return 1;
+    if !six_holds(stbl) {
+        return true;
     }
-    if seven_holds(stbl) == 0 {
-        return 1;
+    if !seven_holds(stbl) {
+        return true;
     }
     chunks::eight(
         file,
@@ -112,7 +103,7 @@ pub fn eight_at(file: &[u8], k: usize, part: &[u8], base: usize) -> Verdict
     ensures { result ≡ eight_asked_at (boxes file.now) k part.now base }
 {
     if k == codes::STBL {
-        if eight_holds(file, part) == 0 {
+        if !eight_holds(file, part) {
             return Err(base + seek::place(part, codes::STCO, 0));
         }
         return Ok(());

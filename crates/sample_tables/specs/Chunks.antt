@@ -8,8 +8,8 @@ use Rattle.sample_tables.specs.Runs.{per_chunk, description, run_of, Rising}
 use Rattle.sample_tables.specs.declared.chunk.Chunk.{Chunk}
 use Rattle.sample_tables.specs.declared.chunk.Extent.{Extent}
 use Rattle.sample_tables.specs.declared.chunk.ChunkWalk.{ChunkWalk}
-use Rattle.sample_tables.specs.declared.chunk.ChunkStep.{ChunkStep}
-use Rattle.sample_tables.specs.declared.chunk.ChunkStep.TheVariants.{Found, End}
+use Rattle.std.specs.declared.option.Option.{Option}
+use Rattle.std.specs.declared.option.Option.TheVariants.{Some, None}
 
 -- what a chunk has of its run
 unfoldable pub samples_in : List ℕ → ℕ → ℕ
@@ -53,8 +53,8 @@ walk_start = record { chunk = 0; run = 0; sample = 0 }
 unfoldable pub walk_at : List ℕ → ℕ → ChunkWalk
 walk_at stsc k = record { chunk = k; run = run_of stsc k; sample = first_sample stsc k }
 
-unfoldable pub step_of : List ℕ → List ℕ → ℕ → ChunkStep
-step_of stsc stco k = if_lt k (items stco) (Found (chunk_at stsc stco k) (walk_at stsc (k + 1))) End
+unfoldable pub step_of : List ℕ → List ℕ → ℕ → Option (Chunk × ChunkWalk)
+step_of stsc stco k = if_lt k (items stco) (Some (chunk_at stsc stco k, walk_at stsc (k + 1))) None
 
 -- what the walk asks of its tables
 pub record Walkable (stsc stco : List ℕ) : Type 0 where

@@ -30,12 +30,6 @@ pub struct ChunkWalk {
     pub sample: usize,
 }
 
-#[derive(Clone, Copy)]
-pub enum ChunkStep {
-    Found(Chunk, ChunkWalk),
-    End,
-}
-
 // The offset of chunk k.
 pub fn offset_at(stco: &[u8], k: usize) -> usize
     requires { Table 4 stco.now × (k < items stco.now) }
@@ -56,14 +50,14 @@ impl ChunkWalk {
         }
     }
 
-    // The chunk and the walk after it, by a constant number of reads.
-    pub fn step(self, stsc: &[u8], stco: &[u8]) -> ChunkStep
+    // The chunk and the walk after it, or none past the last, by a constant number of reads.
+    pub fn step(self, stsc: &[u8], stco: &[u8]) -> Option<(Chunk, ChunkWalk)>
         requires { Walkable stsc.now stco.now × (self ≡ walk_at stsc.now self.chunk) }
         ensures { result ≡ step_of stsc.now stco.now self.chunk }
     {
         let nth = self.chunk;
         if table::items(stco) <= nth {
-            return ChunkStep::End;
+            return None;
         }
         let run = self.run;
         let samples = run::per_chunk(stsc, run);
@@ -79,7 +73,7 @@ impl ChunkWalk {
             run: run::run_after(stsc, nth, run),
             sample: self.sample + samples,
         };
-        ChunkStep::Found(found, next)
+        Some((found, next))
     }
 }
 
@@ -90,14 +84,12 @@ pub fn samples_over(stsc: &[u8], stco: &[u8]) -> usize
 {
     let n = table::items(stsc);
     let chunks = table::items(stco);
-    let mut i = 0;
     let mut k = 0;
     let mut sum = 0;
-    while i < n {
+    for i in 0..n {
         let end = run::run_end(stsc, chunks, i);
         sum += (end - k) * run::per_chunk(stsc, i);
         k = end;
-        i += 1;
     }
     sum
 }

@@ -1,12 +1,10 @@
 // `stsc`: runs of chunks.
 ghost use Rattle.std.specs.Prelude.{◌≡◌, ◌+◌, ◌^◌, ◌<◌};
-ghost use Rattle.wire.specs.Clauses.{one_if};
 ghost use Rattle.sample_tables.specs.Tables.{Table, items};
 ghost use Rattle.sample_tables.specs.Runs.{first_chunk, per_chunk, description as description_in};
 ghost use Rattle.sample_tables.specs.Runs.{rises as rises_of, run_fine, runs_fine, run_of, run_start, Rising};
 
 use crate::table;
-use wire::number;
 
 // The number of run i's first chunk, from 1.
 fn start_of(stsc: &[u8], i: usize) -> usize
@@ -32,61 +30,42 @@ pub fn description(stsc: &[u8], i: usize) -> usize
     table::field(stsc, 12, 8, i)
 }
 
-// Whether run i starts at chunk 1 or, after the first, past the one before it: 1 or 0.
-fn rises(stsc: &[u8], i: usize) -> usize
+// Whether run i starts at chunk 1 or, after the first, past the one before it.
+fn rises(stsc: &[u8], i: usize) -> bool
     requires { Table 12 stsc.now × (i < items stsc.now) }
-    ensures { result ≡ one_if (rises_of stsc.now i) }
+    ensures { result ≡ rises_of stsc.now i }
 {
     if i == 0 {
-        if start_of(stsc, i) == 1 {
-            return 1;
-        }
-        return 0;
+        return start_of(stsc, i) == 1;
     }
-    if start_of(stsc, i - 1) < start_of(stsc, i) {
-        return 1;
-    }
-    0
+    start_of(stsc, i - 1) < start_of(stsc, i)
 }
 
-// Whether run i is as rule 7 wants it: 1 or 0.
-fn run_fine(stsc: &[u8], chunks: usize, descriptions: usize, i: usize) -> usize
+// Whether run i is as rule 7 wants it.
+fn run_fine(stsc: &[u8], chunks: usize, descriptions: usize, i: usize) -> bool
     requires { Table 12 stsc.now × (i < items stsc.now) }
-    ensures { result ≡ one_if (run_fine stsc.now chunks descriptions i) }
+    ensures { result ≡ run_fine stsc.now chunks descriptions i }
 {
-    if rises(stsc, i) == 0 {
-        return 0;
-    }
-    if chunks < start_of(stsc, i) {
-        return 0;
-    }
-    if per_chunk(stsc, i) < 1 {
-        return 0;
-    }
     let index = description(stsc, i);
-    if index < 1 {
-        return 0;
-    }
-    if descriptions < index {
-        return 0;
-    }
-    1
+    rises(stsc, i)
+        && start_of(stsc, i) <= chunks
+        && 1 <= per_chunk(stsc, i)
+        && 1 <= index
+        && index <= descriptions
 }
 
-// Whether every run is: 1 or 0.
-pub fn runs_fine(stsc: &[u8], chunks: usize, descriptions: usize) -> usize
+// Whether every run is.
+pub fn runs_fine(stsc: &[u8], chunks: usize, descriptions: usize) -> bool
     requires { Table 12 stsc.now }
-    ensures { result ≡ one_if (runs_fine stsc.now chunks descriptions (items stsc.now)) }
+    ensures { result ≡ runs_fine stsc.now chunks descriptions (items stsc.now) }
 {
     let n = table::items(stsc);
-    let mut i = 0;
-    while i < n {
-        if run_fine(stsc, chunks, descriptions, i) == 0 {
-            return 0;
+    for i in 0..n {
+        if !run_fine(stsc, chunks, descriptions, i) {
+            return false;
         }
-        i += 1;
     }
-    1
+    true
 }
 
 // The run of chunk k + 1, from that of chunk k.
@@ -109,7 +88,7 @@ pub fn run_end(stsc: &[u8], chunks: usize, i: usize) -> usize
     ensures { result ≡ run_start stsc.now chunks (i + 1) }
 {
     if i + 1 < table::items(stsc) {
-        return number::least(start_of(stsc, i + 1) - 1, chunks);
+        return (start_of(stsc, i + 1) - 1).min(chunks);
     }
     chunks
 }

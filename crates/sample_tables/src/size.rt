@@ -1,6 +1,5 @@
 // `stsz`: the sizes of samples.
 ghost use Rattle.std.specs.Prelude.{◌≡◌, ◌+◌, ◌-◌, ◌*◌, ◌/◌, ◌^◌, ◌≤◌, ◌<◌, min, length};
-ghost use Rattle.wire.specs.Clauses.{one_if};
 ghost use Rattle.sample_tables.specs.Sizes.{common, four_at, sizes_form, sizes_listed, sample_count, size_at, bytes_from, Held};
 
 use crate::table;
@@ -16,9 +15,9 @@ fn listed(stsz: &[u8]) -> usize
     0
 }
 
-// Whether a payload has rule 6's form: 1 or 0.
-pub fn sizes_form(stsz: &[u8]) -> usize
-    ensures { result ≡ one_if (sizes_form stsz.now) }
+// Whether a payload has rule 6's form.
+pub fn sizes_form(stsz: &[u8]) -> bool
+    ensures { result ≡ sizes_form stsz.now }
 {
     table::has_form(stsz, 12 + 4 * listed(stsz))
 }
@@ -58,11 +57,9 @@ fn few_from(stsz: &[u8], first: usize, n: usize) -> usize
     requires { (common stsz.now ≡ 0) × (first + n ≤ 65536) × (n ≤ (length stsz.now - (12 + 4 * first)) / 4) }
     ensures { (result ≡ bytes_from stsz.now first n) × (result ≤ n * 4294967295) }
 {
-    let mut i = 0;
     let mut sum = 0;
-    while i < n {
+    for i in 0..n {
         sum += number::word32_in(stsz, 12 + 4 * (first + i));
-        i += 1;
     }
     sum
 }
@@ -72,13 +69,11 @@ fn many_from(stsz: &[u8], first: usize, n: usize) -> usize
     requires { (common stsz.now ≡ 0) × (first + n ≤ 65536) × (n ≤ (length stsz.now - (12 + 4 * first)) / 4) }
     ensures { (result ≡ bytes_from stsz.now first n) × (result ≤ n * 4294967295) }
 {
-    let mut i = 0;
     let mut sum = 0;
-    while 4 <= n - i {
-        sum += four(stsz, 12 + 4 * (first + i));
-        i += 4;
+    for i in 0..n / 4 {
+        sum += four(stsz, 12 + 4 * (first + 4 * i));
     }
-    sum + few_from(stsz, first + i, n - i)
+    sum + few_from(stsz, first + n / 4 * 4, n % 4)
 }
 
 // The bytes of n samples from the given one on, where their sizes are there.
@@ -105,7 +100,7 @@ fn inside(stsz: &[u8], first: usize, n: usize) -> usize
     if stsz.len() < from {
         return 0;
     }
-    number::least(n, (stsz.len() - from) / 4)
+    n.min((stsz.len() - from) / 4)
 }
 
 // The bytes of n samples from the given one on.

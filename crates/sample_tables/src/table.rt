@@ -1,21 +1,14 @@
 // Tables: a stored count, and items of one width.
 ghost use Rattle.std.specs.Prelude.{◌≡◌, ◌+◌, ◌^◌, ◌≤◌, ◌<◌};
-ghost use Rattle.wire.specs.Clauses.{one_if};
 ghost use Rattle.sample_tables.specs.Tables.{Table, has_form, table_form, items as items_of, field as field_of};
 
 use wire::number;
 
-// Whether a payload has version byte 0 and the given length: 1 or 0.
-pub fn has_form(part: &[u8], long: usize) -> usize
-    ensures { result ≡ one_if (has_form long part.now) }
+// Whether a payload has version byte 0 and the given length.
+pub fn has_form(part: &[u8], long: usize) -> bool
+    ensures { result ≡ has_form long part.now }
 {
-    if number::byte(part, 0) != 0 {
-        return 0;
-    }
-    if part.len() != long {
-        return 0;
-    }
-    1
+    number::byte(part, 0) == 0 && part.len() == long
 }
 
 // The stored count.
@@ -25,10 +18,10 @@ pub fn items(part: &[u8]) -> usize
     number::word32(part, 4)
 }
 
-// Whether a table has rule 6's form: 1 or 0. No item is read for it.
-pub fn table_form(part: &[u8], width: usize) -> usize
+// Whether a table has rule 6's form. No item is read for it.
+pub fn table_form(part: &[u8], width: usize) -> bool
     requires { width ≤ 12 }
-    ensures { result ≡ one_if (table_form width part.now) }
+    ensures { result ≡ table_form width part.now }
 {
     has_form(part, 8 + width * items(part))
 }

@@ -4,7 +4,6 @@ ghost use Rattle.sample_tables.specs.Tables.{Table};
 ghost use Rattle.sample_tables.specs.Times.{timed as timed_of, media_ticks, tick_at};
 
 use crate::table;
-use wire::number;
 
 // A number of the units that `mdhd` says: never added to or compared with movie ticks.
 #[derive(Clone, Copy)]
@@ -16,11 +15,9 @@ pub fn timed(stts: &[u8]) -> usize
     ensures { result ≡ timed_of stts.now }
 {
     let n = table::items(stts);
-    let mut i = 0;
     let mut sum = 0;
-    while i < n {
+    for i in 0..n {
         sum += table::field(stts, 8, 0, i);
-        i += 1;
     }
     sum
 }
@@ -31,13 +28,11 @@ pub fn media_ticks(stts: &[u8]) -> MediaTicks
     ensures { result.0 ≡ media_ticks stts.now }
 {
     let n = table::items(stts);
-    let mut i = 0;
     let mut sum = 0;
-    while i < n {
+    for i in 0..n {
         let counted = table::field(stts, 8, 0, i);
         let delta = table::field(stts, 8, 4, i);
         sum += counted * delta;
-        i += 1;
     }
     MediaTicks(sum as u64)
 }
@@ -48,15 +43,13 @@ pub fn tick_at(stts: &[u8], sample: usize) -> MediaTicks
     ensures { result.0 ≡ tick_at stts.now sample }
 {
     let n = table::items(stts);
-    let mut i = 0;
     let mut left = sample;
     let mut sum = 0;
-    while i < n {
-        let counted = number::least(table::field(stts, 8, 0, i), left);
+    for i in 0..n {
+        let counted = table::field(stts, 8, 0, i).min(left);
         let delta = table::field(stts, 8, 4, i);
         sum += counted * delta;
         left -= counted;
-        i += 1;
     }
     MediaTicks(sum as u64)
 }

@@ -10,7 +10,7 @@ use Rattle.sample_tables.specs.Chunks.{first_sample, walk_at, step_of}
 use Rattle.sample_tables.specs.Rules.{Six, Seven}
 use Rattle.sample_tables.specs.declared.chunk.Chunk.{Chunk}
 use Rattle.sample_tables.specs.declared.chunk.ChunkWalk.{ChunkWalk}
-use Rattle.sample_tables.specs.declared.chunk.ChunkStep.TheVariants.{Found as FoundChunk, End as NoChunk}
+use Rattle.std.specs.declared.option.Option.TheVariants.{Some, None}
 use Rattle.sample_tables.specs.declared.time.MediaTicks.{MediaTicks}
 use Rattle.sample_tables.proofs.Times.{timed_none}
 use Rattle.sample_tables.proofs.Chunks.{first_none, first_mono, walk_start_lem, walk_chunk, walk_sample}
@@ -55,11 +55,11 @@ module _ (stts stsc stco : List ℕ) (a : Playable stts stsc stco) where
     pub sample_part : w.walk.sample ≡ first_sample stsc w.walk.chunk
     sample_part = walk_sample stsc w.walk w.walk.chunk walk_part
 
-    pub answer_end : NoChunk ≡ step_of stsc stco w.walk.chunk → End ≡ timed_step stts stsc stco w.clock.item w.walk.chunk
+    pub answer_end : None ≡ step_of stsc stco w.walk.chunk → End ≡ timed_step stts stsc stco w.clock.item w.walk.chunk
     unfolding timed_step
     answer_end e = lt_nay _ _ _ _ _ (end_is stsc stco _ e) refl
 
-    module _ (c : Chunk) (n : ChunkWalk) (f : FoundChunk c n ≡ step_of stsc stco w.walk.chunk) where
+    module _ (c : Chunk) (n : ChunkWalk) (f : Some (c, n) ≡ step_of stsc stco w.walk.chunk) where
       -- the clock may be asked for the chunk's first sample
       pub asked : (timed_to stts w.clock.item ≤ w.walk.sample) × (w.walk.sample ≤ timed stts)
       asked =

@@ -6,7 +6,7 @@ ghost use Rattle.sample_tables.specs.Chunks.{first_sample};
 ghost use Rattle.sample_times.specs.Walks.{timed_start, timed_step, Timed, Playable};
 
 use crate::clock::{Clock, Turned};
-use sample_tables::chunk::{Chunk, ChunkStep, ChunkWalk};
+use sample_tables::chunk::{Chunk, ChunkWalk};
 use sample_tables::time::MediaTicks;
 
 // Before a chunk, with a clock that isn't past the chunk's first sample.
@@ -43,11 +43,11 @@ impl TimedWalk {
         let walk = self.walk;
         let clock = self.clock;
         match walk.step(stsc, stco) {
-            ChunkStep::Found(chunk, next) => match clock.turn(stts, walk.sample) {
+            Some((chunk, next)) => match clock.turn(stts, walk.sample) {
                 Turned::At(tick) => TimedStep::Found(chunk, tick, TimedWalk { walk: next, clock }),
                 Turned::Behind(clock) => TimedStep::Ticking(TimedWalk { walk, clock }),
             },
-            ChunkStep::End => TimedStep::End,
+            None => TimedStep::End,
         }
     }
 }

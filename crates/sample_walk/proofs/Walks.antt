@@ -20,8 +20,8 @@ use Rattle.sample_tables.proofs.Steps.{Stepped}
 use Rattle.sample_tables.proofs.LastRun.{run_inside}
 use Rattle.sample_walk.specs.declared.walk.Sample.{Sample}
 use Rattle.sample_walk.specs.declared.walk.SampleWalk.{SampleWalk}
-use Rattle.sample_walk.specs.declared.walk.SampleStep.{SampleStep}
-use Rattle.sample_walk.specs.declared.walk.SampleStep.TheVariants.{Found, End}
+use Rattle.std.specs.declared.option.Option.{Option}
+use Rattle.std.specs.declared.option.Option.TheVariants.{Some, None}
 use Rattle.sample_walk.specs.Samples.{sample_in, chunk_samples, samples_at}
 use Rattle.sample_walk.specs.Walks.{Sampled, sample_start, Before, Gives, StepAs}
 use Rattle.sample_walk.proofs.Joins.{join_length, join_at, singles_length, single_at}
@@ -158,12 +158,12 @@ module _ (stsc stsz stco : List ℕ) where
 
 -- ---- back from the answer
 
-module _ (stsc stsz stco : List ℕ) {n : ℕ} (r : SampleStep) (a : StepAs stsc stsz stco n r) where
-  pub step_gives : {s : Sample} {w : SampleWalk} → r ≡ Found s w → Gives stsc stsz stco n s w
+module _ (stsc stsz stco : List ℕ) {n : ℕ} (r : Option (Sample × SampleWalk)) (a : StepAs stsc stsz stco n r) where
+  pub step_gives : {s : Sample} {w : SampleWalk} → r ≡ Some (s, w) → Gives stsc stsz stco n s w
   unfolding StepAs
   step_gives e = rw e at a
 
-  pub step_ends : r ≡ End → length (samples_at stsc stsz stco) ≡ n
+  pub step_ends : r ≡ None → length (samples_at stsc stsz stco) ≡ n
   unfolding StepAs
   step_ends e = rw e at a
 

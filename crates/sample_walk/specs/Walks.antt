@@ -6,8 +6,8 @@ use Rattle.sample_tables.specs.Runs.{Filled}
 use Rattle.sample_tables.specs.Chunks.{first_sample, samples_over, offset_at, description_of, walk_start, walk_at, Walkable}
 use Rattle.sample_walk.specs.declared.walk.Sample.{Sample}
 use Rattle.sample_walk.specs.declared.walk.SampleWalk.{SampleWalk}
-use Rattle.sample_walk.specs.declared.walk.SampleStep.{SampleStep}
-use Rattle.sample_walk.specs.declared.walk.SampleStep.TheVariants.{Found, End}
+use Rattle.std.specs.declared.option.Option.{Option}
+use Rattle.std.specs.declared.option.Option.TheVariants.{Some, None}
 use Rattle.sample_walk.specs.Samples.{samples_at}
 
 -- what the walk asks of its tables: rules 6 and 7 give it
@@ -44,6 +44,6 @@ pub record Gives (stsc stsz stco : List ℕ) (n : ℕ) (s : Sample) (w : SampleW
   pub walk : Before stsc stsz stco w
 
 -- and then the end
-unfoldable pub StepAs : (stsc stsz stco : List ℕ) → ℕ → SampleStep → Type 0
-StepAs stsc stsz stco n (Found s w) = Gives stsc stsz stco n s w
-StepAs stsc stsz stco n End = length (samples_at stsc stsz stco) ≡ n
+unfoldable pub StepAs : (stsc stsz stco : List ℕ) → ℕ → Option (Sample × SampleWalk) → Type 0
+StepAs stsc stsz stco n (Some r) = Gives stsc stsz stco n r.0 r.1
+StepAs stsc stsz stco n None = length (samples_at stsc stsz stco) ≡ n

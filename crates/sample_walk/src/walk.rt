@@ -1,9 +1,9 @@
 // Where the samples of a track lie, from one to the next.
 ghost use Rattle.std.specs.Prelude.{◌≡◌, ◌<◌};
 ghost use Rattle.sample_tables.specs.Chunks.{first_sample};
-ghost use Rattle.sample_walk.specs.Walks.{sample_start, Sampled, Before, StepAs};
+ghost use Rattle.sample_walk.specs.Walks.{sample_start, Sampled, Before, Gives, StepAs};
 
-use sample_tables::chunk::{ChunkStep, ChunkWalk};
+use sample_tables::chunk::ChunkWalk;
 use sample_tables::size;
 
 // A sample: its place in the file, how many bytes it has, and the number of its description, from 1.
@@ -24,23 +24,17 @@ pub struct SampleWalk {
     pub description: usize,
 }
 
-#[derive(Clone, Copy)]
-pub enum SampleStep {
-    Found(Sample, SampleWalk),
-    End,
-}
-
 // The sample that a walk inside a chunk stands before, and the walk after it.
-fn found(w: SampleWalk, stsc: &[u8], stsz: &[u8], stco: &[u8]) -> SampleStep
+fn found(w: SampleWalk, stsc: &[u8], stsz: &[u8], stco: &[u8]) -> (Sample, SampleWalk)
     requires { Sampled stsc.now stsz.now stco.now × Before stsc.now stsz.now stco.now w × (w.number < first_sample stsc.now w.chunks.chunk) }
-    ensures { StepAs stsc.now stsz.now stco.now w.number result }
+    ensures { Gives stsc.now stsz.now stco.now w.number result.0 result.1 }
 {
     let number = w.number;
     let bytes = size::size_at(stsz, number);
     let place = w.place;
     let description = w.description;
     let chunks = w.chunks;
-    SampleStep::Found(
+    (
         Sample {
             place,
             bytes,
@@ -68,27 +62,23 @@ impl SampleWalk {
         }
     }
 
-    // The sample and the walk after it, by a constant number of reads.
-    pub fn step(self, stsc: &[u8], stsz: &[u8], stco: &[u8]) -> SampleStep
+    // The sample and the walk after it, or none past the last, by a constant number of reads.
+    pub fn step(self, stsc: &[u8], stsz: &[u8], stco: &[u8]) -> Option<(Sample, SampleWalk)>
         requires { Sampled stsc.now stsz.now stco.now × Before stsc.now stsz.now stco.now self }
         ensures { StepAs stsc.now stsz.now stco.now self.number result }
     {
         let number = self.number;
         let chunks = self.chunks;
         if number < chunks.sample {
-            return found(self, stsc, stsz, stco);
+            return Some(found(self, stsc, stsz, stco));
         }
-        match chunks.step(stsc, stco) {
-            ChunkStep::Found(chunk, next) => {
-                let w = SampleWalk {
-                    number,
-                    chunks: next,
-                    place: chunk.offset,
-                    description: chunk.description,
-                };
-                found(w, stsc, stsz, stco)
-            }
-            ChunkStep::End => SampleStep::End,
-        }
+        let (chunk, next) = chunks.step(stsc, stco)?;
+        let w = SampleWalk {
+            number,
+            chunks: next,
+            place: chunk.offset,
+            description: chunk.description,
+        };
+        Some(found(w, stsc, stsz, stco))
     }
 }

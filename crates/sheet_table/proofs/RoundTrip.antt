@@ -7,10 +7,9 @@ use mathlib.Core.List.{List, [], ◌∷◌, ◌++◌, append_assoc}
 use lib.ListN.{length, drop, get_or, replicate}
 use lib.Seq.{take-append_seam, drop-append_seam, drop_at}
 use Rattle.wire.specs.Numbers.{bytes, word}
-use Rattle.wire.specs.Same.{same}
 use Rattle.wire.proofs.Clauses.{is_eq_lem, is_le_lem, eq_is, holds, done, clause}
 use Rattle.wire.proofs.Numbers.{length_bytes_lem, word_bytes, word_right}
-use Rattle.wire.proofs.Same.{same_refl, same_is}
+use lib.Pointwise.{bytes_decides}
 use Rattle.movie.specs.Entries.{Entry}
 use Rattle.sheet.specs.Sheet.{SLOTS, SLOT, edition_for, bodies_at, slot, slots, bodies, front, sheet}
 use Rattle.sheet_table.specs.Form.{read, unsheet, steps, all_meet, formed}
@@ -78,14 +77,12 @@ unfolding formed
 formed_sheet es m h a s b =
     let n : get_or (sheet es) 1 0 ≡ length es = count_sheet es in
     sym (rw (unsheet_sheet es h a, n)
-    (holds _ _ (is_le_lem _ _ m) (holds _ _ (is_le_lem _ _ h) (holds _ _ (is_eq_lem _ _ (same_refl (sheet es))) (holds _ _ s (holds _ _ b done))))))
+    (holds _ _ (is_le_lem _ _ m) (holds _ _ (is_le_lem _ _ h) (holds _ _ ((bytes_decides (sheet es) (sheet es)).1 refl) (holds _ _ s (holds _ _ b done))))))
 
 -- and back: a sheet of the form is the sheet of its own entries
 pub sheet_unsheet : (xs : List ℕ) → formed xs ≡ true → sheet (unsheet xs) ≡ xs
 unfolding formed
-sheet_unsheet xs f =
-    let e : same xs (sheet (unsheet xs)) ≡ 1 = eq_is _ _ (clause 2 _ f) in
-    sym (same_is xs (sheet (unsheet xs)) (λ z. omega arith))
+sheet_unsheet xs f = sym ((bytes_decides xs (sheet (unsheet xs))).0 (clause 2 _ f))
 
 -- its first byte is the number of the edition that its count asks for
 pub formed_edition : (xs : List ℕ) → formed xs ≡ true → get_or xs 0 0 ≡ (edition_for (get_or xs 1 0)).number

@@ -3,7 +3,7 @@ use Rattle.std.specs.Prelude.{ℕ, zero, suc, ◌+◌, Bool, true, false, List, 
 use Rattle.wire.specs.Tests.{pick}
 use Rattle.wire.specs.Clauses.{is_eq, is_le, every}
 use Rattle.wire.specs.Numbers.{word}
-use Rattle.wire.specs.Same.{same}
+use Rattle.std.specs.Str.{bytes_eq}
 use Rattle.movie.specs.Entries.{Entry}
 use Rattle.release.specs.declared.Release.TheVariants.{Release4}
 use Rattle.entry_rules.specs.declared.entry.Around.TheVariants.{Alone}
@@ -47,7 +47,7 @@ formed xs =
     every
     (is_le 1 (get_or xs 1 0)
     ∷ is_le (get_or xs 1 0) SLOTS
-    ∷ is_eq (same xs (sheet (unsheet xs))) 1
+    ∷ bytes_eq xs (sheet (unsheet xs))
     ∷ steps 0 (unsheet xs)
     ∷ all_meet (unsheet xs)
     ∷ [])

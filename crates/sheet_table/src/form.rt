@@ -1,7 +1,7 @@
 // The form of a sheet.
 ghost use Rattle.std.specs.Prelude.{◌≡◌, ◌≤◌, ◌<◌, get_or};
 ghost use Rattle.wire.specs.Clauses.{one_if};
-ghost use Rattle.wire.specs.Same.{same};
+ghost use Rattle.std.specs.Str.{bytes_eq};
 ghost use Rattle.sheet.specs.Sheet.{SLOTS, sheet as sheet_text};
 ghost use Rattle.sheet_table.specs.Form.{read, unsheet, follows as follows_of, steps as steps_of, all_meet, formed as formed_of};
 
@@ -10,7 +10,7 @@ use entry_rules::entry;
 use entry_rules::entry::Around;
 use release::Release;
 use sheet::edition;
-use wire::{compare, lend, number, test};
+use wire::{lend, number};
 
 // The most tracks.
 const TRACKS: usize = 4;
@@ -72,20 +72,20 @@ fn all_meet(slots: &[u8], bodies: &[u8], n: usize) -> usize
     )
 }
 
-// 1 where a sheet of n entries is the one that they make, else 0.
-fn made(sheet: &[u8], n: usize) -> usize
+// Whether a sheet of n entries is the one that they make.
+fn made(sheet: &[u8], n: usize) -> bool
     requires { (n ≡ get_or sheet.now 1 0) × (n ≤ SLOTS) }
-    ensures { result ≡ same sheet.now (sheet_text (unsheet sheet.now)) }
+    ensures { result ≡ bytes_eq sheet.now (sheet_text (unsheet sheet.now)) }
 {
     let slots = lend::rest(sheet, edition::FRONT);
     let bodies = slots::bodies(sheet, n);
     let mut again = [0u8; edition::BODIES];
     slots::put_front(&mut again, slots, bodies, n);
     let k = edition::bodies_at(n);
-    if compare::same(lend::front(sheet, k), lend::front(&again, k)) == 0 {
-        return 0;
+    if lend::front(sheet, k) != lend::front(&again, k) {
+        return false;
     }
-    test::choose(slots::size(slots, bodies, n), bodies.len(), 1, 0)
+    slots::size(slots, bodies, n) == bodies.len()
 }
 
 // 1 where a sheet has the form, else 0.
@@ -99,7 +99,7 @@ pub fn formed(sheet: &[u8]) -> usize
     if edition::SLOTS < n {
         return 0;
     }
-    if made(sheet, n) != 1 {
+    if !made(sheet, n) {
         return 0;
     }
     let slots = lend::rest(sheet, edition::FRONT);

@@ -47,7 +47,7 @@ fn take(part: &[u8], list: &mut [u64; 20]) {
 
 fn write_first(list: &[u64; 20], n: usize, release: u64, out: &mut [u8]) -> u64 {
     let all: &[u64] = list;
-    threegp::threegp_record_write(&all[0..number::least(n, all.len())], release, out)
+    threegp::threegp_record_write(&all[0..n.min(all.len())], release, out)
 }
 
 fn record_write(part: &[u8], release: u64, out: &mut [u8]) -> u64 {

@@ -14,7 +14,7 @@ const FEW: usize = 400;
 fn numbers(rt: HostRuntime, file: &[u8], call: &[u8]) {
     let mut list = [0xAAAAAAAAAAAAAAAAu64; 16];
     let all: &mut [u64] = &mut list;
-    let n = number::least(call::asked(call), all.len());
+    let n = call::asked(call).min(all.len());
     print::answer(rt, ask::numbers(file, call, &mut all[0..n]));
     let written = &all[..];
     print::all(rt, &written[0..n]);
@@ -22,7 +22,7 @@ fn numbers(rt: HostRuntime, file: &[u8], call: &[u8]) {
 
 // The sum of the numbers, where there are more.
 fn sum_numbers(rt: HostRuntime, file: &[u8], call: &[u8], all: &mut [u64]) {
-    let n = number::least(call::asked(call), all.len());
+    let n = call::asked(call).min(all.len());
     print::answer(rt, ask::numbers(file, call, &mut all[0..n]));
     let written = &all[..];
     print::sum_halves(rt, &written[0..n]);
@@ -58,7 +58,7 @@ fn samples(rt: HostRuntime, file: &[u8], call: &[u8]) {
 fn offsets(rt: HostRuntime, file: &[u8], call: &[u8]) {
     let mut list = [0xAAAAAAAAu32; 200];
     let all: &mut [u32] = &mut list;
-    let n = number::least(call::asked(call), all.len());
+    let n = call::asked(call).min(all.len());
     print::answer(
         rt,
         threegp::threegp_offsets(file, call::first(call) as u64, &mut all[0..n]),
@@ -101,7 +101,7 @@ fn shown(call: &[u8]) -> bool {
 }
 
 fn bytes(rt: HostRuntime, file: &[u8], call: &[u8], all: &mut [u8]) {
-    let n = number::least(call::asked(call), all.len());
+    let n = call::asked(call).min(all.len());
     let answer = ask::bytes(file, call, &mut all[0..n]);
     print::answer(rt, answer);
     print::sum(rt, lend::front(all, n));
@@ -114,8 +114,8 @@ fn bytes(rt: HostRuntime, file: &[u8], call: &[u8], all: &mut [u8]) {
 fn salvage(rt: HostRuntime, file: &[u8], call: &[u8], all: &mut [u8]) {
     let mut list = [0xAAAAAAAAAAAAAAAAu64; 16];
     let report: &mut [u64] = &mut list;
-    let n = number::least(call::asked(call), all.len());
-    let k = number::least(call::second(call), report.len());
+    let n = call::asked(call).min(all.len());
+    let k = call::second(call).min(report.len());
     print::answer(
         rt,
         ask::salvage(file, call, &mut all[0..n], &mut report[0..k]),

@@ -11,15 +11,15 @@ use sample_times::walk::{TimedStep, TimedWalk};
 use wire::number;
 
 fn forms(rt: HostRuntime, stts: &[u8], stsc: &[u8], stsz: &[u8], stco: &[u8]) {
-    print::say(rt, b": forms ", table::table_form(stts, 8));
-    print::say(rt, b" ", table::table_form(stsc, 12));
-    print::say(rt, b" ", size::sizes_form(stsz));
-    print::say(rt, b" ", table::table_form(stco, 4));
+    print::say(rt, b": forms ", usize::from(table::table_form(stts, 8)));
+    print::say(rt, b" ", usize::from(table::table_form(stsc, 12)));
+    print::say(rt, b" ", usize::from(size::sizes_form(stsz)));
+    print::say(rt, b" ", usize::from(table::table_form(stco, 4)));
 }
 
 // Ticks are read of at most 65,536 samples.
 fn ticks(rt: HostRuntime, stts: &[u8]) {
-    if table::table_form(stts, 8) == 0 {
+    if !table::table_form(stts, 8) {
         return;
     }
     let n = time::timed(stts);
@@ -68,19 +68,19 @@ fn chunks(rt: HostRuntime, stts: &[u8], stsc: &[u8], stsz: &[u8], stco: &[u8])
 }
 
 fn agree(rt: HostRuntime, stts: &[u8], stsc: &[u8], stsz: &[u8], stco: &[u8], descriptions: usize) {
-    if table::table_form(stts, 8) == 0 {
+    if !table::table_form(stts, 8) {
         return;
     }
-    if table::table_form(stsc, 12) == 0 {
+    if !table::table_form(stsc, 12) {
         return;
     }
-    if size::sizes_form(stsz) == 0 {
+    if !size::sizes_form(stsz) {
         return;
     }
-    if table::table_form(stco, 4) == 0 {
+    if !table::table_form(stco, 4) {
         return;
     }
-    if agree::seven(stts, stsc, stsz, stco, descriptions) == 0 {
+    if !agree::seven(stts, stsc, stsz, stco, descriptions) {
         print::text(rt, b" agree 0");
         return;
     }

@@ -142,7 +142,7 @@ pub fn threegp_salvage(file: &[u8], wideband: u64, out: &mut [u8], report: &mut 
     ensures { ReportsForC (salvage_result (codec_named wideband) file.now (length report.old))
         (report_of (codec_named wideband) file.now) out.old result out.new report.old report.new }
 {
-    pack(salvage::salvage(file, codec::of_number(wideband), out, report))
+    pack(salvage::salvage(file, Codec::from(wideband), out, report))
 }
 
 // The fields of a record of a release as numbers.
@@ -181,7 +181,7 @@ fn put_part(out: &mut [u64], f: Part) -> Answer
         return Err(refusals::NO_ROOM);
     }
     let order = f.order;
-    out[0] = clocks::order_number(order) as u64;
+    out[0] = usize::from(order) as u64;
     out[1] = f.file as u64;
     out[2] = f.place as u64;
     out[3] = f.span as u64;

@@ -5,7 +5,6 @@ use frames::codec::Codec;
 use tidy_edits::edit::Edit;
 use tidy_numbers::{minutes, parse};
 use tidy_words::{argument, help, tell, word};
-use wire::compare::same;
 
 // A job on the file that argument i names; argument j names what it makes.
 fn with_files(rt: HostRuntime, job: Job, i: usize, j: usize) -> usize {
@@ -58,10 +57,10 @@ fn record(rt: HostRuntime, count: usize) -> usize {
 fn salvage(rt: HostRuntime, word: &[u8]) -> usize {
     let mut name = argument::room();
     let n = argument::fetch(rt, 2, &mut name);
-    if same(&name[..n], b"amr") == 1 {
+    if &name[..n] == b"amr".as_slice() {
         return with_files(rt, Job::Salvage(Codec::Amr), 3, 4);
     }
-    if same(&name[..n], b"wideband") == 1 {
+    if &name[..n] == b"wideband".as_slice() {
         return with_files(rt, Job::Salvage(Codec::Wideband), 3, 4);
     }
     help::wrong(rt, word)

@@ -1,12 +1,11 @@
 // The word `newer`: which of two files is newer.
 ghost use Rattle.std.specs.Prelude.{◌<◌, ◌^◌};
 
-use clocks::{Order, Zone, Zoned};
+use clocks::{Order, Zone};
 use newer::Outcome;
 use tidy_files::{input, time};
 use tidy_words::tell::To;
 use tidy_words::{line, tell};
-use wire::compare::same;
 use wire::lend;
 
 // Most seconds that a clock is ahead or behind.
@@ -37,8 +36,8 @@ fn put_less(out: &mut [u8], at: usize, time: usize, zone: Zone) -> usize
 // A file's time in universal time.
 fn put_time(out: &mut [u8], at: usize, file: &[u8], minutes: i64) -> usize {
     match clocks::zone_of(minutes) {
-        Zoned::Seconds(zone) => put_less(out, at, time::of(file), zone),
-        Zoned::NoZone => at,
+        Some(zone) => put_less(out, at, time::of(file), zone),
+        None => at,
     }
 }
 
@@ -95,7 +94,7 @@ fn with_second(rt: HostRuntime, first: &[u8], y: i64, name: &[u8], z: i64) -> us
 }
 
 pub fn run(rt: HostRuntime, first: &[u8], y: i64, second: &[u8], z: i64) -> usize {
-    if same(first, b"-") == 1 && same(second, b"-") == 1 {
+    if first == b"-".as_slice() && second == b"-".as_slice() {
         return tell::wrong(rt, b"only one of the files is standard input", b"");
     }
     let mut room = input::room();

@@ -5,7 +5,6 @@ use crate::field;
 use entry_heads::kind;
 use tidy_numbers::parse;
 use tidy_words::{argument, table, tell};
-use wire::compare::same;
 use wire::lend;
 
 const COMMA: usize = 44;
@@ -68,7 +67,7 @@ fn set_rates(
 
 // No rates, or an average and a maximum.
 fn change_rates(rt: HostRuntime, numbers: &mut [u64; 11], text: &[u8]) -> usize {
-    if same(text, b"none") == 1 {
+    if text == b"none".as_slice() {
         return set_rates(rt, numbers, 0, b"0", b"0");
     }
     let n = table::find_byte(text, COMMA);
@@ -90,7 +89,7 @@ fn change_rates(rt: HostRuntime, numbers: &mut [u64; 11], text: &[u8]) -> usize 
 
 fn change(rt: HostRuntime, numbers: &mut [u64; 11], name: &[u8], text: &[u8]) -> usize {
     if numbers[0] as usize == kind::S263 {
-        if same(name, b"rates") == 1 {
+        if name == b"rates".as_slice() {
             return change_rates(rt, numbers, text);
         }
     }

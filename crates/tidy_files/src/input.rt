@@ -5,7 +5,6 @@ use crate::name;
 use boxes::containers::LONGEST;
 use std::io::{Read, Result};
 use tidy_words::tell;
-use wire::compare;
 
 // Room for the longest file and, since a sheet is at most 388 bytes longer than its file, for its sheet; what fills it is longer than either.
 pub const ROOM: usize = LONGEST + 512;
@@ -65,7 +64,7 @@ pub fn read(rt: HostRuntime, name: &[u8], buffer: &mut [u8]) -> Option<usize> {
         );
         return None;
     }
-    if compare::same(name, b"-") == 1 {
+    if name == b"-".as_slice() {
         return read_told(rt, &mut rt.stdin(), b"standard input", buffer);
     }
     read_named(rt, name, buffer)

@@ -6,7 +6,7 @@ use std::io::{Result, Write};
 use std::random::RandomSource;
 use tidy_words::tell::To;
 use tidy_words::{argument, tell};
-use wire::{compare, lend, number, pen};
+use wire::{lend, number, pen};
 
 // A name that nothing has, beside the one that is asked for.
 fn put_other(rt: HostRuntime, name: &[u8], other: &mut [u8]) -> usize {
@@ -106,7 +106,7 @@ pub fn write(rt: HostRuntime, name: &[u8], bytes: &[u8], said: &[u8]) -> usize {
             b"",
         );
     }
-    if compare::same(name, b"-") == 1 {
+    if name == b"-".as_slice() {
         return pass_on(rt, bytes, said);
     }
     let mut other = argument::room();

@@ -1,5 +1,4 @@
 // Tables of words: ten bytes each, the last of them spaces.
-use wire::compare::same;
 use wire::{lend, number};
 
 const WIDTH: usize = 10;
@@ -31,7 +30,7 @@ pub fn word(table: &[u8], i: usize) -> &[u8] {
 // Which word of a table a text is, from 0.
 pub fn find(table: &[u8], text: &[u8]) -> usize {
     for i in 0..MOST {
-        if same(word(table, i), text) == 1 {
+        if word(table, i) == text {
             return i;
         }
     }

@@ -6,6 +6,7 @@ use mathlib.Core.Bool.{Bool, true, false}
 use mathlib.Core.List.{List, [], ◌∷◌}
 use lib.ListN.{get_or}
 use borrow.Author.Tests.{ltb-true, leb-true, eqb-true, le-ltb, lt-ltb, le-leb, lt-leb, eq-eqb, ne_eqb}
+use Rattle.std.specs.Int.{from_bool}
 use Rattle.wire.specs.Clauses.{is_eq, is_lt, is_le, every, either, one_if}
 use Rattle.wire.proofs.Tests.{both}
 
@@ -120,6 +121,15 @@ yea t e = rw (← e)
 pub nay : (t : Bool) → false ≡ t → 0 ≡ one_if t
 unfolding one_if
 nay t e = rw (← e)
+
+-- the number of a bool
+pub told : {b t : Bool} {r : ℕ} → r ≡ from_bool b → b ≡ t → r ≡ one_if t
+unfolding one_if
+told {b} e q = rw (e, ← q) (go b)
+  where
+    go : (b : Bool) → from_bool b ≡ one_if b
+    go true = refl
+    go false = refl
 
 -- the answer to the same rule, said otherwise
 pub answer : (s t : Bool) {r : ℕ} → r ≡ one_if s → s ≡ t → r ≡ one_if t

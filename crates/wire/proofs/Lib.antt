@@ -5,6 +5,5 @@ pub mod Sums
 pub mod Writing
 pub mod Resting
 pub mod Putting
-pub mod Same
 pub mod Comparing
 pub mod Clauses

@@ -5,12 +5,15 @@ use native.Mathlib.Nat.{add-mul, mul_assoc, mul-le-mul_left, mul-le-mul_right, o
 use mathlib.Core.Path.{◌≡◌, refl, sym, ap, ◌∙◌}
 use mathlib.Core.Bool.{Bool, true, false}
 use mathlib.Core.List.{List, [], ◌∷◌, ◌++◌, append-nil}
-use lib.Dec.{leb}
+use lib.Dec.{leb, eqb}
 use lib.ListN.{length, get_or, take, drop, length-append, length-take, length-drop, take-append-drop, get_or-eq_default}
 use lib.Seq.{get_or-drop, take-add, drop-drop, drop-cons, take-append-le, drop-append-le, take_at, drop_at, length-take-le}
+use borrow.Author.Tests.{ne_eqb}
+use Rattle.std.specs.List.{list_all}
 use Rattle.wire.specs.Tests.{pick, if_le}
+use Rattle.wire.specs.Clauses.{is_eq}
 use Rattle.wire.specs.Numbers.{Bytes, number_on, bytes_on, bytes, word}
-use Rattle.wire.proofs.Tests.{le_yea, le_nay, lt_or}
+use Rattle.wire.proofs.Tests.{le_yea, le_nay, lt_or, eq_or}
 
 -- ---- bytes stay bytes
 
@@ -134,21 +137,20 @@ word_join v w xs at h =
     let l : length (take w (drop (at + v) xs)) ≡ w = length-take-le w (drop (at + v) xs) (rw length-drop (omega arith)) in
     rw (word_in v xs at (omega arith), word_in w xs (at + v) (omega arith), word_in (v + w) xs at h, take-add v w (drop at xs), drop-drop v at xs, number_append, number_front (number_on 0 (take v (drop at xs))) (take w (drop (at + v) xs)), l)
 
--- a number is 0 where both of its parts are
-pub zero_join : (v w : ℕ) (xs : List ℕ) (at : ℕ) → at + (v + w) ≤ length xs → word v xs at ≡ 0 → word w xs (at + v) ≡ 0 → word (v + w) xs at ≡ 0
-zero_join v w xs at h e f = sym (word_join v w xs at h) ∙ rw (e, f) (omega arith)
+-- the bytes of a number are all 0 where it is 0
+all_zero : (xs : List ℕ) → list_all (λ b. eqb b 0) xs ≡ is_eq (number_on 0 xs) 0
+unfolding is_eq
+all_zero [] = refl
+all_zero (x ∷ xs) =
+    let f : number_on (0 * 256 + x) xs ≡ (0 * 256 + x) * 256 ^ length xs + number_on 0 xs = number_front (0 * 256 + x) xs in
+    eq_or x 0
+    (λ e. rw e (all_zero xs))
+    (λ n.
+    let k : x * 1 ≤ x * 256 ^ length xs = mul-le-mul_left x (one-le-pow (length xs) 256 (omega arith)) in
+    rw (ne_eqb x 0 n) (sym (ne_eqb (number_on (0 * 256 + x) xs) 0 (omega arith))))
 
-pub zero_split : (v w : ℕ) (xs : List ℕ) (at : ℕ) → at + (v + w) ≤ length xs → word (v + w) xs at ≡ 0 → (word v xs at ≡ 0) × (word w xs (at + v) ≡ 0)
-zero_split v w xs at h e =
-    let k : word v xs at * 1 ≤ word v xs at * 256 ^ w = mul-le-mul_left (word v xs at) (one-le-pow w 256 (omega arith)) in
-    (omega (arith, word_join v w xs at h), omega (arith, word_join v w xs at h))
-
--- a number with a part that is not 0
-pub zero_not : (n w : ℕ) (xs : List ℕ) (at i : ℕ) → at + n ≤ length xs → i + w ≤ n → (word w xs (at + i) ≡ 0 → ⊥) → word n xs at ≡ 0 → ⊥
-zero_not n w xs at i h k f e =
-    let s : i + (w + (n - i - w)) ≡ n = omega arith in
-    let a = zero_split i (w + (n - i - w)) xs at (omega arith) (rw s e) in
-    f (zero_split w (n - i - w) xs (at + i) (omega arith) a.1).0
+pub zeros_is : (n : ℕ) (xs : List ℕ) (at : ℕ) {r : Bool} → at + n ≤ length xs → r ≡ list_all (λ b. eqb b 0) (take n (drop at xs)) → r ≡ is_eq (word n xs at) 0
+zeros_is n xs at h e = rw (word_in n xs at h) (e ∙ all_zero (take n (drop at xs)))
 
 pub word_fits : (w : ℕ) (xs : List ℕ) (at : ℕ) → Bytes xs → word w xs at < 256 ^ w
 word_fits w xs at h =

@@ -1,12 +1,12 @@
 -- Laws of writing. Assumes nothing.
-use Prim.Native.Nat.{ℕ, ◌+◌, ◌-◌, ◌/◌, ◌%◌, ◌^◌, ◌≤◌, ◌<◌}
+use Prim.Native.Nat.{ℕ, ◌+◌, ◌/◌, ◌%◌, ◌^◌, ◌≤◌, ◌<◌}
 use native.Mathlib.Omega.{arith}
 use native.Mathlib.Nat.{add_assoc}
 use native.Mathlib.Numerals.{add-one}
 use mathlib.Core.Path.{◌≡◌, refl, sym, ap, ◌∙◌}
 use mathlib.Core.List.{List, [], ◌∷◌, ◌++◌, append_assoc}
-use lib.ListN.{length, get_or, take, drop, set, length-append, length-take, length-drop, take-append-drop}
-use lib.Seq.{take-add, take-append-le, take-take, take_at, drop_at, drop-drop, length-take-le, take-suc, set_split, sets-eq}
+use lib.ListN.{length, take, drop, set, length-append, length-take, length-drop, take-append-drop}
+use lib.Seq.{take-append-le, take-take, take_at, drop_at, drop-drop, length-take-le, set_split, sets-eq}
 use Rattle.wire.specs.Numbers.{bytes}
 use Rattle.wire.specs.Writing.{put, Wrote, Put}
 use Rattle.wire.proofs.Numbers.{length_bytes_lem, bytes16_is, bytes_join}
@@ -57,24 +57,6 @@ put_before out at xs ys h =
 pub put_pair : (out : List ℕ) (at a b : ℕ) → at + 2 ≤ length out → set (set out at a) (at + 1) b ≡ put out at (a ∷ b ∷ [])
 unfolding put
 put_pair out at a b h = rw add-one (sets-eq (a ∷ b ∷ []) out at h ∙ append_assoc (take at out) (a ∷ b ∷ []) (drop (at + 2) out))
-
-pub put_more : (out : List ℕ) (at : ℕ) (xs : List ℕ) (i : ℕ) → at + i < length out → i < length xs → set (put out at (take i xs)) (at + i) (get_or xs i 0) ≡ put out at (take (i + 1) xs)
-put_more out at xs i h k =
-    let l : length (take i xs) ≡ i = length-take-le i xs (omega arith) in
-    let s : set (put out at (take i xs)) (at + i) (get_or xs i 0) ≡ put (put out at (take i xs)) (at + i) (get_or xs i 0 ∷ []) = put_one (put out at (take i xs)) (at + i) (get_or xs i 0) (rw (length_put out at (take i xs) (omega arith)) h) in
-    s ∙ rw (add-one, take-suc xs i 0) (rw l at (put_put out at (take i xs) (get_or xs i 0 ∷ []) (rw l (omega arith))))
-
--- and piece by piece, each by way of another buffer
-pub put_piece : (out : List ℕ) (at : ℕ) (xs : List ℕ) (i k : ℕ) (piece : List ℕ) {mid held after : List ℕ} → k ≤ length piece → mid ≡ put out at (take i xs)
-    → held ≡ put piece 0 (take (i + k - i) (drop i xs)) → after ≡ put mid (at + i) (take (k - 0) held) → at + length xs ≤ length out
-    → i + k ≤ length xs → after ≡ put out at (take (i + k) xs)
-put_piece out at xs i k piece {held = held} m p q r h l =
-    let a : length (take i xs) ≡ i = length-take-le i xs (omega arith) in
-    let b : length (take k (drop i xs)) ≡ k = length-take-le k (drop i xs) (rw length-drop (omega arith)) in
-    let e : i + k - i ≡ k = omega arith in
-    let z : k - 0 ≡ 0 + k = omega arith in
-    let f : take (0 + k) held ≡ take k (drop i xs) = rw (q, e) (rw b at (take_put piece 0 (take k (drop i xs)) (omega arith))) in
-    r ∙ rw (p, z, f, take-add i k xs) (rw a at (put_put out at (take i xs) (take k (drop i xs)) (omega arith)))
 
 pub put16_is : (out : List ℕ) (at n : ℕ) {after : List ℕ} → after ≡ put out at (n / 256 % 256 ∷ n % 256 ∷ []) → after ≡ put out at (bytes 2 n)
 put16_is out at n e = rw (bytes16_is n) at e

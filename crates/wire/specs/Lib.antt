@@ -3,5 +3,4 @@ pub mod Numbers
 pub mod Sums
 pub mod Writing
 pub mod Text
-pub mod Same
 pub mod Clauses

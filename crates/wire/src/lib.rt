@@ -1,7 +1,6 @@
 // Bytes and big-endian numbers in lent parts: nothing here knows of files.
 #![tactic(auto)]
 
-pub mod compare;
 pub mod lend;
 pub mod number;
 pub mod pen;

@@ -1,6 +1,7 @@
 // Big-endian numbers, read from a part and put into one.
-ghost use Rattle.std.specs.Prelude.{◌≡◌, [], ◌∷◌, ◌+◌, ◌^◌, ◌≤◌, ◌<◌, min, length, get_or};
-ghost use Rattle.wire.specs.Clauses.{is_eq, one_if};
+ghost use Rattle.std.specs.Prelude.{◌≡◌, [], ◌∷◌, ◌+◌, ◌^◌, ◌≤◌, ◌<◌, length, get_or, ◌==◌};
+ghost use Rattle.std.specs.List.{list_all};
+ghost use Rattle.wire.specs.Clauses.{is_eq};
 ghost use Rattle.wire.specs.Numbers.{bytes, word};
 ghost use Rattle.wire.specs.Writing.{put};
 
@@ -8,13 +9,6 @@ fn wide(x: u8) -> usize
     ensures { (result ≡ x) × (result < 256) }
 {
     x as usize
-}
-
-// The smaller of two numbers.
-pub fn least(m: usize, n: usize) -> usize
-    ensures { result ≡ min m n }
-{
-    if m < n { m } else { n }
 }
 
 // The byte at a place, and 0 past the end.
@@ -90,30 +84,24 @@ pub fn word32(part: &[u8], at: usize) -> usize
     0
 }
 
-// 1 where the n bytes at a place are all 0, or don't lie inside, else 0.
-pub fn zeros(part: &[u8], at: usize, n: usize) -> usize
-    ensures { result ≡ one_if (is_eq (word n part.now at) 0) }
+// Whether every byte of a part is 0.
+fn all_zero(part: &[u8]) -> bool
+    ensures { result ≡ list_all (λ b. b == 0) part.now }
+{
+    part.iter().all(|b| *b == 0)
+}
+
+// Whether the n bytes at a place are all 0, or don't lie inside.
+pub fn zeros(part: &[u8], at: usize, n: usize) -> bool
+    ensures { result ≡ is_eq (word n part.now at) 0 }
 {
     if part.len() < at {
-        return 1;
+        return true;
     }
     if part.len() - at < n {
-        return 1;
+        return true;
     }
-    let mut i = 0;
-    while 4 <= n - i {
-        if word32_in(part, at + i) != 0 {
-            return 0;
-        }
-        i += 4;
-    }
-    while i < n {
-        if part[at + i] != 0 {
-            return 0;
-        }
-        i += 1;
-    }
-    1
+    all_zero(&part[at..at + n])
 }
 
 fn put_pair(out: &mut [u8], at: usize, high: u8, low: u8)

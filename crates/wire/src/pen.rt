@@ -3,35 +3,12 @@ ghost use Rattle.std.specs.Prelude.{◌≡◌, [], ◌∷◌, ◌+◌, ◌^◌, 
 ghost use Rattle.wire.specs.Numbers.{bytes};
 ghost use Rattle.wire.specs.Writing.{put, Wrote, Put};
 
-use crate::number;
-
-// Copies src to a place, byte by byte.
-fn lay(out: &mut [u8], at: usize, src: &[u8])
-    requires { at + length src.now ≤ length out.old }
-    ensures { out.new ≡ put out.old at src.now }
-{
-    let mut i = 0;
-    while i < src.len() {
-        out[at + i] = src[i];
-        i += 1;
-    }
-}
-
-// Copies src to a place, piece by piece: a piece can be neither side, so that the compiler moves whole pieces.
+// Copies src to a place.
 fn copy_at(out: &mut [u8], at: usize, src: &[u8])
     requires { at + length src.now ≤ length out.old }
     ensures { out.new ≡ put out.old at src.now }
 {
-    let mut piece = [0u8; 65536];
-    let n = src.len();
-    let mut i = 0;
-    while i < n {
-        let k = number::least(n - i, 65536);
-        let e = i + k;
-        lay(&mut piece, 0, &src[i..e]);
-        lay(out, at + i, &piece[0..k]);
-        i = e;
-    }
+    out[at..at + src.len()].copy_from_slice(src);
 }
 
 // Copies src to the front, and answers its length.
@@ -73,12 +50,10 @@ pub fn put_number(out: &mut [u8], at: usize, width: usize, n: usize) -> usize
     requires { (at < 2 ^ 62) × (width < 65536) }
     ensures { Put (bytes width n) out.old at result out.new × (result ≡ at + width) }
 {
-    let mut i = width;
     let mut m = n;
-    while 0 < i {
-        i -= 1;
+    for i in (0..width).rev() {
         put_byte(out, at + i, (m % 256) as u8);
-        m = m / 256;
+        m /= 256;
     }
     at + width
 }

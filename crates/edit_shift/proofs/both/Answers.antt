@@ -1,15 +1,16 @@
-use Rattle.wire.proofs.Clauses.{fails, done, holds, yea, nay, was_yea, was_nay}
+use borrow.Author.Rules.{rules}
+use Rattle.wire.proofs.Clauses.{fails, done, holds, yea, nay}
 use Rattle.edit_shift.specs.Shift.{both}
 use Rattle.edit_shift.proofs.both.Goals as goal
 
-pub returns-then-leaves-eq0 : goal.returns-then-leaves-eq0
+pub returns-then-not-leaves : goal.returns-then-not-leaves
 unfolding both
-returns-then-leaves-eq0 c = nay _ (fails 0 _ (was_nay _ _ c.if-leaves-eq0.true (cc)))
+returns-then-not-leaves c = nay _ (fails 0 _ (search rules))
 
-pub returns-then-leaves-eq0-2 : goal.returns-then-leaves-eq0-2
+pub returns-then-not-leaves-2 : goal.returns-then-not-leaves-2
 unfolding both
-returns-then-leaves-eq0-2 c = nay _ (fails 1 _ (was_nay _ _ c.if-leaves-eq0-2.true (cc)))
+returns-then-not-leaves-2 c = nay _ (fails 1 _ (search rules))
 
 pub returns : goal.returns
 unfolding both
-returns c = yea _ (holds _ _ (was_yea _ _ c.if-leaves-eq0.false (cc)) (holds _ _ (was_yea _ _ c.if-leaves-eq0-2.false (cc)) done))
+returns c = yea _ (holds _ _ (search rules) (holds _ _ (search rules) done))

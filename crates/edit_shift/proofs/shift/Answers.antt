@@ -11,19 +11,19 @@ pub shift_accepted-requires : goal.shift_accepted-requires
 unfolding shift_result
 shift_accepted-requires c =
     let b = to_z-of_z w64 c.args.minutes c.ranges.minutes in
-    ((zone_found c.args.minutes (rw b at c.zone_of.ensures) _ c.in-Seconds.is).2, met _ c.judge.ensures c.in_ok-judge.was)
+    ((zone_found c.args.minutes (rw b at c.zone_of.ensures) _ c.in-Some.is).2, met _ c.judge.ensures c.in_ok-judge.was)
 
-pub returns-in-Seconds : goal.returns-in-Seconds
+pub returns-in-Some : goal.returns-in-Some
 unfolding shift_result
-returns-in-Seconds c =
+returns-in-Some c =
     let b = to_z-of_z w64 c.args.minutes c.ranges.minutes in
-    shift_near c.args.minutes _ _ c.judge.ensures c.in_ok-judge.was (rw b at c.zone_of.ensures) (λ i. (c.type_inv.file i).fits) _ c.in-Seconds.is c.shift_accepted.ensures
+    shift_near c.args.minutes _ _ c.judge.ensures c.in_ok-judge.was (rw b at c.zone_of.ensures) (λ i. (c.type_inv.file i).fits) _ c.in-Some.is c.shift_accepted.ensures
 
-pub returns-in-NoZone : goal.returns-in-NoZone
+pub returns-in-None : goal.returns-in-None
 unfolding shift_result
-returns-in-NoZone c =
+returns-in-None c =
     let b = to_z-of_z w64 c.args.minutes c.ranges.minutes in
-    shift_far c.args.minutes _ _ c.judge.ensures c.in_ok-judge.was (rw b at c.zone_of.ensures) c.in-NoZone.is
+    shift_far c.args.minutes _ _ c.judge.ensures c.in_ok-judge.was (rw b at c.zone_of.ensures) c.in-None.is
 
 pub returns-in_err-judge : goal.returns-in_err-judge
 unfolding shift_result

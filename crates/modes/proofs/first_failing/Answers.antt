@@ -16,32 +16,32 @@ pub overflow_sub-n : goal.overflow_sub-n
 overflow_sub-n c =
     let i = c.loop-s.invariant in
     let p = c.requires in
-    let g = step_gives _ _ _ _ c.step.ensures c.in-Found.is in
+    let g = step_gives _ _ _ _ c.step.ensures c.in-Some.is in
     omega (arith, g.number, gives_more _ _ _ g, samples_count _ _ _ p, i.0)
 
 pub why_of-why-requires : goal.why_of-why-requires
 why_of-why-requires c =
-    (step_gives _ _ _ _ c.step.ensures c.in-Found.is).described
+    (step_gives _ _ _ _ c.step.ensures c.in-Some.is).described
 
 pub returns-then-why-ne0 : goal.returns-then-why-ne0
 returns-then-why-ne0 c =
     let i = c.loop-s.invariant in
     let p = c.requires in
-    let g = step_gives _ _ _ _ c.step.ensures c.in-Found.is in
+    let g = step_gives _ _ _ _ c.step.ensures c.in-Some.is in
     passing_not _ _ _ i.2 g.is (omega (arith, g.number, samples_count _ _ _ p, i.0)) c.why_of-why.ensures c.if-why-ne0.true g.number
 
 pub loop-s-smaller : goal.loop-s-smaller
 loop-s-smaller c =
-    let g = step_gives _ _ _ _ c.step.ensures c.in-Found.is in
+    let g = step_gives _ _ _ _ c.step.ensures c.in-Some.is in
     omega (arith, g.number, gives_more _ _ _ g)
 
 pub loop-s-preserved : goal.loop-s-preserved
 loop-s-preserved c =
     let i = c.loop-s.invariant in
     let p = c.requires in
-    let g = step_gives _ _ _ _ c.step.ensures c.in-Found.is in
+    let g = step_gives _ _ _ _ c.step.ensures c.in-Some.is in
     (i.0, g.walk, passing_more _ _ _ i.2 g.is (omega (arith, g.number, samples_count _ _ _ p, i.0)) c.why_of-why.ensures c.if-why-ne0.false g.number)
 
-pub returns-in-End : goal.returns-in-End
-returns-in-End c =
-    passing_all _ _ _ c.loop-s.invariant.2 (step_ends _ _ _ _ c.step.ensures c.in-End.is)
+pub returns : goal.returns
+returns c =
+    passing_all _ _ _ c.loop-s.invariant.2 (step_ends _ _ _ _ c.step.ensures c.in_default.is)

@@ -8,13 +8,13 @@ pub returns-then-f-eq1 : goal.returns-then-f-eq1
 returns-then-f-eq1 c =
     let b = to_z-of_z w64 c.args.y c.ranges.y in
     let d = to_z-of_z w64 c.args.z c.ranges.z in
-    part_first _ _ _ (rw (b, d) at c.newest.ensures) _ c.in-Ok.is c.order_number.ensures c.tell.ensures c.if-f-eq1.true c.cut.ensures
+    part_first _ _ _ (rw (b, d) at c.newest.ensures) _ c.in-Ok.is c.from.ensures c.tell.ensures c.if-f-eq1.true c.cut.ensures
 
 pub returns-else-f-eq1 : goal.returns-else-f-eq1
 returns-else-f-eq1 c =
     let b = to_z-of_z w64 c.args.y c.ranges.y in
     let d = to_z-of_z w64 c.args.z c.ranges.z in
-    part_second _ _ _ (rw (b, d) at c.newest.ensures) _ c.in-Ok.is c.order_number.ensures c.tell.ensures c.if-f-eq1.false c.cut-in-Ok.ensures
+    part_second _ _ _ (rw (b, d) at c.newest.ensures) _ c.in-Ok.is c.from.ensures c.tell.ensures c.if-f-eq1.false c.cut-in-Ok.ensures
 
 pub returns-in-Err : goal.returns-in-Err
 returns-in-Err c =

@@ -13,27 +13,27 @@ step-requires c = (c.requires.0, c.loop-sample.invariant.0)
 pub put_sample-requires : goal.put_sample-requires
 put_sample-requires c =
     let p = c.requires in
-    let g = step_gives _ _ _ _ c.step.ensures c.in-Found.is in
+    let g = step_gives _ _ _ _ c.step.ensures c.in-Some.is in
     putting_room c.loop-sample.invariant.1 p.1 (gives_more _ _ _ g)
 
 pub overflow_add-at : goal.overflow_add-at
 overflow_add-at c =
     let p = c.requires in
     let i = c.loop-sample.invariant in
-    let g = step_gives _ _ _ _ c.step.ensures c.in-Found.is in
+    let g = step_gives _ _ _ _ c.step.ensures c.in-Some.is in
     omega (arith, i.1.twice, gives_more _ _ _ g, samples_count _ _ _ p.0, p.0.few)
 
 pub loop-sample-smaller : goal.loop-sample-smaller
 loop-sample-smaller c =
-    let g = step_gives _ _ _ _ c.step.ensures c.in-Found.is in
+    let g = step_gives _ _ _ _ c.step.ensures c.in-Some.is in
     omega (arith, g.number, gives_more _ _ _ g)
 
 pub loop-sample-preserved : goal.loop-sample-preserved
 loop-sample-preserved c =
-    let g = step_gives _ _ _ _ c.step.ensures c.in-Found.is in
+    let g = step_gives _ _ _ _ c.step.ensures c.in-Some.is in
     (g.walk, rw g.number (putting_more c.loop-sample.invariant.1 g.is c.put_sample.ensures))
 
-pub returns-in-End : goal.returns-in-End
-returns-in-End c =
+pub returns : goal.returns
+returns c =
     let p = c.requires in
-    putting_all c.loop-sample.invariant.1 (step_ends _ _ _ _ c.step.ensures c.in-End.is) p.1
+    putting_all c.loop-sample.invariant.1 (step_ends _ _ _ _ c.step.ensures c.in_default.is) p.1

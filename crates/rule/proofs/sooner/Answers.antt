@@ -8,4 +8,4 @@ pub returns-in-Ok-v : goal.returns-in-Ok-v
 returns-in-Ok-v c = sooner_left _ _ c.in-Err.is c.in-Ok-v.is
 
 pub returns-in-Err-v : goal.returns-in-Err-v
-returns-in-Err-v c = sooner_least _ _ c.in-Err.is c.in-Err-v.is c.least.ensures
+returns-in-Err-v c = sooner_least _ _ c.in-Err.is c.in-Err-v.is c.min.ensures

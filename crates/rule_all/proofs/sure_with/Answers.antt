@@ -19,7 +19,7 @@ pub returns : goal.returns
 returns c = let a = c.again.ensures in
     record {
       good = λ z. omega arith;
-      least = λ z. c.least.ensures;
+      least = λ z. c.min.ensures;
       few = λ z. omega arith;
       first = λ z. a.first (omega arith);
       second = λ z. a.second (omega arith);

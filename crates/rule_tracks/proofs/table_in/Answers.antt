@@ -1,13 +1,13 @@
 use Rattle.rule_tracks.proofs.Answers.{answer_yea, answer_nay}
 use Rattle.rule_tracks.specs.Six.{table_in}
-use Rattle.wire.proofs.Clauses.{yea}
+use Rattle.wire.proofs.Clauses.{yea, told}
 use mathlib.Core.Path.{refl}
 use native.Mathlib.Omega.{arith}
 use Rattle.rule_tracks.proofs.table_in.Goals as goal
 
 pub returns-then-k-eq-STBL : goal.returns-then-k-eq-STBL
 unfolding table_in
-returns-then-k-eq-STBL c = answer_yea _ _ _ _ (omega arith) c.table_of.ensures
+returns-then-k-eq-STBL c = answer_yea _ _ _ _ (omega arith) (told c.from.ensures c.table_of.ensures)
 
 pub returns : goal.returns
 unfolding table_in

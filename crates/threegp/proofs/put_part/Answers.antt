@@ -18,4 +18,4 @@ pub bounds-out-3 : goal.bounds-out-3
 bounds-out-3 c = simp length-set (omega arith)
 
 pub returns : goal.returns
-returns c = part_fits c.args.f _ c.order_number.ensures (omega arith)
+returns c = part_fits c.args.f _ c.from.ensures (omega arith)

@@ -49,7 +49,7 @@ pub put_way-put_part-j-requires : goal.put_way-put_part-j-requires
 put_way-put_part-j-requires t c = rw length-take (omega arith)
 
 pub put_way-put_turn-requires : goal.put_way-put_turn-requires
-put_way-put_turn-requires t c = let h = turn_room c.least-n.result c.args.src.now (omega arith) c.put_part-j.ensures in (omega arith, (omega arith, omega arith))
+put_way-put_turn-requires t c = let h = turn_room c.min-n.result c.args.src.now (omega arith) c.put_part-j.ensures in (omega arith, (omega arith, omega arith))
 
 pub put_way-returns : goal.put_way-returns
-put_way-returns t c = way_put _ _ c.turn_at-t.ensures _ _ c.least-n.ensures c.put_part-j.ensures c.put_turn.ensures
+put_way-returns t c = way_put _ _ c.turn_at-t.ensures _ _ c.min-n.ensures c.put_part-j.ensures c.put_turn.ensures

@@ -10,7 +10,7 @@ pub put_part-j-requires : goal.put_part-j-requires
 put_part-j-requires c = rw length-take (omega arith)
 
 pub put_part-requires : goal.put_part-requires
-put_part-requires c = let h = next_take c.least-n.result c.args.src.now c.put_part-j.ensures in omega arith
+put_part-requires c = let h = next_take c.min-n.result c.args.src.now c.put_part-j.ensures in omega arith
 
 pub returns : goal.returns
-returns c = tail_put _ _ _ c.least-n.ensures c.put_part-j.ensures c.put_part.ensures
+returns c = tail_put _ _ _ c.min-n.ensures c.put_part-j.ensures c.put_part.ensures

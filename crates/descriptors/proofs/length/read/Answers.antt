@@ -5,7 +5,7 @@ use Rattle.descriptors.proofs.Lengths.{length_none, length_says, length_more, le
 use Rattle.descriptors.proofs.length.read.Goals as goal
 
 pub loop-k-init : goal.loop-k-init
-loop-k-init c = (omega arith, c.least-most.ensures, omega arith, length_none _)
+loop-k-init c = (omega arith, c.min-most.ensures, omega arith, length_none _)
 
 pub overflow_mul-result : goal.overflow_mul-result
 overflow_mul-result c = let l = c.loop-k in omega (arith, third_fits l.n l.k l.invariant.2 (omega arith))

@@ -1,6 +1,7 @@
 -- `head::visual` meets its contract: a test that fails is a clause that fails. Assumes nothing.
 use Rattle.entry_heads.specs.Heads.{visual_rule}
 use Rattle.wire.proofs.Clauses.{is_eq_lem, not_eq, is_le_lem, not_le, fails, holds, done, yea, nay, asked_yea, asked_nay}
+use borrow.Author.Rules.{rules}
 use native.Mathlib.Omega.{arith}
 use Rattle.entry_heads.proofs.head.visual.Goals as goal
 
@@ -8,13 +9,13 @@ pub returns-then-entry-lt-VISUAL : goal.returns-then-entry-lt-VISUAL
 unfolding visual_rule
 returns-then-entry-lt-VISUAL c = nay _ (fails 0 _ (not_le _ _ (omega arith)))
 
-pub returns-then-zeros-eq0 : goal.returns-then-zeros-eq0
+pub returns-then-not-zeros : goal.returns-then-not-zeros
 unfolding visual_rule
-returns-then-zeros-eq0 c = nay _ (fails 1 _ (asked_nay _ (omega arith)))
+returns-then-not-zeros c = nay _ (fails 1 _ (search rules))
 
-pub returns-then-zeros-eq0-2 : goal.returns-then-zeros-eq0-2
+pub returns-then-not-zeros-2 : goal.returns-then-not-zeros-2
 unfolding visual_rule
-returns-then-zeros-eq0-2 c = nay _ (fails 2 _ (asked_nay _ (omega arith)))
+returns-then-not-zeros-2 c = nay _ (fails 2 _ (search rules))
 
 pub returns-then-word32_in-ne4718592 : goal.returns-then-word32_in-ne4718592
 unfolding visual_rule
@@ -46,7 +47,7 @@ returns-then-word16_in-ne65535 c = nay _ (fails 9 _ (not_eq _ _ (λ e. omega ari
 
 pub returns : goal.returns
 unfolding visual_rule
-returns c = yea _ (holds _ _ (is_le_lem _ _ (omega arith)) (holds _ _ (asked_yea _ (λ e. omega arith)) (holds _ _ (asked_yea _ (λ e. omega arith))
+returns c = yea _ (holds _ _ (is_le_lem _ _ (omega arith)) (holds _ _ (search rules) (holds _ _ (search rules)
     (holds _ _ (is_eq_lem _ _ (omega arith)) (holds _ _ (is_eq_lem _ _ (omega arith)) (holds _ _ (is_eq_lem _ _ (omega arith))
     (holds _ _ (is_eq_lem _ _ (omega arith)) (holds _ _ (asked_yea _ (λ e. omega arith)) (holds _ _ (is_eq_lem _ _ (omega arith))
     (holds _ _ (is_eq_lem _ _ (omega arith)) done))))))))))

@@ -1,10 +1,11 @@
 use borrow.Author.Rules.{rules}
 use Rattle.mdat.proofs.Eight.{run_few, chunks_none}
-use Rattle.mdat.proofs.Searching.{looked_in, looked_out, looked_far}
+use Rattle.mdat.proofs.Searching.{looked_in, looked_on}
 use Rattle.mdat.specs.Rules.{chunks_in}
 use Rattle.sample_tables.proofs.Chunks.{first_none}
 use Rattle.sample_tables.proofs.RunSums.{start_first, start_past, covers, run_more}
-use mathlib.Core.Path.{sym, ap, ◌∙◌}
+use Rattle.std.specs.declared.result.Result.TheVariants.{Err}
+use mathlib.Core.Path.{◌≡◌, sym, ap, ◌∙◌}
 use native.Mathlib.Omega.{arith}
 use Rattle.mdat.proofs.chunks.all_lie.Goals as goal
 
@@ -19,11 +20,10 @@ pub run_lies-requires : goal.run_lies-requires
 run_lies-requires c = let l = c.loop-i in
     (c.requires.0, covers _ _ c.requires.0.walk.rising _ (omega arith) c.loop-i.invariant.2 (rw c.items-chunks.ensures.0 at c.run_end-end.ensures), l.invariant.3, l.invariant.5, c.requires.1)
 
-pub returns-in-Out : goal.returns-in-Out
-returns-in-Out c = record { says = looked_out c.run_lies.ensures c.in-Out.is }
-
-pub returns-in-Far : goal.returns-in-Far
-returns-in-Far c = record { says = looked_far c.run_lies.ensures c.in-Far.is }
+pub returns-in_err-last : goal.returns-in_err-last
+returns-in_err-last c =
+    let f : c.from_residual.result ≡ Err c.in_err-last.field-0.0 = search rules in
+    rw f (looked_on c.run_lies.ensures _ (λ e. e) c.in_err-last.was)
 
 pub overflow_sub-first : goal.overflow_sub-first
 overflow_sub-first c = (covers _ _ c.requires.0.walk.rising _ (omega arith) c.loop-i.invariant.2 (rw c.items-chunks.ensures.0 at c.run_end-end.ensures)).ordered
@@ -41,7 +41,7 @@ overflow_add-first c = let v = covers _ _ c.requires.0.walk.rising _ (omega arit
 
 pub loop-i-preserved : goal.loop-i-preserved
 loop-i-preserved c = let l = c.loop-i in let v = covers _ _ c.requires.0.walk.rising _ (omega arith) c.loop-i.invariant.2 (rw c.items-chunks.ensures.0 at c.run_end-end.ensures) in
-    let g = looked_in c.run_lies.ensures _ c.in-In.is in (
+    let g = looked_in c.run_lies.ensures _ c.in_ok-last.was in (
       search rules,
       search rules,
       rw c.items-chunks.ensures.0 at c.run_end-end.ensures,

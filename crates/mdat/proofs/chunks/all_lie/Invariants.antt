@@ -13,6 +13,3 @@ use Rattle.mdat.proofs.chunks.all_lie.Given as goal
 abbrev pub invariant-loop-i : goal.invariant-loop-i
 invariant-loop-i l = (l.n ≡ items l.stsc) × (l.i ≤ l.n) × (l.k ≡ run_start l.stsc (items l.stco) l.i)
     × (l.first ≡ first_sample l.stsc l.k) × (chunks_in (boxes l.file) l.stsc l.stsz l.stco l.k ≡ true) × Media l.file l.last
-
-abbrev pub decreases-loop-i : goal.decreases-loop-i
-decreases-loop-i l = l.n - l.i

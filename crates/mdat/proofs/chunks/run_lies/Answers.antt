@@ -1,6 +1,7 @@
 use borrow.Author.Rules.{rules}
 use Rattle.mdat.proofs.Eight.{first_after, ready_held, chunks_more, chunks_fail, chunk_is}
-use Rattle.mdat.proofs.Searching.{looked_in, looked_out, looked_far}
+use Rattle.mdat.proofs.Searching.{looked_in, looked_on}
+use Rattle.std.specs.declared.result.Result.TheVariants.{Err}
 use mathlib.Core.Path.{◌≡◌, ◌∙◌}
 use native.Mathlib.Omega.{arith}
 use Rattle.mdat.proofs.chunks.run_lies.Goals as goal
@@ -21,28 +22,21 @@ offset_at-requires c = let p = c.requires in (p.0.walk.offsets, omega (arith, p.
 pub find-requires : goal.find-requires
 find-requires c = (c.loop-k.invariant.4, c.requires.4)
 
-pub returns-in-Out : goal.returns-in-Out
-returns-in-Out c = let p = c.requires in let l = c.loop-k in
-    record {
-      says = chunks_fail _ _ _ _ _ l.k (omega (arith, p.1.within)) (
-          chunk_is p.0 p.1 l.k (omega arith) (omega arith) l.invariant.2 c.per_chunk-per.ensures.0 _ c.bytes_in-bytes.ensures.0
-          c.offset_at.ensures.0
-          ∙ looked_out c.find.ensures c.in-Out.is);
-    }
-
-pub returns-in-Far : goal.returns-in-Far
-returns-in-Far c = record { says = looked_far c.find.ensures c.in-Far.is }
+pub returns-in_err-last : goal.returns-in_err-last
+returns-in_err-last c = let p = c.requires in let l = c.loop-k in
+    let f : c.from_residual.result ≡ Err c.in_err-last.field-0.0 = search rules in
+    rw f (looked_on c.find.ensures _ (λ e. chunks_fail _ _ _ _ _ l.k (omega (arith, p.1.within)) (
+      chunk_is p.0 p.1 l.k (omega arith) (omega arith) l.invariant.2 c.per_chunk-per.ensures.0 _ c.bytes_in-bytes.ensures.0
+      c.offset_at.ensures.0
+      ∙ e)) c.in_err-last.was)
 
 pub overflow_add-first : goal.overflow_add-first
 overflow_add-first c = let p = c.requires in let l = c.loop-k in
     let h = ready_held p.0 p.1 l.k (omega arith) (omega arith) l.invariant.2 c.per_chunk-per.ensures.0 in record { fits = omega (arith, h.few) }
 
-pub overflow_add-k : goal.overflow_add-k
-overflow_add-k c = record { fits = omega arith }
-
 pub loop-k-preserved : goal.loop-k-preserved
 loop-k-preserved c = let p = c.requires in let l = c.loop-k in let s = c.per_chunk-per.ensures.0 in
-    let f = looked_in c.find.ensures _ c.in-In.is in (
+    let f = looked_in c.find.ensures _ c.in_ok-last.was in (
       omega arith,
       omega arith,
       first_after p.0 p.1 l.k (omega arith) (omega arith) l.invariant.2 s,

@@ -10,6 +10,3 @@ use Rattle.mdat.proofs.chunks.run_lies.Given as goal
 abbrev pub invariant-loop-k : goal.invariant-loop-k
 invariant-loop-k l = (l.from ≤ l.k) × (l.k ≤ l.end) × (l.first ≡ first_sample l.stsc l.k)
     × Goes (boxes l.file) l.stsc l.stsz l.stco l.from l.k × Media l.file l.last
-
-abbrev pub decreases-loop-k : goal.decreases-loop-k
-decreases-loop-k l = l.end - l.k

@@ -19,12 +19,6 @@ overflow_cast-index c = let h = c.requires.1 (omega arith) in record { fits = om
 pub offset_bounds-index-j : goal.offset_bounds-index-j
 offset_bounds-index-j c = record { fits = omega arith }
 
-pub overflow_add-j : goal.overflow_add-j
-overflow_add-j c = record { fits = omega arith }
-
-pub loop-j-smaller : goal.loop-j-smaller
-loop-j-smaller c = simp length-set (omega arith)
-
 pub loop-j-preserved : goal.loop-j-preserved
 loop-j-preserved c = let h = c.requires.1 (omega arith) in let l = c.loop-j in
     (simp length-set l.invariant.0, omega arith, λ xs s i. index_note l.j _ (omega arith) (omega arith) s (l.invariant.2 xs s i))

@@ -8,6 +8,3 @@ use Rattle.mdat.proofs.index.note.Given as goal
 
 abbrev pub invariant-loop-j : goal.invariant-loop-j
 invariant-loop-j l = (length l.index ≡ length l.initial.index) × (l.from ≤ l.j) × ((xs : List ℕ) → Start xs (l.at + 1) l.at → Index xs l.initial.index → Index xs l.index)
-
-abbrev pub decreases-loop-j : goal.decreases-loop-j
-decreases-loop-j l = length l.index - l.j

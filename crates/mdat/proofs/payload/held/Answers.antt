@@ -1,14 +1,15 @@
 -- A box of another code holds nothing; an `mdat` what lies within its payload.
-use Rattle.wire.proofs.Clauses.{was_yea, was_nay}
+use borrow.Author.Rules.{rules}
 use Rattle.mdat.proofs.Searching.{held_other, held_within}
+use mathlib.Core.Bool.{true, false}
 use native.Mathlib.Omega.{arith}
 use Rattle.mdat.proofs.payload.held.Goals as goal
 
 pub returns-then-b-ne-MDAT : goal.returns-then-b-ne-MDAT
 returns-then-b-ne-MDAT c = held_other _ _ _ (λ e. omega arith)
 
-pub returns-then-within-eq0 : goal.returns-then-within-eq0
-returns-then-within-eq0 c = held_within _ _ _ (omega arith) (was_nay _ _ c.if-within-eq0.true c.within.ensures)
+pub returns-then-not-within : goal.returns-then-not-within
+returns-then-not-within c = held_within _ _ _ {t = false} (omega arith) (search rules)
 
 pub returns : goal.returns
-returns c = held_within _ _ _ (omega arith) (was_yea _ _ c.if-within-eq0.false c.within.ensures)
+returns c = held_within _ _ _ {t = true} (omega arith) (search rules)

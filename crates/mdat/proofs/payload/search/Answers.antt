@@ -4,6 +4,7 @@ use Rattle.mdat.proofs.Searching.{start_held, start_over}
 use Rattle.mdat.proofs.Starts.{start_past}
 use native.Mathlib.Omega.{arith}
 use Rattle.mdat.proofs.payload.search.Goals as goal
+use Rattle.mdat.proofs.payload.search.Goals.{in-Found+else-offset-at, in-Broken+in-Found-step+else-offset-at-2}
 
 pub loop-i-init : goal.loop-i-init
 loop-i-init c = (c.requires, omega arith, omega arith)
@@ -18,10 +19,6 @@ held-requires c = let s = (plain_ran _ _ _ _ _ c.plain_step.ensures c.in-Found.i
 pub returns-then-offset-at : goal.returns-then-offset-at
 returns-then-offset-at c = let s = (plain_ran _ _ _ _ _ c.plain_step.ensures c.in-Found.is).0 in
     rw c.held.ensures (start_held c.loop-i.invariant.0 s _ _ (omega arith))
-
-pub loop-i-preserved-in-Found : goal.loop-i-preserved-in-Found
-loop-i-preserved-in-Found c = let s = (plain_ran _ _ _ _ _ c.plain_step.ensures c.in-Found.is).0 in
-    (start_past c.loop-i.invariant.0 s c.past-at.ensures (omega arith), omega arith, omega arith)
 
 pub returns-in-End : goal.returns-in-End
 returns-in-End c = record { says = start_over c.loop-i.invariant.0 (plain_ended _ _ _ c.plain_step.ensures c.in-End.is).0 _ }
@@ -38,8 +35,15 @@ returns-then-offset-at-2 c = let s = ran _ _ _ _ _ c.step.ensures c.in-Found-ste
     rw c.held-then-offset-at-2.ensures (start_held c.loop-i.invariant.0 s _ _ (omega arith))
 
 pub loop-i-preserved : goal.loop-i-preserved
-loop-i-preserved c = let s = ran _ _ _ _ _ c.step.ensures c.in-Found-step.is in
-    (start_past c.loop-i.invariant.0 s c.past-at-in-Found-step.ensures (omega arith), omega arith, omega arith)
+loop-i-preserved c =
+    elim c.match-plain_step.branch [
+      in-Found+else-offset-at w ↦
+          let s = (plain_ran _ _ _ _ _ c.plain_step.ensures w.in-Found.is).0 in
+          rw w.at-is (start_past c.loop-i.invariant.0 s w.past-at.ensures (omega (arith, w.if-offset-at.false)), omega (arith, w.past-at.ensures), omega arith)
+    | in-Broken+in-Found-step+else-offset-at-2 w ↦
+          let s = ran _ _ _ _ _ w.step.ensures w.in-Found-step.is in
+          rw w.at-is (start_past c.loop-i.invariant.0 s w.past-at-in-Found-step.ensures (omega (arith, w.if-offset-at-2.false)), omega (arith, w.past-at-in-Found-step.ensures), omega arith)
+    ]
 
 pub returns-in-End-step : goal.returns-in-End-step
 returns-in-End-step c = record { says = start_over c.loop-i.invariant.0 (ended _ _ _ c.step.ensures c.in-End-step.is).0 _ }

@@ -5,7 +5,4 @@ use lib.ListN.{length}
 use Rattle.mdat.proofs.payload.search.Given as goal
 
 abbrev pub invariant-loop-i : goal.invariant-loop-i
-invariant-loop-i l = Start l.file l.offset l.at × (l.i ≤ l.at) × (l.i ≤ length l.file)
-
-abbrev pub decreases-loop-i : goal.decreases-loop-i
-decreases-loop-i l = l.most - l.i
+invariant-loop-i l = Start l.file l.offset l.at × (l._i ≤ l.at) × (l._i ≤ length l.file)

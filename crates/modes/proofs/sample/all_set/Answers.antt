@@ -2,25 +2,25 @@ use Rattle.wire.proofs.Lists.{tail_is}
 use Rattle.modes.proofs.Bits.{setting_none, setting_all, setting_less, setting_not, setting_more}
 use Rattle.modes.proofs.sample.all_set.Goals as goal
 
-pub loop-codec-init : goal.loop-codec-init
-loop-codec-init c = setting_none _ _ _
+pub loop-size-init : goal.loop-size-init
+loop-size-init c = setting_none _ _ _
 
-pub returns-then-size-eq0 : goal.returns-then-size-eq0
-returns-then-size-eq0 c = let s = c.loop-codec.invariant in setting_all s _ _ (tail_is _ _ s.inside) c.front-size.ensures.0 c.if-size-eq0.true
+pub returns : goal.returns
+returns c = let s = c.loop-size.invariant in setting_all s _ _ (tail_is _ _ s.inside) c.front.ensures.size c.in_default.is
 
 pub returns-then-bit_set-eq0 : goal.returns-then-bit_set-eq0
 returns-then-bit_set-eq0 c =
-    let s = c.loop-codec.invariant in
-    setting_not s _ _ (tail_is _ _ s.inside) c.front-size.ensures.0 c.if-size-eq0.false _ c.byte.ensures.0
+    let s = c.loop-size.invariant in
+    setting_not s _ _ (tail_is _ _ s.inside) c.front.ensures.size c.in-Some.is _ c.byte.ensures.0
     c.bit_set.ensures c.if-bit_set-eq0.true
 
-pub loop-codec-smaller : goal.loop-codec-smaller
-loop-codec-smaller c =
-    let s = c.loop-codec.invariant in
-    setting_less s _ _ (tail_is _ _ s.inside) c.front-size.ensures.0 c.if-size-eq0.false
+pub loop-size-smaller : goal.loop-size-smaller
+loop-size-smaller c =
+    let s = c.loop-size.invariant in
+    setting_less s _ _ (tail_is _ _ s.inside) c.front.ensures.size c.in-Some.is
 
-pub loop-codec-preserved : goal.loop-codec-preserved
-loop-codec-preserved c =
-    let s = c.loop-codec.invariant in
-    setting_more s _ _ (tail_is _ _ s.inside) c.front-size.ensures.0 c.if-size-eq0.false _ c.byte.ensures.0
+pub loop-size-preserved : goal.loop-size-preserved
+loop-size-preserved c =
+    let s = c.loop-size.invariant in
+    setting_more s _ _ (tail_is _ _ s.inside) c.front.ensures.size c.in-Some.is _ c.byte.ensures.0
     c.bit_set.ensures c.if-bit_set-eq0.false

@@ -10,16 +10,16 @@ step-requires c =
     let p = c.requires in
     ready_step p c.bytes.ensures c.bytes-2.ensures c.bytes-3.ensures
 
-pub returns-in-Found : goal.returns-in-Found
+pub returns-in-Some : goal.returns-in-Some
 unfolding NextAs
-returns-in-Found c =
+returns-in-Some c =
     let p = c.requires in
     stand_gives p c.bytes.ensures c.bytes-2.ensures c.bytes-3.ensures
-    (step_gives _ _ _ _ c.step.ensures c.in-Found.is)
+    (step_gives _ _ _ _ c.step.ensures c.in-Some.is)
 
-pub returns-in-End : goal.returns-in-End
+pub returns-in-None : goal.returns-in-None
 unfolding NextAs
-returns-in-End c =
+returns-in-None c =
     let p = c.requires in
     stand_ends p c.bytes.ensures c.bytes-2.ensures c.bytes-3.ensures
-    (step_ends _ _ _ _ c.step.ensures c.in-End.is)
+    (step_ends _ _ _ _ c.step.ensures c.in-None.is)

@@ -8,6 +8,3 @@ use Rattle.sample_tables.proofs.chunk.samples_over.Given as goal
 
 abbrev pub invariant-loop-i : goal.invariant-loop-i
 invariant-loop-i l = (l.n ≡ items l.stsc) × (l.i ≤ l.n) × (l.k ≡ run_start l.stsc l.chunks l.i) × (l.sum ≡ first_sample l.stsc l.k)
-
-abbrev pub decreases-loop-i : goal.decreases-loop-i
-decreases-loop-i l = l.n - l.i

@@ -8,6 +8,3 @@ use Rattle.sample_tables.proofs.run.runs_fine.Given as goal
 
 abbrev pub invariant-loop-i : goal.invariant-loop-i
 invariant-loop-i l = (l.n ≡ items l.stsc) × (l.i ≤ l.n) × (runs_fine l.stsc l.chunks l.descriptions l.i ≡ true)
-
-abbrev pub decreases-loop-i : goal.decreases-loop-i
-decreases-loop-i l = l.n - l.i

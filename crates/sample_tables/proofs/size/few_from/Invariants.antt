@@ -6,6 +6,3 @@ use Rattle.sample_tables.proofs.size.few_from.Given as goal
 
 abbrev pub invariant-loop-i : goal.invariant-loop-i
 invariant-loop-i l = (l.i ≤ l.n) × (l.sum ≡ bytes_from l.stsz l.first l.i) × (l.sum ≤ l.i * 4294967295)
-
-abbrev pub decreases-loop-i : goal.decreases-loop-i
-decreases-loop-i l = l.n - l.i

@@ -7,6 +7,3 @@ use Rattle.sample_tables.proofs.time.media_ticks.Given as goal
 
 abbrev pub invariant-loop-i : goal.invariant-loop-i
 invariant-loop-i l = (l.n ≡ items l.stts) × (l.i ≤ l.n) × (l.sum ≡ ticks_to l.stts l.i)
-
-abbrev pub decreases-loop-i : goal.decreases-loop-i
-decreases-loop-i l = l.n - l.i

@@ -7,6 +7,3 @@ use Rattle.sample_tables.proofs.time.tick_at.Given as goal
 
 abbrev pub invariant-loop-i : goal.invariant-loop-i
 invariant-loop-i l = (l.n ≡ items l.stts) × (l.i ≤ l.n) × (l.left ≡ l.sample - timed_to l.stts l.i) × (l.sum ≡ ticks_of l.stts l.sample l.i) × (l.sum + l.left * 4294967295 ≤ l.sample * 4294967295)
-
-abbrev pub decreases-loop-i : goal.decreases-loop-i
-decreases-loop-i l = l.n - l.i

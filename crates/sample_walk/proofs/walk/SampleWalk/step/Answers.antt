@@ -15,16 +15,24 @@ pub step-requires : goal.step-requires
 unfolding StepAs
 step-requires c = let p = c.requires in (p.0.walk, p.1.chunks)
 
-pub found-requires-in-Found : goal.found-requires-in-Found
+pub returns-then-number-chunks : goal.returns-then-number-chunks
 unfolding StepAs
-found-requires-in-Found c =
+returns-then-number-chunks c = c.found.ensures
+
+pub found-requires-2 : goal.found-requires-2
+unfolding StepAs
+found-requires-2 c =
     let p = c.requires in
-    let f = found_is _ _ _ _ _ (sym c.in-Found.is ∙ c.step.ensures) in
+    let f = found_is _ _ _ _ _ (sym c.in_ok-chunk.was ∙ c.step.ensures) in
     let e = enters _ _ _ p.0 _ p.1 (omega (arith, walk_sample _ _ _ p.1.chunks)) _ _ f in
     (p.0, e.0, e.1)
 
-pub returns-in-End : goal.returns-in-End
+pub returns : goal.returns
 unfolding StepAs
-returns-in-End c =
+returns c = c.found-2.ensures
+
+pub returns-in_err-chunk : goal.returns-in_err-chunk
+unfolding StepAs
+returns-in_err-chunk c =
     let p = c.requires in
-    ends _ _ _ p.0 _ p.1 (omega (arith, walk_sample _ _ _ p.1.chunks)) (end_is _ _ _ (sym c.in-End.is ∙ c.step.ensures))
+    rw c.from_residual.ensures (ends _ _ _ p.0 _ p.1 (omega (arith, walk_sample _ _ _ p.1.chunks)) (end_is _ _ _ (sym c.in_err-chunk.was ∙ c.step.ensures)))

@@ -3,7 +3,7 @@ use Rattle.wire.proofs.Tests.{eq_yea, eq_nay}
 use mathlib.Core.Path.{refl}
 use native.Mathlib.Omega.{arith}
 use Rattle.frames.specs.Codecs.{codec_named}
-use Rattle.frames.proofs.codec.of_number.Goals as goal
+use Rattle.frames.proofs.codec.CodecFromU64.from.Goals as goal
 
 pub returns-then-n-eq0 : goal.returns-then-n-eq0
 unfolding codec_named
