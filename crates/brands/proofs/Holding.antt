@@ -13,13 +13,6 @@ use Rattle.boxes.proofs.Numbered.{count_any}
 use Rattle.movie.specs.Named.{list_in}
 use Rattle.brands.specs.Brands.{one_entry, no_avc1, second, ready}
 
--- ---- the last of some tests
-
-pub either_last : (t : Bool) → t ≡ either (t ∷ [])
-unfolding either
-either_last true = refl
-either_last false = refl
-
 -- ---- a track's entries
 
 pub one_is : (b : List ℕ) {n r : ℕ} → n ≡ count ANY (boxes (list_in b)) → r ≡ one_if (is_eq n 1) → r ≡ one_if (one_entry b)

@@ -9,8 +9,8 @@ use Rattle.brands.specs.declared.conditions.Own.{Own}
 use Rattle.brands.specs.Brands.{isom_or_avc1, few as few_of, early as early_of, ready as ready_of}
 
 pub record OwnAt (xs : List ℕ) (o : Own) : Type 0 where
-  pub isom : o.isom ≡ one_if (brand_listed ISOM (find FTYP (boxes xs)))
-  pub base : o.base ≡ one_if (isom_or_avc1 (find FTYP (boxes xs)))
+  pub isom : o.isom ≡ brand_listed ISOM (find FTYP (boxes xs))
+  pub base : o.base ≡ isom_or_avc1 (find FTYP (boxes xs))
   pub early : o.early ≡ one_if (early_of xs)
   pub few : o.few ≡ one_if (few_of xs)
   pub ready : o.ready ≡ one_if (ready_of xs)

@@ -1,4 +1,4 @@
-// The brands' own conditions, each 1 where it holds, else 0.
+// The brands' own conditions, most of them 1 where they hold, else 0.
 ghost use Rattle.std.specs.Prelude.{◌≡◌, ◌≤◌, ◌<◌};
 ghost use Rattle.wire.specs.Clauses.{is_eq, one_if};
 ghost use Rattle.boxes.specs.Boxes.{boxes};
@@ -19,8 +19,8 @@ use release::compatible;
 // Whether `isom`, and whether it or `avc1` is listed; what `3gp4` and `3gp5`, what `3gp6`, and what `3gr6` asks.
 #[derive(Clone, Copy)]
 pub struct Own {
-    pub isom: usize,
-    pub base: usize,
+    pub isom: bool,
+    pub base: bool,
     pub early: usize,
     pub few: usize,
     pub ready: usize,
@@ -37,13 +37,11 @@ fn equal(m: usize, n: usize) -> usize
 }
 
 // Whether `isom` or `avc1` is listed.
-fn base(ftyp: &[u8]) -> usize
-    ensures { result ≡ one_if (isom_or_avc1 ftyp.now) }
+#[tactic(auto, unfolding(crate::specs::Brands::isom_or_avc1, wire::specs::Clauses::either))]
+fn base(ftyp: &[u8]) -> bool
+    ensures { result ≡ isom_or_avc1 ftyp.now }
 {
-    if compatible::listed(ftyp, codes::ISOM) != 0 {
-        return 1;
-    }
-    compatible::listed(ftyp, codes::AVC1)
+    compatible::listed(ftyp, codes::ISOM) || compatible::listed(ftyp, codes::AVC1)
 }
 
 // A track's handler.

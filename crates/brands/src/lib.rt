@@ -20,18 +20,17 @@ use layout::every::Tracks;
 use release::compatible;
 use rule::Answer;
 
-// Whether the list has what a brand asks for beside its own code: 1 or 0.
-fn beside(file: &[u8], o: Own, code: usize) -> usize
+// Whether the list has what a brand asks for beside its own code.
+#[tactic(auto, unfolding(crate::specs::Brands::beside_it, wire::specs::Tests::if_eq))]
+fn beside(file: &[u8], o: Own, code: usize) -> bool
     requires { OwnAt file.now o }
-    ensures { result ≡ one_if (beside_it code (find FTYP (boxes file.now))) }
+    ensures { result ≡ beside_it code (find FTYP (boxes file.now)) }
 {
-    if code == codes::GP4 {
-        return 1;
+    match code {
+        codes::GP4 => true,
+        codes::GP5 => o.isom,
+        _ => o.base,
     }
-    if code == codes::GP5 {
-        return o.isom;
-    }
-    o.base
 }
 
 // Whether a brand's own conditions hold: 1 or 0, and 0 for any other code.
@@ -60,10 +59,10 @@ pub fn brand_holds(file: &[u8], o: Own, code: usize) -> usize
     ensures { result ≡ one_if (brand_holds code file.now) }
 {
     let ftyp = boxes::seek::payload(file, codes::FTYP, 0);
-    if compatible::listed(ftyp, code) == 0 {
+    if !compatible::listed(ftyp, code) {
         return 0;
     }
-    if beside(file, o, code) == 0 {
+    if !beside(file, o, code) {
         return 0;
     }
     own(file, o, code)

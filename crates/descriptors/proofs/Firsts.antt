@@ -8,8 +8,7 @@ use lib.ListN.{length, drop}
 use Rattle.wire.specs.Tests.{if_eq}
 use Rattle.wire.proofs.Tests.{eq_nay, eq_or, eq_ways}
 use Rattle.descriptors.specs.declared.descriptor.Descriptor.{Descriptor}
-use Rattle.descriptors.specs.declared.descriptor.Front.{Front}
-use Rattle.descriptors.specs.declared.descriptor.Front.TheVariants.{Found, Loose}
+use Rattle.std.specs.Prelude.{Option, Some, None}
 use Rattle.descriptors.specs.Parts.{ES, CONFIGURATION, TOP, OTHER, holder, part_in, holding, fixed_of, own_of, held_of}
 use Rattle.descriptors.specs.Trees.{Tree, end, loose, front_of, contents, tree, first_head, first_own, first_held, after_first}
 use Rattle.descriptors.proofs.Fronts.{Ends, ends}
@@ -42,8 +41,8 @@ held_holding k tag xs =
 
 -- ---- one that is there
 
-module _ (k : ℕ) (xs : List ℕ) {f : Front} {d : Descriptor} (e : f ≡ front_of xs) (g : f ≡ Found d) where
-  at_front : front_of xs ≡ Found d
+module _ (k : ℕ) (xs : List ℕ) {f : Option Descriptor} {d : Descriptor} (e : f ≡ front_of xs) (g : f ≡ Some d) where
+  at_front : front_of xs ≡ Some d
   at_front = sym e ∙ g
 
   pub first_ends : Ends xs d
@@ -63,7 +62,7 @@ module _ (k : ℕ) (xs : List ℕ) {f : Front} {d : Descriptor} (e : f ≡ front
 
 -- ---- none
 
-module _ (k : ℕ) (xs : List ℕ) {f : Front} (e : f ≡ front_of xs) (g : f ≡ Loose) where
+module _ (k : ℕ) (xs : List ℕ) {f : Option Descriptor} (e : f ≡ front_of xs) (g : f ≡ None) where
   -- what is the same of no descriptor and of loose bytes
   pub not_there : {A : Type 0} (h : Tree → A) → h end ≡ h loose → h (tree k xs) ≡ h end
   not_there h q =

@@ -15,7 +15,7 @@ use Rattle.descriptors.specs.Reading.{part_after, parts_after, met, read_on}
 
 -- ---- whether all fit
 
-three : (a b c : Bool) (n : ℕ) → pick c (pick b (pick a n 0) 0) 0 ≡ pick (every (a ∷ b ∷ c ∷ [])) n 0
+three : (a b c n : Bool) → pick c (pick b (pick a n false) false) false ≡ pick (every (a ∷ b ∷ c ∷ [])) n false
 unfolding every
 three true true true n = refl
 three true true false n = refl
@@ -26,7 +26,7 @@ three false true false n = refl
 three false false true n = refl
 three false false false n = refl
 
-pub read_fits : (r : Reading) (t : Tree) → (read_on r t).fits ≡ pick (all_fit t) r.fits 0
+pub read_fits : (r : Reading) (t : Tree) → (read_on r t).fits ≡ pick (all_fit t) r.fits false
 unfolding read_on all_fit met
 read_fits r end = refl
 read_fits r loose = refl

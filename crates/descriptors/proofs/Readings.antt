@@ -5,40 +5,27 @@ use mathlib.Core.Path.{◌≡◌, refl, sym, ◌∙◌}
 use mathlib.Core.List.{List}
 use lib.ListN.{length, take, drop, length-take, length-drop}
 use lib.Seq.{drop-drop}
-use Rattle.wire.specs.Clauses.{one_if}
-use Rattle.wire.proofs.Clauses.{was_yea, was_nay}
+use mathlib.Core.Bool.{false}
 use Rattle.descriptors.specs.declared.descriptor.Descriptor.{Descriptor}
-use Rattle.descriptors.specs.declared.descriptor.Front.{Front}
-use Rattle.descriptors.specs.declared.descriptor.Front.TheVariants.{Found, Loose}
+use Rattle.std.specs.Prelude.{Option, Some, None}
 use Rattle.descriptors.specs.declared.list.Reading.{Reading}
-use Rattle.descriptors.specs.Parts.{own_fits, part_in, own_of, held_of}
+use Rattle.descriptors.specs.Parts.{part_in, own_of, held_of}
 use Rattle.descriptors.specs.Trees.{Tree, descriptor, contents, front_of, tree}
-use Rattle.descriptors.specs.Reading.{part_after, met, read_on}
+use Rattle.descriptors.specs.Reading.{met, read_on}
 use Rattle.descriptors.proofs.Fronts.{ends}
 use Rattle.descriptors.proofs.Trees.{tree_end, tree_loose, tree_found}
-
--- ---- one descriptor
-
-module _ (r : Reading) (j : ℕ) (own : List ℕ) {last f : ℕ} (e : last ≡ part_after r.last j) (q : f ≡ one_if (own_fits j own)) where
-  pub met_not : f ≡ 0 → record { fits = 0; last = last } ≡ met r j own
-  unfolding met
-  met_not z = rw (e, was_nay _ _ z q)
-
-  pub met_fits : (f ≡ 0 → ⊥) → record { fits = r.fits; last = last } ≡ met r j own
-  unfolding met
-  met_fits z = rw (e, was_yea _ _ z q)
 
 -- ---- where it stands
 
 pub record Stands (xs : List ℕ) (at : ℕ) (d : Descriptor) : Type 0 where
-  pub front : front_of (drop at xs) ≡ Found d
+  pub front : front_of (drop at xs) ≡ Some d
   pub least : 2 ≤ d.head
   pub inside : d.head ≤ d.span
   pub last : at + d.span ≤ length xs
 
-pub stands : (xs : List ℕ) (at : ℕ) {ys : List ℕ} {f : Front} {d : Descriptor} → ys ≡ drop at xs → f ≡ front_of ys → f ≡ Found d → Stands xs at d
+pub stands : (xs : List ℕ) (at : ℕ) {ys : List ℕ} {f : Option Descriptor} {d : Descriptor} → ys ≡ drop at xs → f ≡ front_of ys → f ≡ Some d → Stands xs at d
 stands xs at {d = d} q e g =
-    let u : front_of (drop at xs) ≡ Found d = rw (sym q) (sym e ∙ g) in
+    let u : front_of (drop at xs) ≡ Some d = rw (sym q) (sym e ∙ g) in
     let s = ends (drop at xs) d u in
     record { front = u; least = s.least; inside = s.inside; last = omega (arith, length-drop at xs, s.least, s.inside, s.last) }
 
@@ -63,11 +50,11 @@ module _ (k : ℕ) (xs : List ℕ) (at : ℕ) (r : Reading) where
       let u : cs ≡ contents (drop at xs) d = f ∙ rw (z, drop-drop d.head at xs) in
       rw (tree_found k (drop at xs) d w.front, read_node, drop-drop d.span at xs, sym e, sym u, sym g, sym h, sym i, sym l)
 
-  pub read_loose : {ys : List ℕ} {f : Front} → at ≤ length xs → (length xs ≡ at → ⊥) → ys ≡ drop at xs → f ≡ front_of ys → f ≡ Loose
-      → record { fits = 0; last = r.last } ≡ read_on r (tree k (drop at xs))
+  pub read_loose : {ys : List ℕ} {f : Option Descriptor} → at ≤ length xs → (length xs ≡ at → ⊥) → ys ≡ drop at xs → f ≡ front_of ys → f ≡ None
+      → record { fits = false; last = r.last } ≡ read_on r (tree k (drop at xs))
   unfolding read_on
   read_loose b z q e g =
-      let u : front_of (drop at xs) ≡ Loose = rw (sym q) (sym e ∙ g) in
+      let u : front_of (drop at xs) ≡ None = rw (sym q) (sym e ∙ g) in
       rw (tree_loose k (drop at xs) (λ n. z (omega (arith, length-drop at xs))) u)
 
   pub read_all : length xs ≤ at → r ≡ read_on r (tree k (drop at xs))

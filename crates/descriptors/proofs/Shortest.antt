@@ -3,6 +3,8 @@ use Prim.Native.Nat.{ℕ, zero, suc, ◌+◌, ◌-◌, ◌*◌, ◌/◌, ◌%◌
 use native.Mathlib.Omega.{arith}
 use native.Mathlib.Nat.{pow-suc, add-suc, suc-add, pow-le-pow_right}
 use native.Mathlib.Numerals.{add-one}
+use Rattle.std.specs.Prelude.{is_some}
+use mathlib.Core.Bool.{false≢true}
 use mathlib.Core.Path.{◌≡◌, refl, sym, ap, ◌∙◌}
 use mathlib.Core.List.{List, [], ◌∷◌, ◌++◌}
 use mathlib.Core.Logic.{⊎_elim}
@@ -11,9 +13,8 @@ use Rattle.wire.specs.Numbers.{Bytes}
 use Rattle.wire.specs.Writing.{Put}
 use Rattle.wire.proofs.Writing.{pen_none, pen_then, pen_is}
 use Rattle.wire.proofs.Tests.{lt_yea, lt_nay, lt_or, lt_ways}
-use Rattle.descriptors.specs.declared.length.Length.TheVariants.{Says}
-use Rattle.descriptors.specs.Lengths.{length_from, length_at, more_on, length_bytes, least_more, shortest, TOO_LONG}
-use Rattle.descriptors.proofs.Lengths.{more_fits, said}
+use Rattle.descriptors.specs.Lengths.{in_bytes, length_from, length_at, more_on, length_bytes, least_more, shortest, TOO_LONG}
+use Rattle.descriptors.proofs.Lengths.{more_fits, same_length, said}
 
 -- ---- bytes with the top bit set
 
@@ -52,7 +53,7 @@ module _ (w n : ℕ) where
   length_bytes_lem = length_more w (n / 128) (n % 128 ∷ [])
 
   -- there
-  pub bytes_read : w ≤ 3 → n < 128 ^ suc w → (xs : List ℕ) → length_at (length_bytes w n ++ xs) ≡ Says n (w + 1)
+  pub bytes_read : w ≤ 3 → n < 128 ^ suc w → (xs : List ℕ) → length_at (length_bytes w n ++ xs) ≡ in_bytes n (w + 1)
   unfolding length_at length_bytes length_from
   bytes_read h l xs =
       let e : 4 ≡ w + suc (3 - w) = omega (arith, add-one (3 - w)) in
@@ -63,7 +64,7 @@ module _ (w n : ℕ) where
       (ap (λ (v : ℕ). length_from v 0 0 (more_on w (n / 128) (n % 128 ∷ xs))) e
       ∙ more_read w (suc (3 - w)) (n / 128) 0 (n % 128 ∷ xs) d
       ∙ ap (λ (k : ℕ). length_from (suc (3 - w)) (n / 128) k (n % 128 ∷ xs)) z
-      ∙ sym (lt_yea (n % 128) 128 _ _ _ (omega arith) (ap (λ (m : ℕ). Says m (w + 1)) p)))
+      ∙ sym (lt_yea (n % 128) 128 _ _ _ (omega arith) (ap (λ (m : ℕ). in_bytes m (w + 1)) p)))
 
 -- ---- the shortest
 
@@ -98,21 +99,21 @@ module _ (n : ℕ) where
   unfolding shortest
   length_shortest = length_bytes_lem (least_more n) n
 
-  pub shortest_read : n < TOO_LONG → (xs : List ℕ) → length_at (shortest n ++ xs) ≡ Says n (least_more n + 1)
+  pub shortest_read : n < TOO_LONG → (xs : List ℕ) → length_at (shortest n ++ xs) ≡ in_bytes n (least_more n + 1)
   unfolding shortest
   shortest_read h xs = bytes_read (least_more n) n (least_few n) (least_fits n h) xs
 
 -- ---- and back: a length that is read is that of its number in as many bytes
 
-again : (w n k : ℕ) (xs : List ℕ) (m j : ℕ) → Bytes xs → n < 128 ^ k → length_from w n k xs ≡ Says m j → more_on k n (take (j - k) xs) ≡ length_bytes (j - 1) m
+again : (w n k : ℕ) (xs : List ℕ) (m j : ℕ) → Bytes xs → n < 128 ^ k → length_from w n k xs ≡ in_bytes m j → more_on k n (take (j - k) xs) ≡ length_bytes (j - 1) m
 unfolding length_from length_bytes more_on
-again zero n k xs m j b h e = absurd (let z : ◌≡◌ {A = ℕ} 0 1 = cc in omega arith)
-again (suc w) n k [] m j b h e = absurd (let z : ◌≡◌ {A = ℕ} 0 1 = cc in omega arith)
+again zero n k xs m j b h e = absurd (false≢true (ap is_some e))
+again (suc w) n k [] m j b h e = absurd (false≢true (ap is_some e))
 again (suc w) n k (x ∷ xs) m j b h e =
     ⊎_elim
     (λ t.
-    let p : n * 128 + x ≡ m = (let q = t.1 in cc) in
-    let r : k + 1 ≡ j = (let q = t.1 in cc) in
+    let p : n * 128 + x ≡ m = (same_length t.1).0 in
+    let r : k + 1 ≡ j = (same_length t.1).1 in
     let a : j - k ≡ 1 = omega arith in
     let c : j - 1 ≡ k = omega arith in
     let d : m / 128 ≡ n = omega arith in
@@ -130,7 +131,7 @@ again (suc w) n k (x ∷ xs) m j b h e =
     rw a (ap (λ (v : ℕ). more_on k v (x ∷ take (j - (k + 1)) xs)) c ∙ ap (λ (y : ℕ). more_on k (u / 128) (y ∷ take (j - (k + 1)) xs)) d ∙ i))
     (lt_ways x 128 _ _ _ e)
 
-pub read_again : (xs : List ℕ) (n k : ℕ) → Bytes xs → length_at xs ≡ Says n k → take k xs ≡ length_bytes (k - 1) n
+pub read_again : (xs : List ℕ) (n k : ℕ) → Bytes xs → length_at xs ≡ in_bytes n k → take k xs ≡ length_bytes (k - 1) n
 unfolding length_at more_on
 read_again xs n k b e = let z : k - 0 ≡ k = omega arith in rw z at (again 4 0 0 xs n k b (omega arith) e)
 

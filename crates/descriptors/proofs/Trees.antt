@@ -8,8 +8,7 @@ use lib.ListN.{length, drop, length-take, length-drop}
 use Rattle.wire.specs.Tests.{if_eq}
 use Rattle.wire.proofs.Tests.{eq_yea, eq_nay, eq_any}
 use Rattle.descriptors.specs.declared.descriptor.Descriptor.{Descriptor}
-use Rattle.descriptors.specs.declared.descriptor.Front.{Front}
-use Rattle.descriptors.specs.declared.descriptor.Front.TheVariants.{Found, Loose}
+use Rattle.std.specs.Prelude.{Option, Some, None}
 use Rattle.descriptors.specs.Parts.{fixed_of, part_in, own_of, held_of}
 use Rattle.descriptors.specs.Trees.{contents, Tree, end, loose, descriptor, front_of, tree_at, tree_by, tree}
 use Rattle.descriptors.proofs.Fronts.{Ends, ends}
@@ -40,10 +39,10 @@ enough zero m k xs h g = sym (none m k xs (omega arith))
 enough (suc n) zero k xs h g = none (suc n) k xs (omega arith)
 enough (suc n) (suc m) k xs h g = ap (λ (t : Tree). if_eq (length xs) 0 end t) (go (front_of xs) refl (λ j ys p q. enough n m j ys p q))
   where
-    go : (f : Front) → front_of xs ≡ f → ((j : ℕ) (ys : List ℕ) → length ys ≤ n → length ys ≤ m → tree_by n j ys ≡ tree_by m j ys)
+    go : (f : Option Descriptor) → front_of xs ≡ f → ((j : ℕ) (ys : List ℕ) → length ys ≤ n → length ys ≤ m → tree_by n j ys ≡ tree_by m j ys)
         → tree_at (λ j ys. tree_by n j ys) k xs f ≡ tree_at (λ j ys. tree_by m j ys) k xs f
-    go Loose e ih = refl
-    go (Found d) e ih =
+    go None e ih = refl
+    go (Some d) e ih =
         let s = ends xs d e in
         let c = contents_less s in
         let l = held_less (part_in k d.tag) (contents xs d) in
@@ -69,14 +68,14 @@ module _ (k : ℕ) (xs : List ℕ) where
     unfolding tree_by
     opened = sym (fuelled (suc (length xs)) k xs (omega (arith, add-one (length xs)))) ∙ sym (eq_nay _ _ _ _ _ z refl)
 
-    pub tree_loose : front_of xs ≡ Loose → tree k xs ≡ loose
+    pub tree_loose : front_of xs ≡ None → tree k xs ≡ loose
     tree_loose e = opened ∙ rw e
 
   -- what stands in a descriptor
   abbrev pub within : Descriptor → List ℕ
   within d = held_of (part_in k d.tag) (contents xs d)
 
-  pub tree_found : (d : Descriptor) → front_of xs ≡ Found d
+  pub tree_found : (d : Descriptor) → front_of xs ≡ Some d
       → tree k xs ≡ descriptor (part_in k d.tag) d.head (own_of (part_in k d.tag) (contents xs d)) (tree (part_in k d.tag) (within d)) (tree k (drop d.span xs))
   tree_found d e =
       let s = ends xs d e in

@@ -8,7 +8,7 @@ use lib.Seq.{take-append_seam, drop_at}
 use Rattle.wire.specs.Numbers.{bytes, bytes_on}
 use Rattle.wire.proofs.Numbers.{length_bytes_lem}
 use Rattle.descriptors.specs.declared.descriptor.Descriptor.{Descriptor}
-use Rattle.descriptors.specs.declared.descriptor.Front.TheVariants.{Found}
+use Rattle.std.specs.Prelude.{Some}
 use Rattle.descriptors.specs.Lengths.{least_more, shortest, TOO_LONG}
 use Rattle.descriptors.specs.Parts.{part_in, own_of, held_of}
 use Rattle.descriptors.specs.Trees.{descriptor, front_of, contents, tree}
@@ -49,7 +49,7 @@ module _ (tag : ℕ) (xs zs : List ℕ) (small : tag < 256) (short : length xs <
   unfolding descriptor_text head_text
   all_is = rw (one_byte tag small, append_assoc)
 
-  text_front : Found d ≡ front_of all
+  text_front : Some d ≡ front_of all
   text_front =
       let n : 1 + (least_more (length xs) + 1) + length xs ≤ length all = omega (arith, length-append (descriptor_text tag xs) zs, length_text tag xs) in
       let e = shortest_read (length xs) short (xs ++ zs) in

@@ -1,19 +1,22 @@
 -- "a length of one to four bytes with 7 bits each": the top bit of each byte says that more follow.
-use Rattle.std.specs.Prelude.{ℕ, zero, suc, ◌+◌, ◌*◌, ◌/◌, ◌%◌, List, [], ◌∷◌}
+use Rattle.std.specs.Prelude.{ℕ, zero, suc, ◌+◌, ◌*◌, ◌/◌, ◌%◌, Option, Some, None, List, [], ◌∷◌}
 use Rattle.wire.specs.Tests.{if_lt}
 use Rattle.descriptors.specs.declared.length.Length.{Length}
-use Rattle.descriptors.specs.declared.length.Length.TheVariants.{Says, Broken}
 
 -- ---- bytes to number
 
+-- the number n, which k bytes say
+abbrev pub in_bytes : (n k : ℕ) → Option Length
+in_bytes n k = Some (record { number = n; span = k })
+
 -- k bytes said n, and at most w more may follow: the number, and how many bytes say it
-unfoldable pub length_from : (w n k : ℕ) → List ℕ → Length
-length_from zero n k xs = Broken
-length_from (suc w) n k [] = Broken
-length_from (suc w) n k (x ∷ xs) = if_lt x 128 (Says (n * 128 + x) (k + 1)) (length_from w (n * 128 + x % 128) (k + 1) xs)
+unfoldable pub length_from : (w n k : ℕ) → List ℕ → Option Length
+length_from zero n k xs = None
+length_from (suc w) n k [] = None
+length_from (suc w) n k (x ∷ xs) = if_lt x 128 (in_bytes (n * 128 + x) (k + 1)) (length_from w (n * 128 + x % 128) (k + 1) xs)
 
 -- the length at the front, "one to four bytes"
-unfoldable pub length_at : List ℕ → Length
+unfoldable pub length_at : List ℕ → Option Length
 length_at xs = length_from 4 0 0 xs
 
 -- ---- number to bytes

@@ -1,5 +1,5 @@
 -- How code reads a tree: what was read so far, and then each descriptor in turn.
-use Rattle.std.specs.Prelude.{ℕ, List, [], ◌∷◌}
+use Rattle.std.specs.Prelude.{ℕ, false, List, [], ◌∷◌}
 use Rattle.wire.specs.Tests.{pick, if_eq}
 use Rattle.descriptors.specs.declared.list.Reading.{Reading}
 use Rattle.descriptors.specs.Parts.{ES, CONFIGURATION, SPECIFIC, SL, TOP, OTHER, own_fits}
@@ -19,10 +19,10 @@ parts_after last (j ∷ l) = parts_after (part_after last j) l
 
 -- one descriptor more
 unfoldable pub met : Reading → ℕ → List ℕ → Reading
-met r j own = record { fits = pick (own_fits j own) r.fits 0; last = part_after r.last j }
+met r j own = record { fits = pick (own_fits j own) r.fits false; last = part_after r.last j }
 
 -- a whole tree more
 unfoldable pub read_on : Reading → Tree → Reading
 read_on r end = r
-read_on r loose = record { fits = 0; last = r.last }
+read_on r loose = record { fits = false; last = r.last }
 read_on r (descriptor j h own held next) = read_on (read_on (met r j own) held) next

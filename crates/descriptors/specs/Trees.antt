@@ -1,24 +1,22 @@
 -- The descriptors of a part as a tree: "tag, a length .., contents", and in the contents others.
-use Rattle.std.specs.Prelude.{ℕ, zero, suc, ◌+◌, ◌-◌, Bool, true, false, List, [], ◌∷◌, ◌++◌, length, take, drop, get_or}
+use Rattle.std.specs.Prelude.{ℕ, zero, suc, ◌+◌, ◌-◌, Bool, true, false, Option, Some, None, List, [], ◌∷◌, ◌++◌, length, take, drop, get_or}
 use Rattle.wire.specs.Tests.{if_eq, if_lt}
 use Rattle.wire.specs.Clauses.{is_eq, every, either}
 use Rattle.std.specs.Str.{bytes_eq}
 use Rattle.descriptors.specs.declared.length.Length.{Length}
-use Rattle.descriptors.specs.declared.length.Length.TheVariants.{Says, Broken}
 use Rattle.descriptors.specs.declared.descriptor.Descriptor.{Descriptor}
-use Rattle.descriptors.specs.declared.descriptor.Front.{Front}
-use Rattle.descriptors.specs.declared.descriptor.Front.TheVariants.{Found, Loose}
 use Rattle.descriptors.specs.Lengths.{length_at}
 use Rattle.descriptors.specs.Parts.{ES, CONFIGURATION, SPECIFIC, SL, part_in, own_of, held_of, own_fits}
 
 -- ---- the descriptor at the front
 
 -- of a tag and a length, in so many bytes: its header's length and its whole one, where it ends inside
-abbrev pub front_by : (tag : ℕ) → Length → (room : ℕ) → Front
-front_by tag (Says n k) room = if_lt room (1 + k + n) Loose (Found (record { tag = tag; head = 1 + k; span = 1 + k + n }))
-front_by tag Broken room = Loose
+abbrev pub front_by : (tag : ℕ) → Option Length → (room : ℕ) → Option Descriptor
+front_by tag (Some l) room =
+    if_lt room (1 + l.span + l.number) None (Some (record { tag = tag; head = 1 + l.span; span = 1 + l.span + l.number }))
+front_by tag None room = None
 
-unfoldable pub front_of : List ℕ → Front
+unfoldable pub front_of : List ℕ → Option Descriptor
 front_of xs = front_by (get_or xs 0 0) (length_at (drop 1 xs)) (length xs)
 
 abbrev pub contents : List ℕ → Descriptor → List ℕ
@@ -34,9 +32,9 @@ pub data Tree : Type 0 where
   descriptor : (part head : ℕ) (own : List ℕ) (held next : Tree) → Tree
 
 -- of what stands in the part k at the front of xs, where go reads the others
-abbrev pub tree_at : (ℕ → List ℕ → Tree) → ℕ → List ℕ → Front → Tree
-tree_at go k xs Loose = loose
-tree_at go k xs (Found d) =
+abbrev pub tree_at : (ℕ → List ℕ → Tree) → ℕ → List ℕ → Option Descriptor → Tree
+tree_at go k xs None = loose
+tree_at go k xs (Some d) =
     let j = part_in k d.tag in
     descriptor j d.head (own_of j (contents xs d)) (go j (held_of j (contents xs d))) (go k (drop d.span xs))
 

@@ -5,40 +5,31 @@ ghost use Rattle.descriptors.specs.Trees.{front_of};
 ghost use Rattle.descriptors.specs.Texts.{head_text};
 
 use crate::length;
-use crate::length::Length;
 use wire::{lend, number, pen};
 
 // Its tag, its header's length, and its whole one.
-#[derive(Clone, Copy)]
+#[derive(Clone, Copy, Debug, PartialEq, Eq)]
 pub struct Descriptor {
     pub tag: usize,
     pub head: usize,
     pub span: usize,
 }
 
-#[derive(Clone, Copy)]
-pub enum Front {
-    Found(Descriptor),
-    Loose,
-}
-
-pub fn read(part: &[u8]) -> Front
+// The one there, where the bytes are a whole one.
+pub fn read(part: &[u8]) -> Option<Descriptor>
     ensures { result ≡ front_of part.now }
 {
-    match length::read(lend::rest(part, 1)) {
-        Length::Says(n, k) => {
-            let span = 1 + k + n;
-            if part.len() < span {
-                return Front::Loose;
-            }
-            Front::Found(Descriptor {
-                tag: number::byte(part, 0),
-                head: 1 + k,
-                span,
-            })
-        }
-        Length::Broken => Front::Loose,
+    let length = length::read(lend::rest(part, 1))?;
+    let head = 1 + length.span;
+    let span = head + length.number;
+    if part.len() < span {
+        return None;
     }
+    Some(Descriptor {
+        tag: number::byte(part, 0),
+        head,
+        span,
+    })
 }
 
 // Writes the header of one with n bytes of contents.

@@ -3,7 +3,6 @@ ghost use Rattle.std.specs.Prelude.{◌≡◌, ℕ, ◌≤◌};
 ghost use Rattle.descriptors.specs.Parts.{holding};
 ghost use Rattle.descriptors.specs.Trees.{first_head, first_own, first_held, after_first, tree};
 
-use crate::descriptor::Front;
 use crate::{descriptor, part};
 use wire::lend;
 
@@ -12,8 +11,8 @@ pub fn head(bytes: &[u8]) -> usize
     ensures { ((k : ℕ) → result ≡ first_head (tree k bytes.now)) × (result ≤ 5) }
 {
     match descriptor::read(bytes) {
-        Front::Found(d) => d.head,
-        Front::Loose => 0,
+        Some(d) => d.head,
+        None => 0,
     }
 }
 
@@ -22,12 +21,12 @@ pub fn own(bytes: &[u8], k: usize) -> &[u8]
     ensures { result.now ≡ first_own (tree k bytes.now) }
 {
     match descriptor::read(bytes) {
-        Front::Found(d) => {
+        Some(d) => {
             let from = d.head;
             let to = d.span;
             part::own(part::part_in(k, d.tag), &bytes[from..to])
         }
-        Front::Loose => &bytes[0..0],
+        None => &bytes[0..0],
     }
 }
 
@@ -36,12 +35,12 @@ pub fn held(bytes: &[u8], k: usize) -> &[u8]
     ensures { tree (holding k) result.now ≡ first_held (tree k bytes.now) }
 {
     match descriptor::read(bytes) {
-        Front::Found(d) => {
+        Some(d) => {
             let from = d.head;
             let to = d.span;
             part::held(part::part_in(k, d.tag), &bytes[from..to])
         }
-        Front::Loose => &bytes[0..0],
+        None => &bytes[0..0],
     }
 }
 
@@ -50,7 +49,7 @@ pub fn after(bytes: &[u8]) -> &[u8]
     ensures { (k : ℕ) → tree k result.now ≡ after_first (tree k bytes.now) }
 {
     match descriptor::read(bytes) {
-        Front::Found(d) => lend::rest(bytes, d.span),
-        Front::Loose => &bytes[0..0],
+        Some(d) => lend::rest(bytes, d.span),
+        None => &bytes[0..0],
     }
 }

@@ -9,44 +9,41 @@ use wire::{number, pen};
 const MOST: usize = 4;
 
 // A number, and how many bytes say it.
-#[derive(Clone, Copy)]
-pub enum Length {
-    Says(usize, usize),
-    Broken,
+#[derive(Clone, Copy, Debug, PartialEq, Eq)]
+pub struct Length {
+    pub number: usize,
+    pub span: usize,
 }
 
-// The length at the front.
-pub fn read(part: &[u8]) -> Length
+// The length at the front, where four bytes at most say one.
+pub fn read(part: &[u8]) -> Option<Length>
     ensures { result ≡ length_at part.now }
 {
-    let most = MOST.min(part.len());
     let mut n = 0;
-    let mut k = 0;
-    while k < most {
+    for k in 0..part.len().min(MOST) {
         let b = number::byte(part, k);
         if b < 128 {
-            return Length::Says(n * 128 + b, k + 1);
+            return Some(Length {
+                number: n * 128 + b,
+                span: k + 1,
+            });
         }
         n = n * 128 + b % 128;
-        k += 1;
     }
-    Length::Broken
+    None
 }
 
 // How many bytes stand before the last of the shortest.
+#[tactic(auto, unfolding(crate::specs::Lengths::least_more, wire::specs::Tests::if_lt))]
 fn least_more(n: usize) -> usize
     ensures { (result ≡ least_more n) × (result ≤ 3) }
 {
-    if n < 128 {
-        return 0;
+    match n {
+        0..128 => 0,
+        128..16384 => 1,
+        16384..2097152 => 2,
+        _ => 3,
     }
-    if n < 16384 {
-        return 1;
-    }
-    if n < 2097152 {
-        return 2;
-    }
-    3
 }
 
 // Writes w bytes of a number with the top bit set.

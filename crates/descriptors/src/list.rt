@@ -1,15 +1,16 @@
 // The descriptors of a part, read recursively: each holds fewer bytes than what it stands in.
+#![tactic(auto, unfolding(crate::specs::Reading::part_after, crate::specs::Reading::met, wire::specs::Tests::if_eq))]
+
 ghost use Rattle.std.specs.Prelude.{◌≡◌};
 ghost use Rattle.descriptors.specs.Trees.{tree};
 ghost use Rattle.descriptors.specs.Reading.{part_after, met as met_of, read_on};
 
-use crate::descriptor::Front;
 use crate::{descriptor, part};
 
-// Of what was read so far: whether all fit, 1 or 0; and the last part, OTHER where one came that isn't wanted there.
-#[derive(Clone, Copy)]
+// Of what was read so far: whether all fit; and the last part, OTHER where one came that isn't wanted there.
+#[derive(Clone, Copy, Debug, PartialEq, Eq)]
 pub struct Reading {
-    pub fits: usize,
+    pub fits: bool,
     pub last: usize,
 }
 
@@ -17,45 +18,23 @@ pub struct Reading {
 fn follow(last: usize, j: usize) -> usize
     ensures { result ≡ part_after last j }
 {
-    if last == part::TOP {
-        if j == part::ES {
-            return j;
-        }
-        return part::OTHER;
+    match (last, j) {
+        (part::TOP, part::ES) => j,
+        (part::ES, part::CONFIGURATION) => j,
+        (part::CONFIGURATION, part::SPECIFIC | part::SL) => j,
+        (part::SPECIFIC, part::SL) => j,
+        _ => part::OTHER,
     }
-    if last == part::ES {
-        if j == part::CONFIGURATION {
-            return j;
-        }
-        return part::OTHER;
-    }
-    if last == part::CONFIGURATION {
-        if j == part::SPECIFIC {
-            return j;
-        }
-        if j == part::SL {
-            return j;
-        }
-        return part::OTHER;
-    }
-    if last == part::SPECIFIC {
-        if j == part::SL {
-            return j;
-        }
-        return part::OTHER;
-    }
-    part::OTHER
 }
 
 // One descriptor more.
 fn met(r: Reading, j: usize, own: &[u8]) -> Reading
     ensures { result ≡ met_of r j own.now }
 {
-    let last = follow(r.last, j);
-    if part::own_fits(j, own) == 0 {
-        return Reading { fits: 0, last };
+    Reading {
+        fits: part::own_fits(j, own) && r.fits,
+        last: follow(r.last, j),
     }
-    Reading { fits: r.fits, last }
 }
 
 // The descriptors that stand in the part k, each with those that it holds.
@@ -66,7 +45,7 @@ pub fn read(bytes: &[u8], k: usize, before: Reading) -> Reading
     let mut at = 0;
     while at < bytes.len() {
         match descriptor::read(&bytes[at..]) {
-            Front::Found(d) => {
+            Some(d) => {
                 let j = part::part_in(k, d.tag);
                 let from = at + d.head;
                 let to = at + d.span;
@@ -75,9 +54,9 @@ pub fn read(bytes: &[u8], k: usize, before: Reading) -> Reading
                 r = read(part::held(j, contents), j, r);
                 at = to;
             }
-            Front::Loose => {
+            None => {
                 return Reading {
-                    fits: 0,
+                    fits: false,
                     last: r.last,
                 };
             }

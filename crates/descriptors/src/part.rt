@@ -1,6 +1,7 @@
-// The parts of an `esds`, by their tags, and what each of them has.
+// The parts of an `esds`, by their tags, and what each of them has. They stay numbers and no enum: a part is its tag in the file (`part_in`).
+#![tactic(auto, unfolding(crate::specs::Parts::holder, crate::specs::Parts::part_in, crate::specs::Parts::fixed_of, crate::specs::Parts::own_of, crate::specs::Parts::held_of, crate::specs::Parts::own_fits, wire::specs::Clauses::is_eq, wire::specs::Tests::if_eq))]
+
 ghost use Rattle.std.specs.Prelude.{◌≡◌, ◌≤◌, length};
-ghost use Rattle.wire.specs.Clauses.{one_if};
 ghost use Rattle.descriptors.specs.Parts.{holder as holder_of, part_in, fixed_of, own_of, held_of, own_fits};
 
 use wire::lend;
@@ -22,82 +23,59 @@ pub const OTHER: usize = 0;
 fn holder(tag: usize) -> usize
     ensures { result ≡ holder_of tag }
 {
-    if tag == ES {
-        return TOP;
+    match tag {
+        ES => TOP,
+        CONFIGURATION | SL => ES,
+        SPECIFIC => CONFIGURATION,
+        _ => OTHER,
     }
-    if tag == CONFIGURATION {
-        return ES;
-    }
-    if tag == SPECIFIC {
-        return CONFIGURATION;
-    }
-    if tag == SL {
-        return ES;
-    }
-    OTHER
 }
 
 // The part that a tag is in the part k.
 pub fn part_in(k: usize, tag: usize) -> usize
     ensures { result ≡ part_in k tag }
 {
-    if holder(tag) == k {
-        return tag;
-    }
-    OTHER
+    if holder(tag) == k { tag } else { OTHER }
 }
 
 // How many bytes of its own a part has before the descriptors that it holds; 0 for one that holds none.
 fn fixed(j: usize) -> usize
     ensures { result ≡ fixed_of j }
 {
-    if j == ES {
-        return 3;
+    match j {
+        ES => 3,
+        CONFIGURATION => 13,
+        _ => 0,
     }
-    if j == CONFIGURATION {
-        return 13;
-    }
-    0
 }
 
 // The bytes of its own.
 pub fn own(j: usize, contents: &[u8]) -> &[u8]
     ensures { result.now ≡ own_of j contents.now }
 {
-    let n = fixed(j);
-    if n == 0 {
-        return contents;
+    match fixed(j) {
+        0 => contents,
+        n => lend::front(contents, n),
     }
-    lend::front(contents, n)
 }
 
 // Those of the descriptors that it holds.
 pub fn held(j: usize, contents: &[u8]) -> &[u8]
     ensures { (result.now ≡ held_of j contents.now) × (length result.now ≤ length contents.now) }
 {
-    let n = fixed(j);
-    if n == 0 {
-        return &contents[0..0];
+    match fixed(j) {
+        0 => &contents[0..0],
+        n => lend::rest(contents, n),
     }
-    lend::rest(contents, n)
 }
 
-// Whether its own bytes fit: 1 or 0.
-pub fn own_fits(j: usize, own: &[u8]) -> usize
-    ensures { result ≡ one_if (own_fits j own.now) }
+// Whether its own bytes fit.
+pub fn own_fits(j: usize, own: &[u8]) -> bool
+    ensures { result ≡ own_fits j own.now }
 {
     if j == SL {
-        if own.len() != 1 {
-            return 0;
-        }
-        return 1;
+        return own.len() == 1;
     }
     let n = fixed(j);
-    if n == 0 {
-        return 1;
-    }
-    if own.len() != n {
-        return 0;
-    }
-    1
+    n == 0 || own.len() == n
 }

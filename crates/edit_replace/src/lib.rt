@@ -49,7 +49,7 @@ fn replace_entry(file: &[u8], b: BoxAt, p: Place, new: &[u8], out: &mut [u8]) ->
     if record::takes(kind, new) == 0 {
         return Err(refusals::NO_SUCH);
     }
-    if decoder::record_rule(kind, release::of_file(file), new) == 0 {
+    if !decoder::record_rule(kind, release::of_file(file), new) {
         return Err(refusals::BAD_RECORD);
     }
     if judge::editable(file) == 0 {

@@ -1,65 +1,87 @@
 -- How the two calls keep their promises. Assumes nothing.
-use Prim.Native.Nat.{ℕ, ◌+◌, ◌≤◌}
+use Prim.Native.Nat.{ℕ, ◌≤◌}
 use native.Mathlib.Omega.{arith}
 use mathlib.Core.Path.{◌≡◌, refl, sym, ap, ◌∙◌}
 use mathlib.Core.Bool.{Bool, true, false}
 use mathlib.Core.List.{List, [], ◌∷◌, ◌++◌}
 use lib.Dec.{ltb}
-use lib.ListN.{length, drop}
-use lib.Seq.{sets, sets-eq}
+use lib.ListN.{length, get_or, drop}
 use Rattle.wire.specs.Tests.{pick, if_lt}
 use Rattle.release.specs.declared.Release.{Release}
+use Rattle.entry_records.specs.declared.field.Rates.{Rates}
 use Rattle.entry_records.specs.declared.field.Record.{Record}
-use Rattle.entry_records.specs.declared.field.Record.TheVariants.{Broken}
-use Rattle.entry_records.specs.declared.record.Written.{Written}
-use Rattle.entry_records.specs.declared.record.Written.TheVariants as written
+use Rattle.std.specs.Prelude.{Option, Some, None}
+use Rattle.std.specs.Prelude as written
+use Rattle.entry_records.specs.declared.record.WriteError.{WriteError}
+use Rattle.entry_records.specs.declared.record.WriteError.TheVariants.{BadFields, TooShort}
 use Rattle.entry_records.specs.Fields.{fields_rule}
 use Rattle.entry_records.specs.Texts.{text_of}
-use Rattle.entry_records.specs.Records.{fields_of, written_number, written_value, read_of, written_of, out_of}
+use Rattle.entry_records.specs.Records.{rate_numbers, fields_of, written_number, written_value, read_of, written_of, out_of}
 use Rattle.rule.specs.Results.{asked, answer_in, left_in, Exact}
 use Rattle.rule.specs.Results.ToWrite.{gives}
 use Rattle.rule.proofs.Results.{exact_refuses, exact_wrote}
-use Rattle.entry_fields.specs.Numbers.{record_of, is_record, read_result, write_result}
+use Rattle.entry_fields.specs.Numbers.{record_of, read_result, record_result, write_result}
 use Rattle.rule.specs.Answers.{Answer, Done, Refused}
 
 -- ---- numbers into a list
 
-pub put_fits : (ns out : List ℕ) → length ns ≤ length out → Exact (gives ns) out (Done (length ns)) (sets out 0 ns)
-put_fits ns out h = let z : 0 + length ns ≡ length ns = omega arith in exact_wrote ns out h (record { span = refl; is = rw z at (sets-eq ns out 0 (omega arith)) })
+-- as many of them as its length, at the front
+pub front_fits : (ns out : List ℕ) {n : ℕ} → n ≡ length ns → n ≤ length out → {xs : List ℕ} → xs ≡ ns → Exact (gives ns) out (Done n) (xs ++ drop n out)
+front_fits ns out {n} e h q = exact_wrote ns out (omega arith) (record { span = e; is = ap (λ (ys : List ℕ). ys ++ drop n out) q })
+
+-- three of them are of the rates
+pub rates_length : (o : Option Rates) → length (rate_numbers o) ≡ 3
+rates_length (Some r) = refl
+rates_length None = refl
+
+-- read one by one, behind eight others
+pub rates_last : (a b c d e f g h : ℕ) (o : Option Rates) {xs : List ℕ} → xs ≡ rate_numbers o
+    → a ∷ b ∷ c ∷ d ∷ e ∷ f ∷ g ∷ h ∷ get_or xs 0 0 ∷ get_or xs 1 0 ∷ get_or xs 2 0 ∷ [] ≡ a ∷ b ∷ c ∷ d ∷ e ∷ f ∷ g ∷ h ∷ rate_numbers o
+rates_last a b c d e f g h (Some r) q = rw q
+rates_last a b c d e f g h None q = rw q
 
 -- ---- the reader
 
-module _ (release : Release) (xs out : List ℕ) {r : Record} (e : r ≡ read_of release xs) where
-  pub read_some : (s : Record) → r ≡ s → is_record s ≡ true → {a : Answer} {left : List ℕ} → Exact (gives (fields_of s)) out a left → Exact (read_result release xs) out a left
+module _ (release : Release) (xs out : List ℕ) {r : Option Record} (e : r ≡ read_of release xs) where
+  pub read_some : (s : Record) → r ≡ Some s → {a : Answer} {left : List ℕ} → Exact (gives (fields_of s)) out a left → Exact (read_result release xs) out a left
   unfolding read_result asked
-  read_some s g h x = let f : read_of release xs ≡ s = sym e ∙ g in rw (f, h) x
+  read_some s g x = let f : read_of release xs ≡ Some s = sym e ∙ g in rw f x
 
-  pub read_broken : r ≡ Broken → Exact (read_result release xs) out (Refused 21 0) out
+  pub read_none : r ≡ None → Exact (read_result release xs) out (Refused 21 0) out
   unfolding read_result asked
-  read_broken g = let f : read_of release xs ≡ Broken = sym e ∙ g in rw f (exact_refuses 21 0 out)
+  read_none g = let f : read_of release xs ≡ None = sym e ∙ g in rw f (exact_refuses 21 0 out)
 
 -- ---- the writer
 
 -- an answer of it in the paper's numbers
-abbrev pub written_answer : Written → Answer
-written_answer (written.Done n) = Done n
-written_answer written.BadFields = Refused (written_number written.BadFields) (written_value written.BadFields)
-written_answer written.TooShort = Refused (written_number written.TooShort) (written_value written.TooShort)
+abbrev pub written_answer : written.Result ℕ WriteError → Answer
+written_answer (written.Ok n) = Done n
+written_answer (written.Err e) = Refused (written_number (written.Err e)) (written_value (written.Err e))
 
 writes : (t : Bool) (r : Record) (out : List ℕ)
     → Exact (asked ((21, t) ∷ []) (gives (text_of r))) out
-    (written_answer (pick t (if_lt (length out) (length (text_of r)) written.TooShort (written.Done (length (text_of r)))) written.BadFields))
+    (written_answer (pick t (if_lt (length out) (length (text_of r)) (written.Err TooShort) (written.Ok (length (text_of r)))) (written.Err BadFields)))
     (pick t (if_lt (length out) (length (text_of r)) out (text_of r ++ drop (length (text_of r)) out)) out)
 unfolding asked answer_in left_in if_lt
 writes false r out = record { answers = refl; leaves = refl }
 writes true r out = record { answers = go (ltb (length out) (length (text_of r))); leaves = refl }
   where
-    go : (t : Bool) → written_answer (pick t written.TooShort (written.Done (length (text_of r)))) ≡ pick t (Refused 25 0) (Done (length (text_of r)))
+    go : (t : Bool) → written_answer (pick t (written.Err TooShort) (written.Ok (length (text_of r)))) ≡ pick t (Refused 25 0) (Done (length (text_of r)))
     go true = refl
     go false = refl
 
-pub write_as : (release : Release) (ns out : List ℕ) {r : Record} {w v : Written} {left : List ℕ} → r ≡ record_of ns → (w ≡ written_of release r out) × (left ≡ out_of release r out) → w ≡ v → Exact (write_result release ns) out (written_answer v) left
-unfolding write_result written_of out_of
-write_as release ns out e (p, q) g =
-    let x = writes (fields_rule release (record_of ns)) (record_of ns) out in
-    record { answers = ap written_answer (sym g ∙ p) ∙ rw e x.answers; leaves = q ∙ rw e x.leaves }
+pub write_as : (release : Release) (r : Record) (out : List ℕ) {w v : written.Result ℕ WriteError} {left : List ℕ} → (w ≡ written_of release r out) × (left ≡ out_of release r out) → w ≡ v
+    → Exact (record_result release r) out (written_answer v) left
+unfolding record_result written_of out_of
+write_as release r out (p, q) g =
+    let x = writes (fields_rule release r) r out in record { answers = ap written_answer (sym g ∙ p) ∙ x.answers; leaves = q ∙ x.leaves }
+
+-- of numbers
+module _ (release : Release) (ns out : List ℕ) {o : Option Record} (e : o ≡ record_of ns) where
+  pub write_some : (r : Record) → o ≡ Some r → {a : Answer} {left : List ℕ} → Exact (record_result release r) out a left → Exact (write_result release ns) out a left
+  unfolding write_result record_result
+  write_some r g x = let f : record_of ns ≡ Some r = sym e ∙ g in rw f x
+
+  pub write_none : o ≡ None → Exact (write_result release ns) out (Refused 21 0) out
+  unfolding write_result asked
+  write_none g = let f : record_of ns ≡ None = sym e ∙ g in rw f (exact_refuses 21 0 out)

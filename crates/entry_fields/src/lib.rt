@@ -2,13 +2,14 @@
 #![tactic(auto)]
 
 ghost use Rattle.rule.specs.Results.{Exact};
-ghost use Rattle.entry_fields.specs.Numbers.{read_result, write_result};
+ghost use Rattle.entry_fields.specs.Numbers.{read_result, record_result, write_result};
 
 use entry_records::field::Record;
 use entry_records::record;
-use entry_records::record::Written;
+use entry_records::record::WriteError;
 use release::Release;
-use rule::{Answer, refusals};
+use rule::refusals;
+use rule::Answer;
 
 mod numbers;
 
@@ -17,9 +18,20 @@ pub fn read(entry: &[u8], release: Release, out: &mut [u64]) -> Answer
     ensures { Exact (read_result release entry.now) out.old result out.new }
 {
     match record::read(entry, release) {
-        Record::Speech(f) => numbers::put_amr(f, out),
-        Record::Picture(f) => numbers::put_h263(f, out),
-        Record::Broken => Err(refusals::BAD_RECORD),
+        Some(Record::Speech(f)) => numbers::put_amr(f, out),
+        Some(Record::Picture(f)) => numbers::put_h263(f, out),
+        None => Err(refusals::BAD_RECORD),
+    }
+}
+
+// Writes the entry of a record, of a release.
+fn write_record(fields: Record, release: Release, out: &mut [u8]) -> Answer
+    ensures { Exact (record_result release fields) out.old result out.new }
+{
+    match record::write(fields, release, out) {
+        Ok(n) => Ok(n),
+        Err(WriteError::BadFields) => Err(refusals::BAD_RECORD),
+        Err(WriteError::TooShort) => Err(refusals::NO_ROOM),
     }
 }
 
@@ -27,9 +39,8 @@ pub fn read(entry: &[u8], release: Release, out: &mut [u64]) -> Answer
 pub fn write(fields: &[u64], release: Release, out: &mut [u8]) -> Answer
     ensures { Exact (write_result release fields.now) out.old result out.new }
 {
-    match record::write(numbers::record_of(fields), release, out) {
-        Written::Done(n) => Ok(n),
-        Written::BadFields => Err(refusals::BAD_RECORD),
-        Written::TooShort => Err(refusals::NO_ROOM),
+    match numbers::record_of(fields) {
+        Some(f) => write_record(f, release, out),
+        None => Err(refusals::BAD_RECORD),
     }
 }

@@ -1,11 +1,12 @@
 // The heads of sample entries: written, and told from other bytes.
+#![tactic(auto, unfolding(crate::specs::Heads::common_rule, crate::specs::Heads::audio_rule, crate::specs::Heads::name_rule, crate::specs::Heads::visual_rule, crate::specs::Heads::head_rule, crate::specs::Heads::head_size, wire::specs::Clauses::every, wire::specs::Clauses::is_eq, wire::specs::Clauses::is_le, wire::specs::Clauses::one_if, wire::specs::Tests::if_eq))]
+
 ghost use Rattle.std.specs.Prelude.{◌≡◌, ◌<◌, length};
-ghost use Rattle.wire.specs.Clauses.{one_if};
 ghost use Rattle.wire.specs.Writing.{Put};
 ghost use Rattle.entry_heads.specs.Heads.{common_head, audio_head, visual_start, visual_head, head_size, common_rule, audio_rule, name_rule, visual_rule, head_rule};
 
 use crate::{kind, put};
-use wire::{number, pen, test};
+use wire::{number, pen};
 
 // The lengths of the three heads.
 const COMMON: usize = 16;
@@ -76,116 +77,67 @@ pub fn put_visual(
     pen::put_number(out, e, 2, 0xFFFF)
 }
 
-// 1 where an entry has the beginning of all entries, else 0.
-fn common(entry: &[u8]) -> usize
-    ensures { result ≡ one_if (common_rule entry.now) }
+// Whether an entry has the beginning of all entries.
+fn common(entry: &[u8]) -> bool
+    ensures { result ≡ common_rule entry.now }
 {
-    if entry.len() < COMMON {
-        return 0;
-    }
-    if !number::zeros(entry, 8, 6) {
-        return 0;
-    }
-    1
+    entry.len() >= COMMON && number::zeros(entry, 8, 6)
 }
 
-// 1 where an entry has an audio head, else 0.
-fn audio(entry: &[u8]) -> usize
-    ensures { result ≡ one_if (audio_rule entry.now) }
+// Whether an entry has an audio head.
+fn audio(entry: &[u8]) -> bool
+    ensures { result ≡ audio_rule entry.now }
 {
-    if entry.len() < AUDIO {
-        return 0;
-    }
-    if !number::zeros(entry, 8, 6) {
-        return 0;
-    }
-    if !number::zeros(entry, 16, 8) {
-        return 0;
-    }
-    if number::word16_in(entry, 24) != 2 {
-        return 0;
-    }
-    if number::word16_in(entry, 26) != 16 {
-        return 0;
-    }
-    if number::word32_in(entry, 28) != 0 {
-        return 0;
-    }
-    if number::word16_in(entry, 34) != 0 {
-        return 0;
-    }
-    1
+    entry.len() >= AUDIO
+        && number::zeros(entry, 8, 6)
+        && number::zeros(entry, 16, 8)
+        && number::word16_in(entry, 24) == 2
+        && number::word16_in(entry, 26) == 16
+        && number::word32_in(entry, 28) == 0
+        && number::word16_in(entry, 34) == 0
 }
 
-// 1 where the name of a visual entry is free or zero bytes, else 0.
-fn name(kind: usize, entry: &[u8]) -> usize
-    ensures { result ≡ one_if (name_rule kind entry.now) }
+// Whether the name of a visual entry is free or zero bytes.
+fn name(kind: usize, entry: &[u8]) -> bool
+    ensures { result ≡ name_rule kind entry.now }
 {
-    if kind == kind::AVC1 {
-        return 1;
-    }
-    if number::zeros(entry, 50, 32) {
-        return 1;
-    }
-    0
+    kind == kind::AVC1 || number::zeros(entry, 50, 32)
 }
 
-// 1 where an entry has the visual head of its kind, else 0.
-fn visual(kind: usize, entry: &[u8]) -> usize
-    ensures { result ≡ one_if (visual_rule kind entry.now) }
+// Whether an entry has the visual head of its kind.
+fn visual(kind: usize, entry: &[u8]) -> bool
+    ensures { result ≡ visual_rule kind entry.now }
 {
-    if entry.len() < VISUAL {
-        return 0;
-    }
-    if !number::zeros(entry, 8, 6) {
-        return 0;
-    }
-    if !number::zeros(entry, 16, 16) {
-        return 0;
-    }
-    if number::word32_in(entry, 36) != 0x00480000 {
-        return 0;
-    }
-    if number::word32_in(entry, 40) != 0x00480000 {
-        return 0;
-    }
-    if number::word32_in(entry, 44) != 0 {
-        return 0;
-    }
-    if number::word16_in(entry, 48) != 1 {
-        return 0;
-    }
-    if name(kind, entry) == 0 {
-        return 0;
-    }
-    if number::word16_in(entry, 82) != 24 {
-        return 0;
-    }
-    if number::word16_in(entry, 84) != 0xFFFF {
-        return 0;
-    }
-    1
+    entry.len() >= VISUAL
+        && number::zeros(entry, 8, 6)
+        && number::zeros(entry, 16, 16)
+        && number::word32_in(entry, 36) == 0x00480000
+        && number::word32_in(entry, 40) == 0x00480000
+        && number::word32_in(entry, 44) == 0
+        && number::word16_in(entry, 48) == 1
+        && name(kind, entry)
+        && number::word16_in(entry, 82) == 24
+        && number::word16_in(entry, 84) == 0xFFFF
 }
 
-// 1 where an entry has the head of its kind, else 0.
-pub fn rule(kind: usize, entry: &[u8]) -> usize
-    ensures { result ≡ one_if (head_rule kind entry.now) }
+// Whether an entry has the head of its kind.
+pub fn rule(kind: usize, entry: &[u8]) -> bool
+    ensures { result ≡ head_rule kind entry.now }
 {
-    let handler = kind::handler(kind);
-    if handler == codes::SOUN {
-        return audio(entry);
+    match kind::handler(kind) {
+        codes::SOUN => audio(entry),
+        codes::VIDE => visual(kind, entry),
+        _ => common(entry),
     }
-    if handler == codes::VIDE {
-        return visual(kind, entry);
-    }
-    common(entry)
 }
 
 // The length of the head of a kind.
 pub fn size(kind: usize) -> usize
     ensures { result ≡ head_size kind }
 {
-    let handler = kind::handler(kind);
-    let other = test::choose(handler, codes::VIDE, VISUAL, COMMON);
-    test::choose(handler, codes::SOUN, AUDIO, other)
+    match kind::handler(kind) {
+        codes::SOUN => AUDIO,
+        codes::VIDE => VISUAL,
+        _ => COMMON,
+    }
 }

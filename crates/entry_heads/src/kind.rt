@@ -1,8 +1,8 @@
-// The kinds of sample entry.
+// The kinds of sample entry. They stay numbers and no enum: a sheet, a record and C give and take them as such (`fields_of`, `sheet`).
+#![tactic(auto, unfolding(crate::specs::Kinds::kind_of, crate::specs::Kinds::code_of, crate::specs::Kinds::handler_of, wire::specs::Tests::if_eq))]
+
 ghost use Rattle.std.specs.Prelude.{◌≡◌};
 ghost use Rattle.entry_heads.specs.Kinds.{kind_of, code_of, handler_of};
-
-use wire::test;
 
 pub const OTHER: usize = 0;
 
@@ -22,34 +22,39 @@ pub const AVC1: usize = 6;
 pub fn of_code(code: usize) -> usize
     ensures { result ≡ kind_of code }
 {
-    let r = test::choose(code, codes::AVC1, AVC1, OTHER);
-    let r = test::choose(code, codes::S263, S263, r);
-    let r = test::choose(code, codes::SAWB, SAWB, r);
-    let r = test::choose(code, codes::SAMR, SAMR, r);
-    let r = test::choose(code, codes::MP4A, MP4A, r);
-    test::choose(code, codes::MP4V, MP4V, r)
+    match code {
+        codes::MP4V => MP4V,
+        codes::MP4A => MP4A,
+        codes::SAMR => SAMR,
+        codes::SAWB => SAWB,
+        codes::S263 => S263,
+        codes::AVC1 => AVC1,
+        _ => OTHER,
+    }
 }
 
 // The code of a kind, 0 where it has none of its own.
 pub fn code(kind: usize) -> usize
     ensures { result ≡ code_of kind }
 {
-    let r = test::choose(kind, AVC1, codes::AVC1, 0);
-    let r = test::choose(kind, S263, codes::S263, r);
-    let r = test::choose(kind, SAWB, codes::SAWB, r);
-    let r = test::choose(kind, SAMR, codes::SAMR, r);
-    let r = test::choose(kind, MP4A, codes::MP4A, r);
-    test::choose(kind, MP4V, codes::MP4V, r)
+    match kind {
+        MP4V => codes::MP4V,
+        MP4A => codes::MP4A,
+        SAMR => codes::SAMR,
+        SAWB => codes::SAWB,
+        S263 => codes::S263,
+        AVC1 => codes::AVC1,
+        _ => 0,
+    }
 }
 
 // The handler that a kind goes with, 0 where it goes with any.
 pub fn handler(kind: usize) -> usize
     ensures { result ≡ handler_of kind }
 {
-    let r = test::choose(kind, AVC1, codes::VIDE, 0);
-    let r = test::choose(kind, S263, codes::VIDE, r);
-    let r = test::choose(kind, SAWB, codes::SOUN, r);
-    let r = test::choose(kind, SAMR, codes::SOUN, r);
-    let r = test::choose(kind, MP4A, codes::SOUN, r);
-    test::choose(kind, MP4V, codes::VIDE, r)
+    match kind {
+        MP4A | SAMR | SAWB => codes::SOUN,
+        MP4V | S263 | AVC1 => codes::VIDE,
+        _ => 0,
+    }
 }

@@ -1,14 +1,13 @@
 -- How long the entries of records are. Assumes nothing.
 use Prim.Native.Nat.{ℕ}
-use mathlib.Core.Path.{◌≡◌, refl, sym, ◌∙◌}
+use mathlib.Core.Path.{◌≡◌, refl}
 use lib.ListN.{length}
-use Rattle.wire.specs.Tests.{if_eq}
 use Rattle.wire.specs.Numbers.{bytes_on, bytes}
-use Rattle.wire.proofs.Tests.{through}
 use Rattle.entry_heads.specs.Heads.{box_header, common_head, audio_head, visual_start, visual_head}
 use Rattle.entry_records.specs.declared.field.Amr.{Amr}
+use Rattle.entry_records.specs.declared.field.Rates.{Rates}
 use Rattle.entry_records.specs.declared.field.H263.{H263}
-use Rattle.entry_records.specs.Texts.{amr_text, plain_text, rated_text, h263_text}
+use Rattle.entry_records.specs.Texts.{amr_text, plain_text, rated_text}
 
 pub amr_length : (f : Amr) → length (amr_text f) ≡ 53
 unfolding amr_text audio_head common_head box_header bytes bytes_on
@@ -18,10 +17,6 @@ pub plain_length : (span inner : ℕ) (f : H263) → length (plain_text span inn
 unfolding plain_text visual_head visual_start common_head box_header bytes bytes_on
 plain_length span inner f = refl
 
-pub rated_length : (f : H263) → length (rated_text f) ≡ 117
+pub rated_length : (f : H263) (r : Rates) → length (rated_text f r) ≡ 117
 unfolding rated_text plain_text visual_head visual_start common_head box_header bytes bytes_on
-rated_length f = refl
-
-pub h263_length : (f : H263) → if_eq f.rates.given 1 117 101 ≡ length (h263_text f)
-unfolding h263_text
-h263_length f = sym (through length f.rates.given 1 (rated_text f) (plain_text 101 15 f) ∙ rw (rated_length f, plain_length 101 15 f))
+rated_length f r = refl

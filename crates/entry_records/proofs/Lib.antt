@@ -1,5 +1,4 @@
 pub mod Lengths
-pub mod Answers
 pub mod Fitting
 pub mod Speaking
 pub mod Hearing

@@ -1,5 +1,5 @@
 -- The fields of a record, read from where they stand in an entry, and the rule that they meet.
-use Rattle.std.specs.Prelude.{ℕ, Bool, false, List, [], ◌∷◌, length}
+use Rattle.std.specs.Prelude.{ℕ, Bool, true, Option, Some, None, List, [], ◌∷◌, length}
 use Rattle.wire.specs.Tests.{if_eq}
 use Rattle.wire.specs.Clauses.{is_eq, is_lt, every, either}
 use Rattle.wire.specs.Numbers.{word}
@@ -10,7 +10,7 @@ use Rattle.entry_records.specs.declared.field.Amr.{Amr}
 use Rattle.entry_records.specs.declared.field.Rates.{Rates}
 use Rattle.entry_records.specs.declared.field.H263.{H263}
 use Rattle.entry_records.specs.declared.field.Record.{Record}
-use Rattle.entry_records.specs.declared.field.Record.TheVariants.{Speech, Picture, Broken}
+use Rattle.entry_records.specs.declared.field.Record.TheVariants.{Speech, Picture}
 
 -- ---- where they stand
 
@@ -27,9 +27,9 @@ amr_in kind xs =
       frames = word 1 xs 52;
     }
 
--- given is 1 where a `bitr` follows; where none does, both rates are 0
-abbrev pub rates_in : List ℕ → Rates
-rates_in xs = record { given = if_eq (length xs) 117 1 0; average = word 4 xs 109; maximum = word 4 xs 113 }
+-- those of the `bitr`, where one follows
+unfoldable pub rates_in : List ℕ → Option Rates
+rates_in xs = if_eq (length xs) 117 (Some (record { average = word 4 xs 109; maximum = word 4 xs 113 })) None
 
 abbrev pub h263_in : List ℕ → H263
 h263_in xs =
@@ -45,10 +45,10 @@ h263_in xs =
     }
 
 -- the record of an entry of a kind: the other kinds have none
-unfoldable pub record_in : ℕ → List ℕ → Record
+unfoldable pub record_in : ℕ → List ℕ → Option Record
 record_in kind xs =
-    if_eq kind SamrKind (Speech (amr_in kind xs))
-    (if_eq kind SawbKind (Speech (amr_in kind xs)) (if_eq kind S263Kind (Picture (h263_in xs)) Broken))
+    if_eq kind SamrKind (Some (Speech (amr_in kind xs)))
+    (if_eq kind SawbKind (Some (Speech (amr_in kind xs))) (if_eq kind S263Kind (Some (Picture (h263_in xs))) None))
 
 -- ---- their rule: every number fits its place, and the decoder record's own rule holds
 
@@ -67,13 +67,10 @@ amr_rule release f =
     ∷ frames_rule f.kind release f.modes f.period f.frames
     ∷ [])
 
--- the rates of a `bitr` fit their places; without one they are 0
-unfoldable pub rates_rule : Rates → Bool
-rates_rule r =
-    either
-    (every (is_eq r.given 1 ∷ is_lt r.average 4294967296 ∷ is_lt r.maximum 4294967296 ∷ [])
-    ∷ every (is_eq r.given 0 ∷ is_eq r.average 0 ∷ is_eq r.maximum 0 ∷ [])
-    ∷ [])
+-- the rates of a `bitr` fit their places
+abbrev pub rates_rule : Option Rates → Bool
+rates_rule (Some r) = every (is_lt r.average 4294967296 ∷ is_lt r.maximum 4294967296 ∷ [])
+rates_rule None = true
 
 -- an `s263`
 unfoldable pub h263_rule : H263 → Bool
@@ -92,4 +89,3 @@ h263_rule f =
 abbrev pub fields_rule : Release → Record → Bool
 fields_rule release (Speech f) = amr_rule release f
 fields_rule release (Picture f) = h263_rule f
-fields_rule release Broken = false

@@ -1,16 +1,18 @@
 // The fields of a record, and their rule.
+#![tactic(auto, using(wire::proofs::Numbers::word_byte), unfolding(crate::specs::Fields::rates_in, crate::specs::Fields::record_in, crate::specs::Fields::amr_rule, crate::specs::Fields::h263_rule, wire::specs::Clauses::every, wire::specs::Clauses::either, wire::specs::Clauses::is_eq, wire::specs::Clauses::is_lt, wire::specs::Tests::if_eq))]
+
 ghost use Rattle.std.specs.Prelude.{◌≡◌, [], ◌∷◌};
-ghost use Rattle.wire.specs.Clauses.{is_eq, either, one_if};
+ghost use Rattle.wire.specs.Clauses.{is_eq, either};
 ghost use Rattle.entry_heads.specs.Kinds.{SamrKind, SawbKind};
 ghost use Rattle.entry_records.specs.Fields.{amr_in, rates_in, h263_in, record_in, amr_rule, rates_rule, h263_rule, fields_rule};
 
 use entry_heads::kind;
 use entry_rules::decoder;
 use release::Release;
-use wire::{number, test};
+use wire::number;
 
 // A `samr` or `sawb` entry, by its kind.
-#[derive(Clone, Copy)]
+#[derive(Clone, Copy, Debug, PartialEq, Eq)]
 pub struct Amr {
     pub kind: usize,
     pub reference: usize,
@@ -22,16 +24,15 @@ pub struct Amr {
     pub frames: usize,
 }
 
-// The rates of a `bitr`: given is 1 where one follows, and else 0, and so are the two rates.
-#[derive(Clone, Copy)]
+// The rates of a `bitr`.
+#[derive(Clone, Copy, Debug, PartialEq, Eq)]
 pub struct Rates {
-    pub given: usize,
     pub average: usize,
     pub maximum: usize,
 }
 
 // An `s263` entry.
-#[derive(Clone, Copy)]
+#[derive(Clone, Copy, Debug, PartialEq, Eq)]
 pub struct H263 {
     pub reference: usize,
     pub width: usize,
@@ -40,15 +41,14 @@ pub struct H263 {
     pub version: usize,
     pub level: usize,
     pub profile: usize,
-    pub rates: Rates,
+    pub rates: Option<Rates>,
 }
 
-// A record, or none: what breaks the rule.
-#[derive(Clone, Copy)]
+// A record.
+#[derive(Clone, Copy, Debug, PartialEq, Eq)]
 pub enum Record {
     Speech(Amr),
     Picture(H263),
-    Broken,
 }
 
 // The fields of a `samr` or `sawb` entry.
@@ -67,15 +67,17 @@ fn read_amr(kind: usize, entry: &[u8]) -> Amr
     }
 }
 
-// The rates in an `s263` entry.
-fn read_rates(entry: &[u8]) -> Rates
+// The rates in an `s263` entry, where a `bitr` follows its profile.
+fn read_rates(entry: &[u8]) -> Option<Rates>
     ensures { result ≡ rates_in entry.now }
 {
-    Rates {
-        given: test::choose(entry.len(), 117, 1, 0),
+    if entry.len() != 117 {
+        return None;
+    }
+    Some(Rates {
         average: number::word32(entry, 109),
         maximum: number::word32(entry, 113),
-    }
+    })
 }
 
 // The fields of an `s263` entry.
@@ -94,126 +96,69 @@ fn read_h263(entry: &[u8]) -> H263
     }
 }
 
-// The record that stands in an entry of a kind.
-pub fn inside(kind: usize, entry: &[u8]) -> Record
+// The record that stands in an entry of a kind, where the kind has one.
+pub fn inside(kind: usize, entry: &[u8]) -> Option<Record>
     ensures { result ≡ record_in kind entry.now }
 {
-    if kind == kind::SAMR {
-        return Record::Speech(read_amr(kind, entry));
+    match kind {
+        kind::SAMR | kind::SAWB => Some(Record::Speech(read_amr(kind, entry))),
+        kind::S263 => Some(Record::Picture(read_h263(entry))),
+        _ => None,
     }
-    if kind == kind::SAWB {
-        return Record::Speech(read_amr(kind, entry));
-    }
-    if kind == kind::S263 {
-        return Record::Picture(read_h263(entry));
-    }
-    Record::Broken
 }
 
-// Whether a kind is `samr` or `sawb`: 1 or 0.
-fn spoken(kind: usize) -> usize
-    ensures { result ≡ one_if (either (is_eq kind SamrKind ∷ is_eq kind SawbKind ∷ [])) }
+// Whether a kind is `samr` or `sawb`.
+fn spoken(kind: usize) -> bool
+    ensures { result ≡ either (is_eq kind SamrKind ∷ is_eq kind SawbKind ∷ []) }
 {
-    if kind == kind::SAMR {
-        return 1;
-    }
-    if kind == kind::SAWB {
-        return 1;
-    }
-    0
+    kind == kind::SAMR || kind == kind::SAWB
 }
 
-// Whether each field of a `samr` or `sawb` fits its place and the modes, period and frames meet their rule: 1 or 0.
-fn amr_rule(release: Release, f: Amr) -> usize
-    ensures { result ≡ one_if (amr_rule release f) }
+// Whether each field of a `samr` or `sawb` fits its place and the modes, period and frames meet their rule.
+fn amr_rule(release: Release, f: Amr) -> bool
+    ensures { result ≡ amr_rule release f }
 {
-    if spoken(f.kind) == 0 {
-        return 0;
-    }
-    if f.reference >= 65536 {
-        return 0;
-    }
-    if f.scale >= 65536 {
-        return 0;
-    }
-    if f.vendor >= 4294967296 {
-        return 0;
-    }
-    if f.version >= 256 {
-        return 0;
-    }
-    if f.modes >= 65536 {
-        return 0;
-    }
-    if f.period >= 256 {
-        return 0;
-    }
-    if f.frames >= 256 {
-        return 0;
-    }
-    decoder::frames_rule(f.kind, release, f.modes, f.period, f.frames)
+    spoken(f.kind)
+        && f.reference < 65536
+        && f.scale < 65536
+        && f.vendor < 4294967296
+        && f.version < 256
+        && f.modes < 65536
+        && f.period < 256
+        && f.frames < 256
+        && decoder::frames_rule(f.kind, release, f.modes, f.period, f.frames)
 }
 
-// Whether rates fit their places, or are 0 where no `bitr` follows: 1 or 0.
-fn rates_rule(rates: Rates) -> usize
-    ensures { result ≡ one_if (rates_rule rates) }
+// Whether the rates of a `bitr` fit their places, where one follows.
+fn rates_rule(rates: Option<Rates>) -> bool
+    ensures { result ≡ rates_rule rates }
 {
-    if rates.given == 1 {
-        if rates.average >= 4294967296 {
-            return 0;
-        }
-        if rates.maximum >= 4294967296 {
-            return 0;
-        }
-        return 1;
+    match rates {
+        Some(r) => r.average < 4294967296 && r.maximum < 4294967296,
+        None => true,
     }
-    if rates.given != 0 {
-        return 0;
-    }
-    if rates.average != 0 {
-        return 0;
-    }
-    if rates.maximum != 0 {
-        return 0;
-    }
-    1
 }
 
-// Whether each field of an `s263` fits its place: 1 or 0.
-fn h263_rule(f: H263) -> usize
-    ensures { result ≡ one_if (h263_rule f) }
+// Whether each field of an `s263` fits its place.
+fn h263_rule(f: H263) -> bool
+    ensures { result ≡ h263_rule f }
 {
-    if f.reference >= 65536 {
-        return 0;
-    }
-    if f.width >= 65536 {
-        return 0;
-    }
-    if f.height >= 65536 {
-        return 0;
-    }
-    if f.vendor >= 4294967296 {
-        return 0;
-    }
-    if f.version >= 256 {
-        return 0;
-    }
-    if f.level >= 256 {
-        return 0;
-    }
-    if f.profile >= 256 {
-        return 0;
-    }
-    rates_rule(f.rates)
+    f.reference < 65536
+        && f.width < 65536
+        && f.height < 65536
+        && f.vendor < 4294967296
+        && f.version < 256
+        && f.level < 256
+        && f.profile < 256
+        && rates_rule(f.rates)
 }
 
-// Whether fields meet the rule: 1 or 0.
-pub fn rule(release: Release, fields: Record) -> usize
-    ensures { result ≡ one_if (fields_rule release fields) }
+// Whether fields meet the rule.
+pub fn rule(release: Release, fields: Record) -> bool
+    ensures { result ≡ fields_rule release fields }
 {
     match fields {
         Record::Speech(f) => amr_rule(release, f),
         Record::Picture(f) => h263_rule(f),
-        Record::Broken => 0,
     }
 }

@@ -1,4 +1,6 @@
 // The record reader and writer.
+#![tactic(auto, using(wire::proofs::Writing::pen_front), unfolding(crate::specs::Records::read_of, crate::specs::Records::written_of, crate::specs::Records::out_of, wire::specs::Tests::if_lt))]
+
 ghost use Rattle.std.specs.Prelude.{◌≡◌};
 ghost use Rattle.entry_records.specs.Records.{read_of, written_of, out_of};
 
@@ -6,36 +8,35 @@ use crate::field::Record;
 use crate::{field, text};
 use entry_heads::kind;
 use entry_rules::entry;
-use entry_rules::entry::Around;
 use release::Release;
 use wire::number;
 
-#[derive(Clone, Copy)]
-pub enum Written {
-    Done(usize),
+// Why a record isn't written: its fields break their rule, or the buffer is too short.
+#[derive(Clone, Copy, Debug, PartialEq, Eq)]
+pub enum WriteError {
     BadFields,
     TooShort,
 }
 
-// Reads an entry of a release.
-pub fn read(entry: &[u8], release: Release) -> Record
+// Reads an entry of a release: none where it breaks its rule, or is of another kind.
+pub fn read(entry: &[u8], release: Release) -> Option<Record>
     ensures { result ≡ read_of release entry.now }
 {
-    if entry::entry_rule(entry, Around::Alone, release) == 0 {
-        return Record::Broken;
+    if !entry::entry_rule(entry, None, release) {
+        return None;
     }
     field::inside(kind::of_code(number::word32(entry, 4)), entry)
 }
 
 // Writes an entry of a release.
-pub fn write(fields: Record, release: Release, out: &mut [u8]) -> Written
+pub fn write(fields: Record, release: Release, out: &mut [u8]) -> Result<usize, WriteError>
     ensures { (result ≡ written_of release fields out.old) × (out.new ≡ out_of release fields out.old) }
 {
-    if field::rule(release, fields) == 0 {
-        return Written::BadFields;
+    if !field::rule(release, fields) {
+        return Err(WriteError::BadFields);
     }
     if out.len() < text::text_length(fields) {
-        return Written::TooShort;
+        return Err(WriteError::TooShort);
     }
-    Written::Done(text::put_record(out, fields))
+    Ok(text::put_record(out, fields))
 }

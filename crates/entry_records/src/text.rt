@@ -1,11 +1,13 @@
 // The bytes that fields make.
+#![tactic(auto, using(crate::proofs::Lengths::amr_length, crate::proofs::Lengths::plain_length, crate::proofs::Lengths::rated_length), unfolding(crate::specs::Texts::h263_text))]
+
 ghost use Rattle.std.specs.Prelude.{◌≡◌, length};
 ghost use Rattle.wire.specs.Writing.{Put};
 ghost use Rattle.entry_records.specs.Texts.{amr_text, plain_text, rated_text, h263_text, text_of};
 
-use crate::field::{Amr, H263, Record};
+use crate::field::{Amr, H263, Rates, Record};
 use entry_heads::{head, kind, put};
-use wire::{pen, test};
+use wire::pen;
 
 // Writes a `samr` or `sawb` entry.
 pub fn put_amr(out: &mut [u8], f: Amr) -> usize
@@ -41,23 +43,23 @@ fn put_plain(out: &mut [u8], span: usize, inner: usize, f: H263) -> usize
 }
 
 // Writes an `s263` entry with a `bitr`.
-fn put_rated(out: &mut [u8], f: H263) -> usize
-    ensures { Put (rated_text f) out.old 0 result out.new }
+fn put_rated(out: &mut [u8], f: H263, rates: Rates) -> usize
+    ensures { Put (rated_text f rates) out.old 0 result out.new }
 {
     let a = put_plain(out, 117, 31, f);
     let b = put::header(out, a, 16, codes::BITR);
-    let c = pen::put_number(out, b, 4, f.rates.average);
-    pen::put_number(out, c, 4, f.rates.maximum)
+    let c = pen::put_number(out, b, 4, rates.average);
+    pen::put_number(out, c, 4, rates.maximum)
 }
 
 // Writes an `s263` entry.
 fn put_h263(out: &mut [u8], f: H263) -> usize
     ensures { Put (h263_text f) out.old 0 result out.new }
 {
-    if f.rates.given == 1 {
-        return put_rated(out, f);
+    match f.rates {
+        Some(rates) => put_rated(out, f, rates),
+        None => put_plain(out, 101, 15, f),
     }
-    put_plain(out, 101, 15, f)
 }
 
 // Writes the entry of a record.
@@ -67,7 +69,6 @@ pub fn put_record(out: &mut [u8], fields: Record) -> usize
     match fields {
         Record::Speech(f) => put_amr(out, f),
         Record::Picture(f) => put_h263(out, f),
-        Record::Broken => 0,
     }
 }
 
@@ -75,7 +76,10 @@ pub fn put_record(out: &mut [u8], fields: Record) -> usize
 fn h263_length(f: H263) -> usize
     ensures { result ≡ length (h263_text f) }
 {
-    test::choose(f.rates.given, 1, 117, 101)
+    match f.rates {
+        Some(_) => 117,
+        None => 101,
+    }
 }
 
 // The length of the entry of a record.
@@ -85,6 +89,5 @@ pub fn text_length(fields: Record) -> usize
     match fields {
         Record::Speech(_) => 53,
         Record::Picture(f) => h263_length(f),
-        Record::Broken => 0,
     }
 }

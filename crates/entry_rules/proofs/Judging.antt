@@ -11,18 +11,19 @@ use Rattle.wire.proofs.Clauses.{is_eq_lem, eq_is, holds, done, clause}
 use Rattle.release.specs.declared.Release.{Release}
 use Rattle.entry_heads.specs.Kinds.{SamrKind, S263Kind}
 use Rattle.entry_heads.specs.Heads.{head_size, head_rule}
+use Rattle.std.specs.Prelude.{Option}
 use Rattle.entry_rules.specs.declared.entry.Around.{Around}
 use Rattle.entry_rules.specs.Decoders.{box_rule, record_rule}
 use Rattle.entry_rules.specs.Entries.{around_rule, inside_rule, rule_as}
 
 -- an entry of a kind meets its rule
-pub record Met (kind : ℕ) (around : Around) (release : Release) (xs : List ℕ) : Type 0 where
+pub record Met (kind : ℕ) (around : Option Around) (release : Release) (xs : List ℕ) : Type 0 where
   pub span : word 4 xs 0 ≡ length xs
   pub head : head_rule kind xs ≡ true
   pub fits : around_rule around kind xs ≡ true
   pub inside : inside_rule kind release (drop (head_size kind) xs) ≡ true
 
-module _ (kind : ℕ) (around : Around) (release : Release) (xs : List ℕ) where
+module _ (kind : ℕ) (around : Option Around) (release : Release) (xs : List ℕ) where
   pub rule_met : rule_as kind around release xs ≡ true → Met kind around release xs
   unfolding rule_as
   rule_met e = record { span = eq_is _ _ (clause 0 _ e); head = clause 1 _ e; fits = clause 2 _ e; inside = clause 3 _ e }

@@ -14,8 +14,8 @@ use Rattle.release.specs.declared.Release.{Release}
 use Rattle.entry_heads.specs.Kinds.{SamrKind, SawbKind, S263Kind, kind_of, handler_of}
 use Rattle.entry_heads.specs.Heads.{head_size}
 use Rattle.entry_heads.proofs.Heading.{head_inside, head_alike}
+use Rattle.std.specs.Prelude.{Option, Some, None}
 use Rattle.entry_rules.specs.declared.entry.Around.{Around}
-use Rattle.entry_rules.specs.declared.entry.Around.TheVariants.{Track, Alone}
 use Rattle.entry_rules.specs.Decoders.{damr_rule, rated_rule, d263_rule, record_rule}
 use Rattle.entry_rules.specs.Entries.{scale_rule, track_rule, around_rule, entry_rule, behind_head}
 use Rattle.entry_rules.proofs.Judging.{rule_met, rule_is, inside_record}
@@ -53,18 +53,18 @@ recorded kind release ys e =
 
 -- ---- what stands around an entry reads only its data reference and its TimeScale
 
-around_same : (around : Around) (kind : ℕ) (xs ys : List ℕ) → word 2 ys 14 ≡ word 2 xs 14 → word 2 ys 32 ≡ word 2 xs 32
+around_same : (around : Option Around) (kind : ℕ) (xs ys : List ℕ) → word 2 ys 14 ≡ word 2 xs 14 → word 2 ys 32 ≡ word 2 xs 32
     → around_rule around kind ys ≡ around_rule around kind xs
 unfolding track_rule scale_rule
-around_same (Track scale handler references) kind xs ys p q = rw (p, q)
-around_same Alone kind xs ys p q = refl
+around_same (Some track) kind xs ys p q = rw (p, q)
+around_same None kind xs ys p q = refl
 
 -- the head of an entry that meets its rule lies inside
-pub entry_head : (around : Around) (release : Release) (kind : ℕ) (xs : List ℕ) → kind_of (word 4 xs 4) ≡ kind → entry_rule around release xs ≡ true → head_size kind ≤ length xs
+pub entry_head : (around : Option Around) (release : Release) (kind : ℕ) (xs : List ℕ) → kind_of (word 4 xs 4) ≡ kind → entry_rule around release xs ≡ true → head_size kind ≤ length xs
 unfolding entry_rule
 entry_head around release kind xs k e = head_inside kind xs (rule_met kind around release xs (rw k at e)).head
 
-pub entry_kept : (around : Around) (release : Release) (kind : ℕ) (xs ys : List ℕ) → kind_of (word 4 xs 4) ≡ kind → entry_rule around release xs ≡ true
+pub entry_kept : (around : Option Around) (release : Release) (kind : ℕ) (xs ys : List ℕ) → kind_of (word 4 xs 4) ≡ kind → entry_rule around release xs ≡ true
     → record_rule kind release ys ≡ true → entry_rule around release (behind_head (head_size kind) xs ys) ≡ true
 unfolding entry_rule
 entry_kept around release kind xs ys k e r =

@@ -18,15 +18,13 @@ lacking n j k =
     rw (and_high n j k)
     (eq_or (n / 2 ^ k % 2 ^ j) 0 (λ e. rw (e, zero-mul)) (λ h. not_eq _ _ (λ z. h (omega arith)) ∙ sym (not_eq _ _ h)))
 
-pub modes_is : (kind modes : ℕ) {s : ℕ} → s ≡ if_eq kind SamrKind (modes / 512 % 64) (modes / 1024 % 32) → modes_rule kind modes ≡ is_eq s 0
+pub modes_is : (kind modes : ℕ) → modes_rule kind modes ≡ if_eq kind SamrKind (is_eq (modes / 512 % 64) 0) (is_eq (modes / 1024 % 32) 0)
 unfolding modes_rule mode_mask
-modes_is kind modes q =
+modes_is kind modes =
     eq_or kind SamrKind
     (λ e.
     let m : ◌≡◌ {A = ℕ} (if_eq kind SamrKind 0x81FF 0x83FF) 0x81FF = sym (eq_yea _ _ _ _ _ e refl) in
-    let n : if_eq kind SamrKind (modes / 512 % 64) (modes / 1024 % 32) ≡ modes / 512 % 64 = sym (eq_yea _ _ _ _ _ e refl) in
-    rw (q, m, n) (lacking modes 6 9))
+    rw m (eq_yea _ _ _ _ _ e (lacking modes 6 9)))
     (λ e.
     let m : ◌≡◌ {A = ℕ} (if_eq kind SamrKind 0x81FF 0x83FF) 0x83FF = sym (eq_nay _ _ _ _ _ e refl) in
-    let n : if_eq kind SamrKind (modes / 512 % 64) (modes / 1024 % 32) ≡ modes / 1024 % 32 = sym (eq_nay _ _ _ _ _ e refl) in
-    rw (q, m, n) (lacking modes 5 10))
+    rw m (eq_nay _ _ _ _ _ e (lacking modes 5 10)))

@@ -15,6 +15,7 @@ use Rattle.release.specs.declared.Release.{Release}
 use Rattle.entry_heads.specs.Kinds.{S263Kind, handler_of}
 use Rattle.entry_heads.specs.Heads.{visual_rule}
 use Rattle.entry_heads.proofs.Heading.{visual_size, visual_rule_lem}
+use Rattle.std.specs.Prelude.{Option}
 use Rattle.entry_rules.specs.declared.entry.Around.{Around}
 use Rattle.entry_rules.specs.Decoders.{box_rule, rated_rule, d263_rule, record_rule}
 use Rattle.entry_rules.specs.Entries.{around_rule, inside_rule, rule_as}
@@ -47,7 +48,7 @@ module _ (release : Release) (xs : List ℕ) where
   further : (at : ℕ) → word 4 (drop 15 (drop 86 xs)) at ≡ word 4 xs (86 + (15 + at))
   further at = word_drop 4 15 (drop 86 xs) at ∙ word_drop 4 86 xs (15 + at)
 
-  module _ (around : Around) where
+  module _ (around : Option Around) where
     -- the start, from the rule
     start_met : (n : ℕ) → Met S263Kind around release xs → length (drop 86 xs) ≡ 15 + n → box_rule D263 (drop 86 xs) ≡ true → PictureAt (15 + n) xs
     start_met n m l e =

@@ -16,6 +16,7 @@ use Rattle.release.specs.declared.Release.{Release}
 use Rattle.entry_heads.specs.Kinds.{SamrKind, SawbKind, handler_of}
 use Rattle.entry_heads.specs.Heads.{audio_rule}
 use Rattle.entry_heads.proofs.Heading.{audio_size, audio_rule_lem}
+use Rattle.std.specs.Prelude.{Option}
 use Rattle.entry_rules.specs.declared.entry.Around.{Around}
 use Rattle.entry_rules.specs.Decoders.{frames_rule, damr_rule, record_rule}
 use Rattle.entry_rules.specs.Entries.{around_rule, inside_rule, rule_as}
@@ -47,7 +48,7 @@ module _ (kind : ℕ) (release : Release) (xs : List ℕ) (s : Spoken kind) wher
   inside : inside_rule kind release (drop 36 xs) ≡ damr_rule kind release (drop 36 xs)
   inside = inside_record kind release (drop 36 xs) (⊎_elim (λ e. omega arith) (λ e. omega arith) s) (⊎_elim (λ e. omega arith) (λ e. omega arith) s) ∙ damr
 
-  module _ (around : Around) where
+  module _ (around : Option Around) where
     pub speech_met : rule_as kind around release xs ≡ true → SpeechAt kind release xs
     unfolding damr_rule
     speech_met e =

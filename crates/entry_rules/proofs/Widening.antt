@@ -12,6 +12,7 @@ use Rattle.release.specs.declared.Release.{Release}
 use Rattle.release.specs.Releases.{most_frames}
 use Rattle.entry_heads.specs.Kinds.{kind_of}
 use Rattle.entry_heads.specs.Heads.{head_size}
+use Rattle.std.specs.Prelude.{Option}
 use Rattle.entry_rules.specs.declared.entry.Around.{Around}
 use Rattle.entry_rules.specs.Decoders.{frames_rule, damr_rule, record_rule}
 use Rattle.entry_rules.specs.Entries.{inside_rule, entry_rule}
@@ -40,7 +41,7 @@ module _ (release wider : Release) (more : most_frames release ≤ most_frames w
       eq_kept _ _ _ _ _ _ (λ k e. e) (eq_kept _ _ _ _ _ _ (λ k e. e) (eq_kept _ _ _ _ _ _ (λ k e. e) (eq_kept _ _ _ _ _ _ (λ k e. e) (record_wider kind xs))))
 
   -- an entry
-  pub entry_wider : (around : Around) (xs : List ℕ) → entry_rule around release xs ≡ true → entry_rule around wider xs ≡ true
+  pub entry_wider : (around : Option Around) (xs : List ℕ) → entry_rule around release xs ≡ true → entry_rule around wider xs ≡ true
   unfolding entry_rule
   entry_wider around xs e =
       let kind = kind_of (word 4 xs 4) in

@@ -1,5 +1,5 @@
 -- Rule 10: a sample entry, in the words of the scope document.
-use Rattle.std.specs.Prelude.{ℕ, ◌+◌, Bool, true, List, [], ◌∷◌, ◌++◌, length, take, drop}
+use Rattle.std.specs.Prelude.{ℕ, ◌+◌, Bool, true, Option, Some, None, List, [], ◌∷◌, ◌++◌, length, take, drop}
 use Rattle.wire.specs.Tests.{if_eq}
 use Rattle.wire.specs.Clauses.{is_eq, is_le, every}
 use Rattle.wire.specs.Numbers.{bytes, word}
@@ -10,7 +10,6 @@ use Rattle.release.specs.declared.Release.{Release}
 use Rattle.entry_heads.specs.Kinds.{OtherKind, Mp4vKind, Mp4aKind, Avc1Kind, kind_of, handler_of}
 use Rattle.entry_heads.specs.Heads.{head_size, head_rule}
 use Rattle.entry_rules.specs.declared.entry.Around.{Around}
-use Rattle.entry_rules.specs.declared.entry.Around.TheVariants.{Track, Alone}
 use Rattle.entry_rules.specs.Decoders.{box_rule, record_rule}
 
 -- ---- what a track says of its entries
@@ -28,10 +27,14 @@ unfoldable pub track_rule : ℕ → ℕ → ℕ → ℕ → List ℕ → Bool
 track_rule scale handler references kind xs =
     every (is_le 1 (word 2 xs 14) ∷ is_le (word 2 xs 14) references ∷ handler_rule kind handler ∷ scale_rule kind scale xs ∷ [])
 
+-- what a track with a time scale, a handler and a count of data references says
+abbrev pub in_track : ℕ → ℕ → ℕ → Option Around
+in_track scale handler references = Some (record { scale = scale; handler = handler; references = references })
+
 -- an entry alone, in a sheet or as a record, is judged "apart from TimeScale, data reference and handler"
-abbrev pub around_rule : Around → ℕ → List ℕ → Bool
-around_rule (Track scale handler references) kind xs = track_rule scale handler references kind xs
-around_rule Alone kind xs = true
+abbrev pub around_rule : Option Around → ℕ → List ℕ → Bool
+around_rule (Some track) kind xs = track_rule track.scale track.handler track.references kind xs
+around_rule None kind xs = true
 
 -- ---- what follows the head
 
@@ -52,7 +55,7 @@ inside_rule kind release xs =
 -- ---- the whole
 
 -- the size field is the length, the head that of the kind, and so is what follows it
-unfoldable pub rule_as : ℕ → Around → Release → List ℕ → Bool
+unfoldable pub rule_as : ℕ → Option Around → Release → List ℕ → Bool
 rule_as kind around release xs =
     every
     (is_eq (word 4 xs 0) (length xs)
@@ -61,7 +64,7 @@ rule_as kind around release xs =
     ∷ inside_rule kind release (drop (head_size kind) xs)
     ∷ [])
 
-unfoldable pub entry_rule : Around → Release → List ℕ → Bool
+unfoldable pub entry_rule : Option Around → Release → List ℕ → Bool
 entry_rule around release xs = rule_as (kind_of (word 4 xs 4)) around release xs
 
 -- ---- another decoder record

@@ -5,10 +5,9 @@ use native.Mathlib.Omega.{arith}
 use mathlib.Core.Path.{◌≡◌, refl, sym, ap, ◌∙◌}
 use mathlib.Core.List.{List, []}
 use lib.ListN.{length, take, drop, drop_of_length-le}
-use Rattle.wire.specs.Clauses.{one_if}
 use Rattle.wire.specs.Numbers.{word}
 use Rattle.wire.proofs.Tests.{eq_yea, eq_nay, eq_any}
-use Rattle.wire.proofs.Clauses.{was_yea, was_nay}
+use mathlib.Core.Bool.{Bool, true, false}
 use Rattle.codes.specs.Codes.{SOUN, VIDE}
 use Rattle.entry_heads.specs.Kinds.{kind_of, handler_of}
 use Rattle.entry_heads.specs.Heads.{VISUAL, head_size}
@@ -17,13 +16,13 @@ use Rattle.descriptors.specs.Trees.{tree}
 use Rattle.movie.specs.declared.entry.EntryAt.{EntryAt}
 use Rattle.movie.specs.Entries.{entries}
 use Rattle.movie.specs.Named.{NamedAs, EntryIs}
-use Rattle.std.specs.Result.{IsErrAnd}
-use Rattle.rule.proofs.SameRefusal.{passed_on}
 use Rattle.rule.specs.Results.{ToWrite, asked, Exact}
 use Rattle.rule.specs.Results.ToWrite.{gives, refuses}
 use Rattle.rule.proofs.Results.{exact_refuses}
 use Rattle.esds.specs.declared.value.Esds.{Esds}
+use Rattle.std.specs.Result.{IsErrAnd}
 use Rattle.rule.specs.declared.Refusal.{Refusal}
+use Rattle.rule.proofs.SameRefusal.{passed_on}
 use Rattle.esds.specs.Values.{has_esds}
 use Rattle.esds.specs.Texts.{BEFORE}
 use Rattle.esds.specs.Calls.{esds_numbers, opened_result, tree_result, opened_as, first_opened, entry_opened, specific_part}
@@ -38,18 +37,18 @@ head_most kind e =
 
 -- ---- an entry
 
-module _ (p : ℕ) (xs : List ℕ) {w kind o : ℕ} (c : w ≡ word 4 xs 4) (k : kind ≡ kind_of w) (h : o ≡ one_if (has_esds kind)) where
+module _ (p : ℕ) (xs : List ℕ) {w kind : ℕ} {o : Bool} (c : w ≡ word 4 xs 4) (k : kind ≡ kind_of w) (h : o ≡ has_esds kind) where
   kind_is : kind_of (word 4 xs 4) ≡ kind
   kind_is = rw (← c) (sym k)
 
-  pub other_kind : o ≡ 0 → refuses 20 0 ≡ opened_as (kind_of (word 4 xs 4)) p xs
+  pub other_kind : o ≡ false → refuses 20 0 ≡ opened_as (kind_of (word 4 xs 4)) p xs
   unfolding opened_as asked
-  other_kind z = rw (kind_is, was_nay _ _ z h)
+  other_kind z = rw (kind_is, sym h ∙ z)
 
-  pub this_kind : (o ≡ 0 → ⊥) → {n : ℕ} {ys : List ℕ} {r : ToWrite} → n ≡ head_size kind → ys ≡ drop (n + BEFORE) xs
+  pub this_kind : o ≡ true → {n : ℕ} {ys : List ℕ} {r : ToWrite} → n ≡ head_size kind → ys ≡ drop (n + BEFORE) xs
       → r ≡ tree_result kind (p + (n + BEFORE)) (tree TOP ys) → r ≡ opened_as (kind_of (word 4 xs 4)) p xs
   unfolding opened_as asked
-  this_kind z e q f = rw (kind_is, was_yea _ _ z h, ← e, ← q) f
+  this_kind z e q f = rw (kind_is, sym h ∙ z, ← e, ← q) f
 
 -- ---- by its number
 

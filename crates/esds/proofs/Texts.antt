@@ -5,12 +5,12 @@ use mathlib.Core.Path.{◌≡◌, refl, sym, ◌∙◌}
 use mathlib.Core.List.{List, [], ◌∷◌}
 use lib.ListN.{length, length-append}
 use Rattle.wire.specs.Tests.{if_lt}
-use Rattle.wire.specs.Clauses.{one_if}
+use mathlib.Core.Bool.{Bool, true, false}
 use Rattle.wire.specs.Numbers.{bytes}
 use Rattle.wire.specs.Writing.{Put}
 use Rattle.wire.proofs.Numbers.{length_bytes_lem}
 use Rattle.wire.proofs.Tests.{eq_yea, eq_nay}
-use Rattle.wire.proofs.Clauses.{lt_is, is_eq_lem, not_eq, fails, holds, done, clause, was_yea, was_nay}
+use Rattle.wire.proofs.Clauses.{lt_is, is_eq_lem, not_eq, fails, holds, done, clause}
 use Rattle.wire.proofs.Writing.{pen_then}
 use Rattle.entry_heads.specs.Heads.{box_header}
 use Rattle.descriptors.specs.Lengths.{shortest, least_more, TOO_LONG}
@@ -80,14 +80,14 @@ module _ (v : Values) (s : List ℕ) where
       record { configuration = k; es = e; whole = omega (arith, length_esds, g); most = omega (arith, p.1, q.1, r.1) }
 
   -- what code may count on where the values have their `esds`
-  module _ {i : ℕ} (e : i ≡ one_if (values_rule v s)) (h : i ≡ 0 → ⊥) where
+  module _ (e : values_rule v s ≡ true) where
     pub rule_stream : v.stream < 64
     unfolding values_rule
-    rule_stream = lt_is _ _ (clause 2 _ (was_yea _ _ h e))
+    rule_stream = lt_is _ _ (clause 2 _ e)
 
     pub rule_short : length s < TOO_LONG
     unfolding values_rule
-    rule_short = lt_is _ _ (clause 7 _ (was_yea _ _ h e))
+    rule_short = lt_is _ _ (clause 7 _ e)
 
 -- ---- the writer, which is given numbers
 
@@ -95,13 +95,13 @@ pub write_count : (ns s out : List ℕ) → (length ns ≡ 8 → ⊥) → Exact 
 unfolding esds_write
 write_count ns s out h = test_not 20 _ _ _ out (sym (fails 0 _ (not_eq _ _ h)))
 
-module _ (ns s out : List ℕ) {v : Values} (e : v ≡ values_of ns) {i : ℕ} (g : i ≡ one_if (has_esds v.kind)) where
-  pub write_other : i ≡ 0 → Exact (esds_write ns s) out (Refused 20 0) out
+module _ (ns s out : List ℕ) {v : Values} (e : v ≡ values_of ns) {i : Bool} (g : i ≡ has_esds v.kind) where
+  pub write_other : i ≡ false → Exact (esds_write ns s) out (Refused 20 0) out
   unfolding esds_write
-  write_other z = test_not 20 _ _ _ out (sym (fails 1 _ (was_nay _ _ z (rw e at g))))
+  write_other z = test_not 20 _ _ _ out (sym (fails 1 _ (sym (rw e at g) ∙ z)))
 
-  pub write_kind : length ns ≡ 8 → (i ≡ 0 → ⊥) → {r : Answer} {left : List ℕ}
+  pub write_kind : length ns ≡ 8 → i ≡ true → {r : Answer} {left : List ℕ}
       → Exact (asked ((50, values_rule v s) ∷ (52, kind_rule v) ∷ []) (gives (esds_text v s))) out r left → Exact (esds_write ns s) out r left
   unfolding esds_write
   write_kind l z x =
-      test_so 20 _ _ _ out (sym (holds _ _ (is_eq_lem _ _ l) (holds _ _ (was_yea _ _ z (rw e at g)) done))) (rw e at x)
+      test_so 20 _ _ _ out (sym (holds _ _ (is_eq_lem _ _ l) (holds _ _ (sym (rw e at g) ∙ z) done))) (rw e at x)

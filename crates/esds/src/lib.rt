@@ -20,7 +20,8 @@ use descriptors::list::Reading;
 use descriptors::{list, part};
 use entry_heads::{head, kind};
 use movie::entry;
-use rule::{Answer, Refusal, refusals};
+use rule::refusals;
+use rule::{Answer, Refusal};
 use value::{Esds, Values};
 use wire::{lend, number};
 
@@ -33,11 +34,11 @@ fn open_tree(bytes: &[u8], kind: usize, place: usize) -> Result<Esds, Refusal>
     ensures { opened_result result ≡ tree_result kind place (tree TOP bytes.now) }
 {
     let start = Reading {
-        fits: 1,
+        fits: true,
         last: part::TOP,
     };
     let r = list::read(bytes, part::TOP, start);
-    if r.fits == 0 {
+    if !r.fits {
         return Err(refusals::NO_FIT);
     }
     if r.last != part::SL {
@@ -45,7 +46,7 @@ fn open_tree(bytes: &[u8], kind: usize, place: usize) -> Result<Esds, Refusal>
     }
     let e = value::read(bytes, kind, place);
     let v = e.values;
-    if value::fixed(bytes, v) == 0 {
+    if !value::fixed(bytes, v) {
         return Err(refusals::BAD_NUMBER);
     }
     Ok(e)
@@ -57,7 +58,7 @@ fn open_entry(entry: &[u8], place: usize) -> Result<Esds, Refusal>
     ensures { opened_result result ≡ opened_as (kind_of (word 4 entry.now 4)) place entry.now }
 {
     let kind = kind::of_code(number::word32(entry, 4));
-    if value::has_esds(kind) == 0 {
+    if !value::has_esds(kind) {
         return Err(refusals::NO_SUCH);
     }
     let before = head::size(kind) + BEFORE;
@@ -98,16 +99,18 @@ fn put(e: Esds, out: &mut [u64]) -> Answer
         return Err(refusals::NO_ROOM);
     }
     let v = e.values;
-    out[0] = v.kind as u64;
-    out[1] = v.number as u64;
-    out[2] = v.object as u64;
-    out[3] = v.stream as u64;
-    out[4] = v.buffer as u64;
-    out[5] = v.maximum as u64;
-    out[6] = v.average as u64;
-    out[7] = v.specific as u64;
-    out[8] = e.place as u64;
-    out[9] = e.span as u64;
+    out[..10].copy_from_slice(&[
+        v.kind as u64,
+        v.number as u64,
+        v.object as u64,
+        v.stream as u64,
+        v.buffer as u64,
+        v.maximum as u64,
+        v.average as u64,
+        v.specific as u64,
+        e.place as u64,
+        e.span as u64,
+    ]);
     Ok(10)
 }
 
@@ -150,10 +153,10 @@ fn values_of(fields: &[u64]) -> Values
 fn write_values(v: Values, specific: &[u8], out: &mut [u8]) -> Answer
     ensures { Exact (asked ((50, values_rule v specific.now) ∷ (52, kind_rule v) ∷ []) (gives (esds_text v specific.now))) out.old result out.new }
 {
-    if text::values_rule(v, specific) == 0 {
+    if !text::values_rule(v, specific) {
         return Err(refusals::NO_FIT);
     }
-    if value::kind_rule(v) == 0 {
+    if !value::kind_rule(v) {
         return Err(refusals::BAD_NUMBER);
     }
     let z = text::measure(v, specific);
@@ -171,7 +174,7 @@ pub fn write(fields: &[u64], specific: &[u8], out: &mut [u8]) -> Answer
         return Err(refusals::NO_SUCH);
     }
     let v = values_of(fields);
-    if value::has_esds(v.kind) == 0 {
+    if !value::has_esds(v.kind) {
         return Err(refusals::NO_SUCH);
     }
     write_values(v, specific, out)

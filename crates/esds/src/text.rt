@@ -1,6 +1,8 @@
 // The `esds` that values make, and which values have one.
-ghost use Rattle.std.specs.Prelude.{◌≡◌, ◌+◌, ◌^◌, ◌≤◌, ◌<◌, length};
-ghost use Rattle.wire.specs.Clauses.{one_if};
+#![tactic(auto, unfolding(crate::specs::Texts::specific_rule, crate::specs::Texts::values_rule, wire::specs::Clauses::every, wire::specs::Clauses::either, wire::specs::Clauses::is_eq, wire::specs::Clauses::is_lt))]
+
+ghost use Rattle.std.specs.Prelude.{◌≡◌, [], ◌∷◌, ◌+◌, ◌^◌, ◌≤◌, ◌<◌, length};
+ghost use Rattle.wire.specs.Clauses.{is_lt, every};
 ghost use Rattle.wire.specs.Writing.{Put};
 ghost use Rattle.descriptors.specs.Lengths.{shortest, TOO_LONG as too_long};
 ghost use Rattle.esds.specs.Texts.{specific_text, configuration_text, configuration_body, es_body, esds_text, specific_rule, values_rule, SizesOf};
@@ -14,7 +16,7 @@ use wire::pen;
 const TOO_LONG: usize = 268435456;
 
 // How many bytes the contents of the decoder configuration and of the ES descriptor have, and the whole box.
-#[derive(Clone, Copy)]
+#[derive(Clone, Copy, Debug, PartialEq, Eq)]
 pub struct Sizes {
     pub configuration: usize,
     pub es: usize,
@@ -53,58 +55,35 @@ pub fn measure(v: Values, specific: &[u8]) -> Sizes
     }
 }
 
-// Whether specific information is there or not, and has no bytes where it isn't: 1 or 0.
-fn specific_rule(v: Values, specific: &[u8]) -> usize
-    ensures { result ≡ one_if (specific_rule v specific.now) }
+// Whether specific information is there or not, and has no bytes where it isn't.
+fn specific_rule(v: Values, specific: &[u8]) -> bool
+    ensures { result ≡ specific_rule v specific.now }
 {
-    if v.specific == 1 {
-        return 1;
-    }
-    if v.specific != 0 {
-        return 0;
-    }
-    if specific.len() != 0 {
-        return 0;
-    }
-    1
+    v.specific == 1 || v.specific == 0 && specific.len() == 0
 }
 
-// Whether every number fits its place, and no contents are too long: 1 or 0.
-pub fn values_rule(v: Values, specific: &[u8]) -> usize
-    ensures { result ≡ one_if (values_rule v specific.now) }
+// Whether the contents of the two descriptors that hold others aren't too long.
+fn bodies_rule(v: Values, specific: &[u8]) -> bool
+    requires { length specific.now < too_long }
+    ensures { result ≡ every (is_lt (length (configuration_body v specific.now)) too_long ∷ is_lt (length (es_body v specific.now)) too_long ∷ []) }
 {
-    if v.number >= 65536 {
-        return 0;
-    }
-    if v.object >= 256 {
-        return 0;
-    }
-    if v.stream >= 64 {
-        return 0;
-    }
-    if v.buffer >= 16777216 {
-        return 0;
-    }
-    if v.maximum >= 4294967296 {
-        return 0;
-    }
-    if v.average >= 4294967296 {
-        return 0;
-    }
-    if specific_rule(v, specific) == 0 {
-        return 0;
-    }
-    if specific.len() >= TOO_LONG {
-        return 0;
-    }
     let z = measure(v, specific);
-    if z.configuration >= TOO_LONG {
-        return 0;
-    }
-    if z.es >= TOO_LONG {
-        return 0;
-    }
-    1
+    z.configuration < TOO_LONG && z.es < TOO_LONG
+}
+
+// Whether every number fits its place, and no contents are too long.
+pub fn values_rule(v: Values, specific: &[u8]) -> bool
+    ensures { result ≡ values_rule v specific.now }
+{
+    v.number < 65536
+        && v.object < 256
+        && v.stream < 64
+        && v.buffer < 16777216
+        && v.maximum < 4294967296
+        && v.average < 4294967296
+        && specific_rule(v, specific)
+        && specific.len() < TOO_LONG
+        && bodies_rule(v, specific)
 }
 
 // Writes the own bytes of the decoder configuration.

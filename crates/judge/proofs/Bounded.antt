@@ -18,6 +18,7 @@ use Rattle.movie.specs.Stsds.{Stsd, stsds_from}
 use Rattle.movie.proofs.Stsds.{Each, each_from}
 use Rattle.movie.proofs.Stsds.Each.{none as no_more, more}
 use Rattle.release.specs.declared.Release.{Release}
+use Rattle.std.specs.Prelude.{Option}
 use Rattle.entry_rules.specs.declared.entry.Around.{Around}
 use Rattle.rule.specs.Verdict.{unless, Verdict, Fine}
 use Rattle.rule.specs.Judge.{judge_list}
@@ -97,7 +98,7 @@ nine_bounded =
 
 -- ---- rule 10
 
-entries_most : (m : ℕ) (a : Around) (release : Release) (s : Stsd) → Within m s → named (entries_judged a release (drop FRONT s.body) (s.start + FRONT)) ≤ m
+entries_most : (m : ℕ) (a : Option Around) (release : Release) (s : Stsd) → Within m s → named (entries_judged a release (drop FRONT s.body) (s.start + FRONT)) ≤ m
 unfolding entries_judged
 entries_most m a release s w = omega (arith, w.whole, listed_most (λ x i. unless (entry_fine a release x) i) (λ x i. unless_most _ (entry_fine a release x) i (omega arith)) FRONT s.body s.start)
 

@@ -16,10 +16,10 @@ use Rattle.boxes.specs.Seek.{meant, count, all_plain}
 use Rattle.release.specs.declared.Release.TheVariants.{Release6}
 use Rattle.entry_heads.specs.Kinds.{kind_of, code_of, handler_of}
 use Rattle.entry_heads.specs.Heads.{box_header, common_head, audio_head}
-use Rattle.entry_rules.specs.declared.entry.Around.TheVariants.{Track}
 use Rattle.entry_rules.specs.Decoders.{modes_rule, period_rule, frames_rule}
-use Rattle.entry_rules.specs.Entries.{handler_rule, scale_rule, track_rule, entry_rule}
+use Rattle.entry_rules.specs.Entries.{in_track, handler_rule, scale_rule, track_rule, entry_rule}
 use Rattle.entry_rules.proofs.Speech.{Spoken, speech_is}
+use Rattle.std.specs.Prelude.{Some}
 use Rattle.entry_records.specs.declared.field.Record.TheVariants.{Speech}
 use Rattle.entry_records.specs.Fields.{amr_rule}
 use Rattle.entry_records.specs.Texts.{amr_text}
@@ -88,17 +88,17 @@ module _ (m : ℕ) where
   kind_is Wideband = refl
 
   module _ (k : Codec) (f : OwnModes k m) where
-    pub entry_rule_lem : entry_rule (Track (scale_by k) SOUN 1) Release6 (entry_text k m) ≡ true
+    pub entry_rule_lem : entry_rule (in_track (scale_by k) SOUN 1) Release6 (entry_text k m) ≡ true
     unfolding entry_rule
     entry_rule_lem =
         rw (kind_is k)
-        (speech_is (kind_by k) Release6 (entry_text k m) (spoken k) (Track (scale_by k) SOUN 1)
+        (speech_is (kind_by k) Release6 (entry_text k m) (spoken k) (in_track (scale_by k) SOUN 1)
         (amr_at Release6 (entry_by k m) (spoken k) (fields_rule k f)) (around k))
 
-    pub entries_fine_lem : entries_fine (Track (scale_by k) SOUN 1) Release6 (drop FRONT (stsd k m)) ≡ true
+    pub entries_fine_lem : entries_fine (in_track (scale_by k) SOUN 1) Release6 (drop FRONT (stsd k m)) ≡ true
     unfolding entries_fine all_list
     entries_fine_lem = rw (one_entry_lem k m, entry_bytes k m, entry_rule_lem)
 
     -- it reads back as the record with these modes
-    pub entry_reads : read_of Release6 (entry_text k m) ≡ Speech (entry_by k m)
+    pub entry_reads : read_of Release6 (entry_text k m) ≡ Some (Speech (entry_by k m))
     entry_reads = written_reads Release6 (Speech (entry_by k m)) (fields_rule k f)

@@ -46,8 +46,8 @@ use Rattle.promise_amr.proofs.Timed.{media_is, movie_is}
 -- the modes of good frames are the codec's
 own_modes : (k : Codec) (l : List (List ℕ)) → EachGood k l → OwnModes k (mode_set l)
 unfolding if_eq
-own_modes Amr l g = record { fits = modes_fit l; own = modes_is SamrKind (mode_set l) refl ∙ is_eq_lem _ _ (modes_amr l g) }
-own_modes Wideband l g = record { fits = modes_fit l; own = modes_is SawbKind (mode_set l) refl ∙ is_eq_lem _ _ (modes_wide l g) }
+own_modes Amr l g = record { fits = modes_fit l; own = modes_is SamrKind (mode_set l) ∙ is_eq_lem _ _ (modes_amr l g) }
+own_modes Wideband l g = record { fits = modes_fit l; own = modes_is SawbKind (mode_set l) ∙ is_eq_lem _ _ (modes_wide l g) }
 
 start_least : (k : Codec) (l : List (List ℕ)) → 8 ≤ start k l
 unfolding start

@@ -1,5 +1,5 @@
 -- What a file that is made of frames is, and one that is made of a dump.
-use Rattle.std.specs.Prelude.{ℕ, ◌≡◌, true, List, [], ◌∷◌}
+use Rattle.std.specs.Prelude.{ℕ, ◌≡◌, true, Some, List, [], ◌∷◌}
 use Rattle.wire.specs.Numbers.{Bytes}
 use Rattle.codes.specs.Codes.{STTS, GP6}
 use Rattle.movie.specs.Movie.{tracks, track, sample_table, scale, movie_ticks}
@@ -37,7 +37,7 @@ pub record Recording (k : Codec) (l : List (List ℕ)) (ys : List ℕ) : Type 0 
   pub media : media_ticks (sample_table STTS (track ys 0)) ≡ ticks_of k l
   pub movie : movie_ticks (track ys 0) ≡ ticks_of k l
   pub entry : entries ys ≡ entry_of k l ∷ []
-  pub reads : read_of Release6 (entry_of k l).bytes ≡ Speech (entry_by k (mode_set l))
+  pub reads : read_of Release6 (entry_of k l).bytes ≡ Some (Speech (entry_by k (mode_set l)))
   pub brand : brand_answer ys GP6 ≡ Done 1
 
 -- a file ys of the dump xs: "the samples, joined, are the dump without its magic"

@@ -23,6 +23,7 @@ use Rattle.boxes.proofs.Numbered.{count_append}
 use Rattle.entry_heads.specs.Kinds.{kind_of}
 use Rattle.entry_heads.specs.Heads.{head_size}
 use Rattle.release.specs.declared.Release.{Release}
+use Rattle.std.specs.Prelude.{Option}
 use Rattle.entry_rules.specs.declared.entry.Around.{Around}
 use Rattle.entry_rules.specs.Decoders.{record_rule}
 use Rattle.rule.specs.Rule.{all_list}
@@ -62,7 +63,7 @@ module _ (release : Release) (new b b' : List ℕ) (c : Changed release new b b'
   after_it = remade c.entry (tail_by (head_size c.kind - HEAD) new c.entry.body)
 
   -- rule 10: the entries are still fine, around whichever track
-  pub changed_fine : (a : Around) → entries_fine a release (drop FRONT b) ≡ true → entries_fine a release (drop FRONT b') ≡ true
+  pub changed_fine : (a : Option Around) → entries_fine a release (drop FRONT b) ≡ true → entries_fine a release (drop FRONT b') ≡ true
   unfolding entries_fine
   changed_fine a q =
       rw c.made (all_swap (entry_fine a release) true c.before c.entry after_it c.past (entry_changed c.entry c.good c.plain a release c.kind new c.is c.meets) (rw c.old at q))

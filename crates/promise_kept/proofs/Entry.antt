@@ -18,6 +18,7 @@ use Rattle.boxes.proofs.Whole.{Good, length_header}
 use Rattle.entry_heads.specs.Kinds.{kind_of}
 use Rattle.entry_heads.specs.Heads.{head_size}
 use Rattle.release.specs.declared.Release.{Release}
+use Rattle.std.specs.Prelude.{Option}
 use Rattle.entry_rules.specs.declared.entry.Around.{Around}
 use Rattle.entry_rules.specs.Decoders.{record_rule}
 use Rattle.entry_rules.specs.Entries.{behind_head}
@@ -45,7 +46,7 @@ module _ (x : Box) (g : Good x) (p : x.form ≡ Plain) where
       rw (t, d, plain_header (take keep b ++ new), n) (simp append_assoc)
 
   -- a given record that meets its rule, in the place of the entry's own
-  pub entry_changed : (a : Around) (release : Release) (kind : ℕ) (new : List ℕ) → kind_of x.code ≡ kind → record_rule kind release new ≡ true → entry_fine a release x ≡ true → entry_fine a release (remade x (tail_by (head_size kind - HEAD) new x.body)) ≡ true
+  pub entry_changed : (a : Option Around) (release : Release) (kind : ℕ) (new : List ℕ) → kind_of x.code ≡ kind → record_rule kind release new ≡ true → entry_fine a release x ≡ true → entry_fine a release (remade x (tail_by (head_size kind - HEAD) new x.body)) ≡ true
   entry_changed a release kind new k r e =
       let c : kind_of (word 4 (header x ++ x.body) 4) ≡ kind = ap kind_of (code_told x g) ∙ k in
       let d = recorded kind release new r in

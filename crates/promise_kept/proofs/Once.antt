@@ -15,6 +15,7 @@ use Rattle.boxes.specs.Boxes.{FRONT, boxes}
 use Rattle.boxes.proofs.Reading.{All}
 use Rattle.boxes.proofs.Down.{Once}
 use Rattle.release.specs.declared.Release.{Release}
+use Rattle.std.specs.Prelude.{Option}
 use Rattle.entry_rules.specs.declared.entry.Around.{Around}
 use Rattle.rule_lists.specs.Five.{list_form}
 use Rattle.rule_headers.specs.Forms.{if_box, form}
@@ -65,7 +66,7 @@ module _ (b₀ b₁ : List ℕ) where
                 mdhd = λ b b' r. rw (other MDIA MDHD (λ e f. omega arith) b b' r);
                 hdlr = λ b b' r. rw (other MDIA HDLR (λ e f. omega arith) b b' r);
                 dref = λ b b' r. rw (other DINF DREF (λ e f. omega arith) b b' r);
-                stsd = at_stsd (λ b b'. (a : Around) → entries_fine a release (drop FRONT b) ≡ true → entries_fine a release (drop FRONT b') ≡ true) (λ b a q. q) (changed_fine release new b₀ b₁ h);
+                stsd = at_stsd (λ b b'. (a : Option Around) → entries_fine a release (drop FRONT b) ≡ true → entries_fine a release (drop FRONT b') ≡ true) (λ b a q. q) (changed_fine release new b₀ b₁ h);
               };
         }
 

@@ -1,13 +1,12 @@
 -- The marked cases M1 to M12, as one table.
-use Rattle.std.specs.Prelude.{ℕ, Bool, true, ◌&&◌, List, [], ◌∷◌, ◌++◌, map, eqb, ℤ, pos}
+use Rattle.std.specs.Prelude.{ℕ, Bool, true, ◌&&◌, None, List, [], ◌∷◌, ◌++◌, map, eqb, ℤ, pos}
 use Rattle.wire.specs.Clauses.{one_if}
 use Rattle.wire.specs.Numbers.{bytes}
 use Rattle.codes.specs.Codes.{FTYP, SAMR, SAWB, SOUN, ISOM, GP4, GP5, GP6}
 use Rattle.boxes.specs.Box.{plain_box, write}
 use Rattle.release.specs.declared.Release.{Release}
 use Rattle.release.specs.declared.Release.TheVariants.{Release4, Release6}
-use Rattle.entry_rules.specs.declared.entry.Around.TheVariants.{Track, Alone}
-use Rattle.entry_rules.specs.Entries.{entry_rule}
+use Rattle.entry_rules.specs.Entries.{in_track, entry_rule}
 use Rattle.rule.specs.Answers.{answer_number}
 use Rattle.rule.specs.Results.{answer_in}
 use Rattle.judge.specs.Judgement.{judged, judged_number, judged_place}
@@ -72,7 +71,7 @@ marked_cases =
 
 abbrev pub as_marked : Row → Bool
 as_marked (of_entry release c) =
-    eqb (one_if (entry_rule (Track c.scale SOUN 1) release (entry c))) c.fine && eqb (one_if (entry_rule Alone release (entry c))) c.fine
+    eqb (one_if (entry_rule (in_track c.scale SOUN 1) release (entry c))) c.fine && eqb (one_if (entry_rule None release (entry c))) c.fine
 as_marked (of_file xs n p) = eqb (judged_number (judged xs)) n && eqb (judged_place (judged xs)) p
 as_marked (of_shift xs z n) = eqb (answer_number (answer_in (shift_result z xs) [])) n
 

@@ -1,19 +1,11 @@
--- Which release a list tells, which one a number names, and which is the wider. Assumes nothing.
+-- Which release a number names, and which is the wider. Assumes nothing.
 use Prim.Native.Nat.{◌≤◌}
 use native.Mathlib.Omega.{arith}
 use mathlib.Core.Path.{◌≡◌, refl}
-use mathlib.Core.Bool.{Bool, true, false}
-use Rattle.wire.specs.Tests.{pick, if_eq}
+use Rattle.wire.specs.Tests.{if_eq}
 use Rattle.release.specs.declared.Release.{Release}
 use Rattle.release.specs.declared.Release.TheVariants.{Release4, Release6}
 use Rattle.release.specs.Releases.{release_number, release_named, most_frames}
-
--- a list tells Release 4 where a test of it holds, and else Release 6
-pub four : (t : Bool) → true ≡ t → Release4 ≡ pick t Release4 Release6
-four t e = rw (← e)
-
-pub six : (t : Bool) → false ≡ t → Release6 ≡ pick t Release4 Release6
-six t e = rw (← e)
 
 -- no release takes more frames than Release 4, and none fewer than Release 6
 pub most_wider : (release : Release) → most_frames release ≤ most_frames Release4

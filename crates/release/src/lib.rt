@@ -10,7 +10,7 @@ ghost use Rattle.release.specs.Releases.{most_frames, release_named, release_in,
 use boxes::seek;
 use compatible::listed;
 
-#[derive(Clone, Copy)]
+#[derive(Clone, Copy, Debug, PartialEq, Eq)]
 pub enum Release {
     Release4,
     Release6,
@@ -27,32 +27,31 @@ pub fn most_frames(release: Release) -> usize
 }
 
 // The release that a caller names by its number.
-pub fn of_number(n: u64) -> Release
-    ensures { result ≡ release_named n }
-{
-    if n == 4 {
-        return Release::Release4;
+impl From<u64> for Release {
+    ghost from_gives = { λ n r. r ≡ release_named n };
+
+    #[tactic(auto, unfolding(crate::specs::Releases::release_named, wire::specs::Tests::if_eq))]
+    fn from(n: u64) -> Release {
+        if n == 4 {
+            return Release::Release4;
+        }
+        Release::Release6
     }
-    Release::Release6
 }
 
 // The release that a compatible list tells.
+#[tactic(auto, unfolding(crate::specs::Releases::release_in, crate::specs::Compatible::brand_missing, wire::specs::Clauses::every))]
 pub fn told(ftyp: &[u8]) -> Release
     ensures { result ≡ release_in ftyp.now }
 {
-    if listed(ftyp, codes::GP4) == 0 {
-        return Release::Release6;
+    if listed(ftyp, codes::GP4)
+        && !listed(ftyp, codes::GP5)
+        && !listed(ftyp, codes::GP6)
+        && !listed(ftyp, codes::GR6)
+    {
+        return Release::Release4;
     }
-    if listed(ftyp, codes::GP5) != 0 {
-        return Release::Release6;
-    }
-    if listed(ftyp, codes::GP6) != 0 {
-        return Release::Release6;
-    }
-    if listed(ftyp, codes::GR6) != 0 {
-        return Release::Release6;
-    }
-    Release::Release4
+    Release::Release6
 }
 
 // The release of a file.

@@ -1,5 +1,5 @@
 -- What is asked of a track, by where its boxes stand.
-use Rattle.std.specs.Prelude.{ℕ, ◌^◌, ◌≤◌, ◌<◌, ◌≡◌, Bool, true, List, [], ◌∷◌, drop}
+use Rattle.std.specs.Prelude.{ℕ, ◌^◌, ◌≤◌, ◌<◌, ◌≡◌, Bool, true, Option, List, [], ◌∷◌, drop}
 use Rattle.wire.specs.Numbers.{word}
 use Rattle.wire.specs.Clauses.{every}
 use Rattle.codes.specs.Codes.{TRAK, TKHD, MDIA, MDHD, HDLR}
@@ -14,7 +14,7 @@ use Rattle.sample_tables.specs.Rules.{tables_agree}
 use Rattle.mdat.specs.Rules.{chunks_lie}
 use Rattle.release.specs.declared.Release.TheVariants.{Release6}
 use Rattle.entry_rules.specs.declared.entry.Around.{Around}
-use Rattle.entry_rules.specs.declared.entry.Around.TheVariants as around
+use Rattle.entry_rules.specs.Entries.{in_track}
 use Rattle.layout.specs.declared.track.Track.{Track}
 use Rattle.layout.specs.Slots.{slot_in, Lies}
 use Rattle.rule.specs.Rule.{all_in}
@@ -59,8 +59,8 @@ tables_fine l xs t =
     ∷ [])
 
 -- rule 10
-abbrev pub around_in : List ℕ → Track → Around
-around_in xs t = around.Track (word 4 (slot_in xs t.mdhd) 12) (word 4 (slot_in xs t.hdlr) 8) (word 4 (slot_in xs t.dref) 4)
+abbrev pub around_in : List ℕ → Track → Option Around
+around_in xs t = in_track (word 4 (slot_in xs t.mdhd) 12) (word 4 (slot_in xs t.hdlr) 8) (word 4 (slot_in xs t.dref) 4)
 
 -- an answer of 10 or more says that it meets rules 4 to 9, one of 11 the narrower rule 10 too
 pub record AllFine (xs : List ℕ) (t : Track) (r : ℕ) : Type 0 where

@@ -101,7 +101,7 @@ fn entries_fine(file: &[u8], t: Track) -> usize
     let hdlr = t.hdlr;
     let dref = t.dref;
     let stsd = t.stsd;
-    let around = Around::Track {
+    let around = Around {
         scale: number::word32(gather::bytes(file, mdhd), 12),
         handler: number::word32(gather::bytes(file, hdlr), 8),
         references: number::word32(gather::bytes(file, dref), 4),
@@ -109,7 +109,7 @@ fn entries_fine(file: &[u8], t: Track) -> usize
     match rule_entries::entries_from(
         lend::rest(gather::bytes(file, stsd), walk::FRONT),
         0,
-        around,
+        Some(around),
         Release::Release6,
     ) {
         Ok(()) => 1,

@@ -6,9 +6,8 @@ use mathlib.Core.List.{List, [], ◌∷◌, ◌++◌, append_assoc}
 use lib.ListN.{length, take, drop, length-append}
 use lib.Seq.{take_at}
 use Rattle.wire.specs.Numbers.{Bytes}
-use Rattle.wire.specs.Clauses.{one_if}
 use Rattle.codes.specs.Codes.{TRAK}
-use Rattle.wire.proofs.Clauses.{was_yea, was_nay}
+use mathlib.Core.Bool.{Bool, true, false}
 use Rattle.boxes.specs.declared.walk.Walk.{Walk}
 use Rattle.boxes.specs.declared.walk.BoxAt.{BoxAt}
 use Rattle.boxes.specs.Box.{Box, head, size, header}
@@ -23,6 +22,7 @@ use Rattle.movie.specs.Stsds.{stsds_from}
 use Rattle.movie.specs.Named.{list_in}
 use Rattle.movie.proofs.Boxed.{stsds_hit, stsds_miss}
 use Rattle.release.specs.declared.Release.{Release}
+use Rattle.std.specs.Prelude.{Option}
 use Rattle.entry_rules.specs.declared.entry.Around.{Around}
 use Rattle.entry_rules.specs.Entries.{entry_rule}
 use Rattle.rule.specs.Verdict.{sooner, unless, Verdict, Fine, Bad}
@@ -44,30 +44,30 @@ bytes_is {xs} {at} {b} {w} v s =
 
 -- ---- the loop over the entries of a list
 
-abbrev pub entry_at : Around → Release → Box → ℕ → Verdict
+abbrev pub entry_at : Option Around → Release → Box → ℕ → Verdict
 entry_at a release x q = unless (entry_fine a release x) q
 
 abbrev pub no_end : ℕ → Verdict
 no_end q = Fine
 
 -- every entry before a place meets its rule
-abbrev pub Met : Around → Release → List ℕ → ℕ → ℕ → Type 0
+abbrev pub Met : Option Around → Release → List ℕ → ℕ → ℕ → Type 0
 Met a release xs base at = Found (entry_at a release) no_end xs base (entries_judged a release xs base) Fine at
 
-pub entries_none : (a : Around) (release : Release) (xs : List ℕ) (base : ℕ) → Met a release xs base 0
+pub entries_none : (a : Option Around) (release : Release) (xs : List ℕ) (base : ℕ) → Met a release xs base 0
 unfolding entries_judged sooner
 entries_none a release xs base = found_none (entry_at a release) no_end xs base Fine
 
-module _ (a : Around) (release : Release) {xs : List ℕ} {base at : ℕ} (i : Met a release xs base at) where
-  module _ (h : Bytes xs) {b : BoxAt} {w : Walk} (s : Ran xs at b w) {r : ℕ} (e : r ≡ one_if (entry_rule a release (bytes_of xs b))) where
-    own : r ≡ one_if (entry_fine a release (box_at xs b))
-    own = e ∙ ap (λ (ys : List ℕ). one_if (entry_rule a release ys)) (bytes_is h s)
+module _ (a : Option Around) (release : Release) {xs : List ℕ} {base at : ℕ} (i : Met a release xs base at) where
+  module _ (h : Bytes xs) {b : BoxAt} {w : Walk} (s : Ran xs at b w) {r : Bool} (e : r ≡ entry_rule a release (bytes_of xs b)) where
+    own : r ≡ entry_fine a release (box_at xs b)
+    own = e ∙ ap (λ (ys : List ℕ). entry_rule a release ys) (bytes_is h s)
 
-    pub entries_more : (r ≡ 0 → ⊥) → Met a release xs base w.at
-    entries_more z = listed_more (entry_fine a release) i s (was_yea _ _ z own)
+    pub entries_more : r ≡ true → Met a release xs base w.at
+    entries_more z = listed_more (entry_fine a release) i s (sym own ∙ z)
 
-    pub entries_bad : r ≡ 0 → Bad (base + b.at) ≡ entries_judged a release xs base
-    entries_bad z = listed_bad (entry_fine a release) i s (was_nay _ _ z own)
+    pub entries_bad : r ≡ false → Bad (base + b.at) ≡ entries_judged a release xs base
+    entries_bad z = listed_bad (entry_fine a release) i s (sym own ∙ z)
 
   pub entries_over : Over xs at → Fine ≡ entries_judged a release xs base
   entries_over o = listed_over (entry_fine a release) i o

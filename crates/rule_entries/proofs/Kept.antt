@@ -18,6 +18,7 @@ use Rattle.movie.proofs.Stsds.{Pairs, kin_stsds}
 use Rattle.movie.proofs.Stsds.Pairs.{nil, cons}
 use Rattle.movie.proofs.Kept.{kin_stsd, kin_scale, kin_handler, kin_references}
 use Rattle.release.specs.declared.Release.{Release}
+use Rattle.std.specs.Prelude.{Option}
 use Rattle.entry_rules.specs.declared.entry.Around.{Around}
 use Rattle.rule.specs.Verdict.{is_fine, Fine}
 use Rattle.rule.specs.Rule.{all_in, Says}
@@ -27,7 +28,7 @@ use Rattle.rule.proofs.Places.{sooner_fine, unless_fine}
 use Rattle.rule_entries.specs.Ten.{around_of, entry_fine, entries_judged, entries_fine, stsds_judged, stsds_fine, ten_at, ten_in, ten, ten_rule}
 use Rattle.rule_entries.proofs.Entry.{entry_at, no_end}
 
-pub entries_fine_lem : (a : Around) (release : Release) (xs : List ℕ) (p : ℕ) → is_fine (entries_judged a release xs p) ≡ entries_fine a release xs
+pub entries_fine_lem : (a : Option Around) (release : Release) (xs : List ℕ) (p : ℕ) → is_fine (entries_judged a release xs p) ≡ entries_fine a release xs
 unfolding entries_judged entries_fine
 entries_fine_lem a release xs p = list_fine (entry_at a release) no_end (entry_fine a release) true (λ x q. unless_fine (entry_fine a release x) q) (λ q. refl) (boxes xs) p
 
@@ -56,7 +57,7 @@ pub record Described (release : Release) (G : Leaf) : Type 0 where
   pub mdhd : (b b' : List ℕ) → G MDIA MDHD b b' → word 4 b 12 ≡ word 4 b' 12
   pub hdlr : (b b' : List ℕ) → G MDIA HDLR b b' → word 4 b 8 ≡ word 4 b' 8
   pub dref : (b b' : List ℕ) → G DINF DREF b b' → word 4 b 4 ≡ word 4 b' 4
-  pub stsd : (b b' : List ℕ) → G STBL STSD b b' → (a : Around) → entries_fine a release (drop FRONT b) ≡ true → entries_fine a release (drop FRONT b') ≡ true
+  pub stsd : (b b' : List ℕ) → G STBL STSD b b' → (a : Option Around) → entries_fine a release (drop FRONT b) ≡ true → entries_fine a release (drop FRONT b') ≡ true
 
 -- the entries of the one track are fine, and so are those of the other
 abbrev Meeting : Release → List ℕ → List ℕ → Type 0
@@ -75,7 +76,7 @@ module _ (release : Release) (G : Leaf) (t : Described release G) where
   track_kept : (d : ℕ) (b b' : List ℕ) → Kin G d TRAK b b' → Meeting release b b'
   track_kept d b b' a =
       rw (← around_kept d b b' a)
-      (kin_stsd G (λ c c'. (i : Around) → entries_fine i release (drop FRONT c) ≡ true → entries_fine i release (drop FRONT c') ≡ true) (λ c i q. q) t.stsd d b b' a (around_of b))
+      (kin_stsd G (λ c c'. (i : Option Around) → entries_fine i release (drop FRONT c) ≡ true → entries_fine i release (drop FRONT c') ≡ true) (λ c i q. q) t.stsd d b b' a (around_of b))
 
   in_kept : (d k : ℕ) (xs ys : List ℕ) → Kin G (suc d) k xs ys → ten_in release k xs ≡ true → ten_in release k ys ≡ true
   unfolding ten_in

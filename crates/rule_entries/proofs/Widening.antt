@@ -8,12 +8,13 @@ use Rattle.boxes.specs.Box.{Box, header}
 use Rattle.boxes.specs.Boxes.{boxes}
 use Rattle.release.specs.declared.Release.{Release}
 use Rattle.release.specs.Releases.{most_frames}
+use Rattle.std.specs.Prelude.{Option}
 use Rattle.entry_rules.specs.declared.entry.Around.{Around}
 use Rattle.entry_rules.proofs.Widening.{entry_wider}
 use Rattle.rule.specs.Rule.{all_list}
 use Rattle.rule_entries.specs.Ten.{entry_fine, entries_fine}
 
-module _ (release wider : Release) (more : most_frames release ≤ most_frames wider) (a : Around) where
+module _ (release wider : Release) (more : most_frames release ≤ most_frames wider) (a : Option Around) where
   all_wider : (l : List Box) → all_list (entry_fine a release) true l ≡ true → all_list (entry_fine a wider) true l ≡ true
   unfolding all_list
   all_wider [] q = refl

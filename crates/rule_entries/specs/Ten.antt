@@ -1,5 +1,5 @@
 -- Rule 10 of a release: each entry of each `stsd`, judged with its track's scale, handler and data references. Place: the entry.
-use Rattle.std.specs.Prelude.{ℕ, ◌+◌, ◌-◌, Bool, true, false, List, [], ◌∷◌, ◌++◌, take, drop}
+use Rattle.std.specs.Prelude.{ℕ, ◌+◌, ◌-◌, Bool, true, false, Option, List, [], ◌∷◌, ◌++◌, take, drop}
 use Rattle.wire.specs.Tests.{pick, if_eq}
 use Rattle.codes.specs.Codes.{MOOV}
 use Rattle.boxes.specs.declared.walk.BoxAt.{BoxAt}
@@ -9,15 +9,14 @@ use Rattle.movie.specs.Movie.{scale, handler, references}
 use Rattle.movie.specs.Stsds.{Stsd, stsds_from}
 use Rattle.release.specs.declared.Release.{Release}
 use Rattle.entry_rules.specs.declared.entry.Around.{Around}
-use Rattle.entry_rules.specs.declared.entry.Around.TheVariants.{Track}
-use Rattle.entry_rules.specs.Entries.{entry_rule}
+use Rattle.entry_rules.specs.Entries.{in_track, entry_rule}
 use Rattle.rule.specs.Verdict.{sooner, unless, Verdict, Fine}
 use Rattle.rule.specs.Judge.{Judge, judge_list}
 use Rattle.rule.specs.Rule.{Rule, all_list}
 
 -- what a track of payload b says of its entries
-unfoldable pub around_of : List ℕ → Around
-around_of b = Track (scale b) (handler b) (references b)
+unfoldable pub around_of : List ℕ → Option Around
+around_of b = in_track (scale b) (handler b) (references b)
 
 -- ---- one entry
 
@@ -26,15 +25,15 @@ abbrev pub bytes_of : List ℕ → BoxAt → List ℕ
 bytes_of xs b = take (b.at + b.span - b.at) (drop b.at xs)
 
 -- an entry, header and all, meets its rule
-abbrev pub entry_fine : Around → Release → Box → Bool
+abbrev pub entry_fine : Option Around → Release → Box → Bool
 entry_fine a release x = entry_rule a release (header x ++ x.body)
 
 -- ---- the entries that a list has: with places, from place p on, and without
 
-unfoldable pub entries_judged : Around → Release → List ℕ → ℕ → Verdict
+unfoldable pub entries_judged : Option Around → Release → List ℕ → ℕ → Verdict
 entries_judged a release xs p = judge_list (λ x q. unless (entry_fine a release x) q) (λ q. Fine) (boxes xs) p
 
-unfoldable pub entries_fine : Around → Release → List ℕ → Bool
+unfoldable pub entries_fine : Option Around → Release → List ℕ → Bool
 entries_fine a release xs = all_list (entry_fine a release) true (boxes xs)
 
 -- ---- those of each `stsd`

@@ -1,8 +1,7 @@
 // Rule 10 of a release: the sample entries of a file, each judged with what its track says.
 #![tactic(auto)]
 
-ghost use Rattle.std.specs.Prelude.{◌≡◌, ◌+◌, ◌^◌, ◌<◌, ◌≤◌, [], ◌∷◌, length};
-ghost use Rattle.wire.specs.Clauses.{one_if};
+ghost use Rattle.std.specs.Prelude.{◌≡◌, Some, ◌+◌, ◌^◌, ◌<◌, ◌≤◌, [], ◌∷◌, length};
 ghost use Rattle.boxes.specs.Box.{head_of};
 ghost use Rattle.boxes.specs.Boxes.{FRONT, boxes};
 ghost use Rattle.boxes.specs.Walk.{box_at};
@@ -22,27 +21,27 @@ use rule::Verdict;
 
 // The scale, the handler and the data references of a track.
 fn around_of(track: &[u8]) -> Around
-    ensures { result ≡ around_of track.now }
+    ensures { Some result ≡ around_of track.now }
 {
-    Around::Track {
+    Around {
         scale: movie::scale(track),
         handler: movie::handler(track),
         references: movie::references(track),
     }
 }
 
-// Whether one entry of a list meets its rule: 1 or 0.
-fn entry_meets(list: &[u8], b: BoxAt, around: Around, release: Release) -> usize
+// Whether one entry of a list meets its rule.
+fn entry_meets(list: &[u8], b: BoxAt, around: Option<Around>, release: Release) -> bool
     requires { (b.head ≤ b.span) × (b.at + b.span ≤ length list.now) }
-    ensures { result ≡ one_if (entry_rule around release (bytes_of list.now b)) }
+    ensures { result ≡ entry_rule around release (bytes_of list.now b) }
 {
     let from = b.at;
     let to = b.at + b.span;
     entry::entry_rule(&list[from..to], around, release)
 }
 
-// The first entry of a list that starts at base which breaks its rule.
-pub fn entries_from(list: &[u8], base: usize, around: Around, release: Release) -> Verdict
+// The first entry of a list that starts at base which breaks its rule, alone or in a track.
+pub fn entries_from(list: &[u8], base: usize, around: Option<Around>, release: Release) -> Verdict
     requires { base + length list.now < 2 ^ 63 }
     ensures { result ≡ entries_judged around release list.now base }
 {
@@ -50,7 +49,7 @@ pub fn entries_from(list: &[u8], base: usize, around: Around, release: Release) 
     loop {
         match w.step(list) {
             Step::Found(b, next) => {
-                if entry_meets(list, b, around, release) == 0 {
+                if !entry_meets(list, b, around, release) {
                     return Err(base + b.at);
                 }
                 w = next;
@@ -75,7 +74,7 @@ fn track_entries(track: &[u8], base: usize, release: Release) -> Verdict
     entries_from(
         movie::entry::list(track),
         start + walk::FRONT,
-        around,
+        Some(around),
         release,
     )
 }

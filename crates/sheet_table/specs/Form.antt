@@ -1,12 +1,11 @@
 -- The form of a sheet, judged from its bytes alone.
-use Rattle.std.specs.Prelude.{ℕ, zero, suc, ◌+◌, Bool, true, false, List, [], ◌∷◌, take, drop, get_or}
+use Rattle.std.specs.Prelude.{ℕ, zero, suc, ◌+◌, Bool, true, false, None, List, [], ◌∷◌, take, drop, get_or}
 use Rattle.wire.specs.Tests.{pick}
 use Rattle.wire.specs.Clauses.{is_eq, is_le, every}
 use Rattle.wire.specs.Numbers.{word}
 use Rattle.std.specs.Str.{bytes_eq}
 use Rattle.movie.specs.Entries.{Entry}
 use Rattle.release.specs.declared.Release.TheVariants.{Release4}
-use Rattle.entry_rules.specs.declared.entry.Around.TheVariants.{Alone}
 use Rattle.entry_rules.specs.Entries.{entry_rule}
 use Rattle.sheet.specs.Sheet.{SLOTS, SLOT, edition_for, bodies_at, sheet}
 
@@ -39,7 +38,7 @@ steps t (e ∷ es) = pick (follows t e.track) (steps e.track es) false
 -- "by the wider rule" of the two releases
 unfoldable pub all_meet : List Entry → Bool
 all_meet [] = true
-all_meet (e ∷ es) = pick (entry_rule Alone Release4 e.bytes) (all_meet es) false
+all_meet (e ∷ es) = pick (entry_rule None Release4 e.bytes) (all_meet es) false
 
 -- "A sheet must have the form above": it is the sheet that its own entries make, whatever their places
 unfoldable pub formed : List ℕ → Bool

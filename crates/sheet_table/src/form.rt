@@ -7,7 +7,6 @@ ghost use Rattle.sheet_table.specs.Form.{read, unsheet, follows as follows_of, s
 
 use crate::slots;
 use entry_rules::entry;
-use entry_rules::entry::Around;
 use release::Release;
 use sheet::edition;
 use wire::{lend, number};
@@ -62,7 +61,7 @@ fn all_meet(slots: &[u8], bodies: &[u8], n: usize) -> usize
     if n == 0 {
         return 1;
     }
-    if entry::entry_rule(slots::body(slots, bodies), Around::Alone, Release::Release4) == 0 {
+    if !entry::entry_rule(slots::body(slots, bodies), None, Release::Release4) {
         return 0;
     }
     all_meet(

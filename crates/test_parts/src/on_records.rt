@@ -12,12 +12,12 @@ pub fn show(rt: HostRuntime, case: &[u8]) {
     print::say(
         rt,
         b": ",
-        decoder::record_rule(kind, Release::Release6, lend::rest(rest, 4)),
+        usize::from(decoder::record_rule(kind, Release::Release6, lend::rest(rest, 4))),
     );
     print::say(
         rt,
         b" wider ",
-        decoder::record_rule(kind, Release::Release4, lend::rest(rest, 4)),
+        usize::from(decoder::record_rule(kind, Release::Release4, lend::rest(rest, 4))),
     );
     print::line(rt);
 }

@@ -25,6 +25,7 @@ ghost use Rattle.threegp.specs.Answers.{pair as pair_of, packed, judge_answer, F
 
 use frames::codec;
 use newer::{FileRefusal, Part};
+use release::Release;
 use rule::{Answer, Refusal, refusals};
 
 fn pair(n: usize, v: usize) -> u64
@@ -149,14 +150,14 @@ pub fn threegp_salvage(file: &[u8], wideband: u64, out: &mut [u8], report: &mut 
 pub fn threegp_record_read(entry: &[u8], release: u64, out: &mut [u64]) -> u64
     ensures { ForC (read_result (release_named release) entry.now) out.old result out.new }
 {
-    pack(entry_fields::read(entry, release::of_number(release), out))
+    pack(entry_fields::read(entry, Release::from(release), out))
 }
 
 // The record of numbers, of a release.
 pub fn threegp_record_write(numbers: &[u64], release: u64, out: &mut [u8]) -> u64
     ensures { ForC (write_result (release_named release) numbers.now) out.old result out.new }
 {
-    pack(entry_fields::write(numbers, release::of_number(release), out))
+    pack(entry_fields::write(numbers, Release::from(release), out))
 }
 
 // The printed listing of a file.

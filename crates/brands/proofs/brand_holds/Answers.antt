@@ -1,22 +1,22 @@
 -- The code is listed, what it asks for beside it is, and then the conditions.
 use Rattle.wire.specs.Clauses.{one_if}
-use Rattle.wire.proofs.Clauses.{nay, fails, holds, decides, was_yea, was_nay}
+use Rattle.wire.proofs.Clauses.{nay, fails, holds, decides}
 use Rattle.brands.specs.Brands.{brand_holds}
-use mathlib.Core.Path.{ap, ◌∙◌}
+use mathlib.Core.Path.{sym, ap, ◌∙◌}
 use Rattle.brands.proofs.brand_holds.Goals as goal
 
-pub returns-then-listed-eq0 : goal.returns-then-listed-eq0
+pub returns-then-not-listed : goal.returns-then-not-listed
 unfolding brand_holds
-returns-then-listed-eq0 c = nay _ (fails 0 _ (was_nay _ _ c.if-listed-eq0.true (rw c.payload-ftyp.ensures at c.listed.ensures)))
+returns-then-not-listed c = nay _ (fails 0 _ (sym (rw c.payload-ftyp.ensures at c.listed.ensures) ∙ c.if-not-listed.true))
 
-pub returns-then-beside-eq0 : goal.returns-then-beside-eq0
+pub returns-then-not-beside : goal.returns-then-not-beside
 unfolding brand_holds
-returns-then-beside-eq0 c = nay _ (fails 1 _ (was_nay _ _ c.if-beside-eq0.true c.beside.ensures))
+returns-then-not-beside c = nay _ (fails 1 _ (sym c.beside.ensures ∙ c.if-not-beside.true))
 
 pub returns : goal.returns
 unfolding brand_holds
 returns c =
     c.own.ensures
     ∙ ap one_if
-    (holds _ _ (was_yea _ _ c.if-listed-eq0.false (rw c.payload-ftyp.ensures at c.listed.ensures))
-    (holds _ _ (was_yea _ _ c.if-beside-eq0.false c.beside.ensures) (decides _)))
+    (holds _ _ (sym (rw c.payload-ftyp.ensures at c.listed.ensures) ∙ c.if-not-listed.false)
+    (holds _ _ (sym c.beside.ensures ∙ c.if-not-beside.false) (decides _)))

@@ -1,6 +1,6 @@
 -- 20, 21, 23, and then as it fits.
-use Rattle.wire.proofs.Clauses.{was_yea}
-use Rattle.rule.proofs.Results.{test_nay, test_yea}
+use mathlib.Core.Path.{sym, ◌∙◌}
+use Rattle.rule.proofs.Results.{test_not, test_so, test_nay, test_yea}
 use Rattle.edit_replace.specs.Places.{place_text, place_result}
 use Rattle.edit_replace.proofs.Taking.{record_short}
 use Rattle.edit_replace.proofs.Written.{head_least}
@@ -11,11 +11,11 @@ pub returns-then-takes-eq0 : goal.returns-then-takes-eq0
 unfolding place_text place_result
 returns-then-takes-eq0 c = test_nay _ _ _ _ _ (rw c.of_code-kind.ensures at c.takes.ensures) c.if-takes-eq0.true
 
-pub returns-then-record_rule-eq0 : goal.returns-then-record_rule-eq0
+pub returns-then-not-record_rule : goal.returns-then-not-record_rule
 unfolding place_text place_result
-returns-then-record_rule-eq0 c =
+returns-then-not-record_rule c =
     let kind = c.of_code-kind.ensures in
-    test_yea _ _ _ _ _ (rw kind at c.takes.ensures) c.if-takes-eq0.false (test_nay _ _ _ _ _ (rw (kind, c.of_file.ensures) at c.record_rule.ensures) c.if-record_rule-eq0.true)
+    test_yea _ _ _ _ _ (rw kind at c.takes.ensures) c.if-takes-eq0.false (test_not _ _ _ _ _ (sym (rw (kind, c.of_file.ensures) at c.record_rule.ensures) ∙ c.if-not-record_rule.true))
 
 pub editable-requires : goal.editable-requires
 unfolding place_text place_result
@@ -26,7 +26,7 @@ unfolding place_text place_result
 returns-then-editable-eq0 c =
     let kind = c.of_code-kind.ensures in
     test_yea _ _ _ _ _ (rw kind at c.takes.ensures) c.if-takes-eq0.false
-    (test_yea _ _ _ _ _ (rw (kind, c.of_file.ensures) at c.record_rule.ensures) c.if-record_rule-eq0.false
+    (test_so _ _ _ _ _ (sym (rw (kind, c.of_file.ensures) at c.record_rule.ensures) ∙ c.if-not-record_rule.false)
     (test_nay _ _ _ _ _ c.editable.ensures c.if-editable-eq0.true))
 
 pub overflow_sub-size : goal.overflow_sub-size
@@ -35,13 +35,13 @@ overflow_sub-size c = omega (arith, c.size.ensures, head_least c.of_code-kind.re
 
 pub replace_at-requires : goal.replace_at-requires
 unfolding place_text place_result
-replace_at-requires c = let s = c.requires in (s.0, s.1, (record_short _ _ _ (was_yea _ _ c.if-record_rule-eq0.false c.record_rule.ensures)).1)
+replace_at-requires c = let s = c.requires in (s.0, s.1, (record_short _ _ _ (sym c.record_rule.ensures ∙ c.if-not-record_rule.false)).1)
 
 pub returns : goal.returns
 unfolding place_text place_result
 returns c =
     let kind = c.of_code-kind.ensures in
     test_yea _ _ _ _ _ (rw kind at c.takes.ensures) c.if-takes-eq0.false
-    (test_yea _ _ _ _ _ (rw (kind, c.of_file.ensures) at c.record_rule.ensures) c.if-record_rule-eq0.false
+    (test_so _ _ _ _ _ (sym (rw (kind, c.of_file.ensures) at c.record_rule.ensures) ∙ c.if-not-record_rule.false)
     (test_yea _ _ _ _ _ c.editable.ensures c.if-editable-eq0.false
     (rw (c.size.ensures, kind) at c.replace_at.ensures)))

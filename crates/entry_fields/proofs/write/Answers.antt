@@ -1,12 +1,9 @@
 -- `write` meets its contract. Assumes nothing.
-use Rattle.entry_fields.proofs.Answering.{write_as}
+use Rattle.entry_fields.proofs.Answering.{write_some, write_none}
 use Rattle.entry_fields.proofs.write.Goals as goal
 
-pub returns-in-Done : goal.returns-in-Done
-returns-in-Done c = write_as _ _ _ c.record_of.ensures c.write.ensures c.in-Done.is
+pub returns-in-Some : goal.returns-in-Some
+returns-in-Some c = write_some _ _ _ c.record_of.ensures _ c.in-Some.is c.write_record.ensures
 
-pub returns-in-BadFields : goal.returns-in-BadFields
-returns-in-BadFields c = write_as _ _ _ c.record_of.ensures c.write.ensures c.in-BadFields.is
-
-pub returns-in-TooShort : goal.returns-in-TooShort
-returns-in-TooShort c = write_as _ _ _ c.record_of.ensures c.write.ensures c.in-TooShort.is
+pub returns-in-None : goal.returns-in-None
+returns-in-None c = write_none _ _ _ c.record_of.ensures c.in-None.is

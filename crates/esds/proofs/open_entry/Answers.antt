@@ -3,9 +3,9 @@ use native.Mathlib.Omega.{arith}
 use Rattle.esds.proofs.Reading.{head_most, other_kind, this_kind}
 use Rattle.esds.proofs.open_entry.Goals as goal
 
-pub returns-then-has_esds-eq0 : goal.returns-then-has_esds-eq0
-returns-then-has_esds-eq0 c =
-    other_kind _ _ c.word32.ensures.0 c.of_code-kind.ensures c.has_esds.ensures c.if-has_esds-eq0.true
+pub returns-then-not-has_esds : goal.returns-then-not-has_esds
+returns-then-not-has_esds c =
+    other_kind _ _ c.word32.ensures.0 c.of_code-kind.ensures c.has_esds.ensures c.if-not-has_esds.true
 
 pub overflow_add-before : goal.overflow_add-before
 overflow_add-before c = omega (arith, head_most _ c.size-before.ensures)
@@ -18,5 +18,5 @@ open_tree-requires c = omega (arith, head_most _ c.size-before.ensures, c.requir
 
 pub returns : goal.returns
 returns c =
-    this_kind _ _ c.word32.ensures.0 c.of_code-kind.ensures c.has_esds.ensures c.if-has_esds-eq0.false c.size-before.ensures
+    this_kind _ _ c.word32.ensures.0 c.of_code-kind.ensures c.has_esds.ensures c.if-not-has_esds.false c.size-before.ensures
     c.rest.ensures c.open_tree.ensures

@@ -12,16 +12,16 @@ entry_meets-requires c = let s = ran _ _ _ _ _ c.step.ensures c.in-Found.is in (
 pub overflow_add-result : goal.overflow_add-result
 overflow_add-result c = let s = ran _ _ _ _ _ c.step.ensures c.in-Found.is in omega arith
 
-pub returns-then-entry_meets-eq0 : goal.returns-then-entry_meets-eq0
-returns-then-entry_meets-eq0 c = entries_bad _ _ c.loop-b.invariant (λ i. (c.type_inv.list i).fits) (ran _ _ _ _ _ c.step.ensures c.in-Found.is)
-    c.entry_meets.ensures c.if-entry_meets-eq0.true
+pub returns-then-not-entry_meets : goal.returns-then-not-entry_meets
+returns-then-not-entry_meets c = entries_bad _ _ c.loop-b.invariant (λ i. (c.type_inv.list i).fits) (ran _ _ _ _ _ c.step.ensures c.in-Found.is)
+    c.entry_meets.ensures c.if-not-entry_meets.true
 
 pub loop-b-smaller : goal.loop-b-smaller
 loop-b-smaller c = let s = ran _ _ _ _ _ c.step.ensures c.in-Found.is in omega arith
 
 pub loop-b-preserved : goal.loop-b-preserved
 loop-b-preserved c = entries_more _ _ c.loop-b.invariant (λ i. (c.type_inv.list i).fits) (ran _ _ _ _ _ c.step.ensures c.in-Found.is)
-    c.entry_meets.ensures c.if-entry_meets-eq0.false
+    c.entry_meets.ensures c.if-not-entry_meets.false
 
 pub returns-in-End : goal.returns-in-End
 returns-in-End c = entries_over _ _ c.loop-b.invariant (ended _ _ _ c.step.ensures c.in-End.is).0

@@ -7,16 +7,16 @@ use Rattle.descriptors.proofs.Firsts.{first_ends, first_held_lem, not_there}
 use Rattle.descriptors.proofs.first.held.Goals as goal
 
 pub slice_bounds-held-count : goal.slice_bounds-held-count
-slice_bounds-held-count c = let s = first_ends 0 _ c.read.ensures c.in-Found.is in omega (arith, s.inside, s.last)
+slice_bounds-held-count c = let s = first_ends 0 _ c.read.ensures c.in-Some.is in omega (arith, s.inside, s.last)
 
 pub slice_bounds-held-start : goal.slice_bounds-held-start
-slice_bounds-held-start c = let s = first_ends 0 _ c.read.ensures c.in-Found.is in omega (arith, s.inside, s.last)
+slice_bounds-held-start c = let s = first_ends 0 _ c.read.ensures c.in-Some.is in omega (arith, s.inside, s.last)
 
 pub slice_bounds-held-end : goal.slice_bounds-held-end
-slice_bounds-held-end c = let s = first_ends 0 _ c.read.ensures c.in-Found.is in omega (arith, s.inside, s.last)
+slice_bounds-held-end c = let s = first_ends 0 _ c.read.ensures c.in-Some.is in omega (arith, s.inside, s.last)
 
-pub returns-in-Found : goal.returns-in-Found
-returns-in-Found c = first_held_lem _ _ c.read.ensures c.in-Found.is c.part_in.ensures c.held.ensures.0
+pub returns-in-Some : goal.returns-in-Some
+returns-in-Some c = first_held_lem _ _ c.read.ensures c.in-Some.is c.part_in.ensures c.held.ensures.0
 
-pub returns-in-Loose : goal.returns-in-Loose
-returns-in-Loose c = tree_end _ _ refl ∙ sym (not_there _ _ c.read.ensures c.in-Loose.is first_held refl)
+pub returns-in-None : goal.returns-in-None
+returns-in-None c = tree_end _ _ refl ∙ sym (not_there _ _ c.read.ensures c.in-None.is first_held refl)

@@ -1,42 +1,16 @@
 -- `numbers::put_h263` meets its contract. Assumes nothing.
-use Rattle.rule.proofs.Results.{exact_short}
-use Rattle.entry_fields.proofs.Answering.{put_fits}
-use lib.ListN.{length-set}
 use native.Mathlib.Omega.{arith}
+use mathlib.Core.Path.{◌∙◌}
+use Rattle.rule.proofs.Results.{exact_short}
+use Rattle.entry_records.specs.declared.field.Record.TheVariants.{Picture}
+use Rattle.entry_records.specs.Records.{fields_of}
+use Rattle.entry_fields.proofs.Answering.{rates_length, rates_last, front_fits}
 use Rattle.entry_fields.proofs.numbers.put_h263.Goals as goal
 
 pub returns-then-out-lt11 : goal.returns-then-out-lt11
-returns-then-out-lt11 c = exact_short _ _ (omega arith)
-
-pub bounds-out-1 : goal.bounds-out-1
-bounds-out-1 c = simp length-set (omega arith)
-
-pub bounds-out-2 : goal.bounds-out-2
-bounds-out-2 c = simp length-set (omega arith)
-
-pub bounds-out-3 : goal.bounds-out-3
-bounds-out-3 c = simp length-set (omega arith)
-
-pub bounds-out-4 : goal.bounds-out-4
-bounds-out-4 c = simp length-set (omega arith)
-
-pub bounds-out-5 : goal.bounds-out-5
-bounds-out-5 c = simp length-set (omega arith)
-
-pub bounds-out-6 : goal.bounds-out-6
-bounds-out-6 c = simp length-set (omega arith)
-
-pub bounds-out-7 : goal.bounds-out-7
-bounds-out-7 c = simp length-set (omega arith)
-
-pub bounds-out-8 : goal.bounds-out-8
-bounds-out-8 c = simp length-set (omega arith)
-
-pub bounds-out-9 : goal.bounds-out-9
-bounds-out-9 c = simp length-set (omega arith)
-
-pub bounds-out-10 : goal.bounds-out-10
-bounds-out-10 c = simp length-set (omega arith)
+returns-then-out-lt11 c = exact_short _ _ (omega (arith, rates_length c.args.f.rates))
 
 pub returns : goal.returns
-returns c = put_fits _ _ (omega arith)
+returns c =
+    let n = rates_length c.args.f.rates in
+    front_fits (fields_of (Picture c.args.f)) c.args.out.now (omega arith) (omega arith) (c.copy_from_slice.ensures.after ∙ rates_last _ _ _ _ _ _ _ _ c.args.f.rates c.rate_numbers-rates.ensures)
