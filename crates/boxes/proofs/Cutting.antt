@@ -1,4 +1,5 @@
 -- The box that a search found. Assumes nothing.
+use Rattle.std.specs.Prelude.{Option, Some, None}
 use Prim.Native.Nat.{◌<◌, ℕ, ◌≤◌}
 use native.Mathlib.Omega.{arith}
 use mathlib.Core.Path.{◌≡◌, sym, ap, ◌∙◌, subst}
@@ -7,8 +8,6 @@ use lib.ListN.{length, length-append}
 use lib.Seq.{length-take-le}
 use Rattle.wire.specs.Numbers.{Bytes}
 use Rattle.boxes.specs.declared.walk.BoxAt.{BoxAt}
-use Rattle.boxes.specs.declared.seek.Seen.{Seen}
-use Rattle.boxes.specs.declared.seek.Seen.TheVariants.{At, Missing}
 use Rattle.boxes.specs.Box.{Box, size, header, write}
 use Rattle.boxes.specs.Boxes.{boxes, after}
 use Rattle.boxes.specs.Walk.{payload, box_at}
@@ -20,11 +19,11 @@ use Rattle.boxes.proofs.Lying.{Lies, lies_front}
 use Rattle.boxes.proofs.Seeking.{payload_length}
 
 -- what a search answered
-module _ (xs : List ℕ) (c n : ℕ) (r : Seen) (s : SeenAs xs c n r) where
-  pub cut_as : (b : BoxAt) → r ≡ At b → Cut xs c n b
+module _ (xs : List ℕ) (c n : ℕ) (r : Option BoxAt) (s : SeenAs xs c n r) where
+  pub cut_as : (b : BoxAt) → r ≡ Some b → Cut xs c n b
   cut_as b e = subst (SeenAs xs c n) e s
 
-  pub none_as : r ≡ Missing → count c (boxes xs) ≤ n
+  pub none_as : r ≡ None → count c (boxes xs) ≤ n
   none_as e = subst (SeenAs xs c n) e s
 
 pub cut_payload : (xs : List ℕ) (c n : ℕ) (b : BoxAt) → Cut xs c n b → payload xs b ≡ nth c n (boxes xs)

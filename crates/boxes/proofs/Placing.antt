@@ -10,12 +10,10 @@ use Rattle.wire.proofs.Clauses.{eq_is}
 use Rattle.wire.specs.Tests.{pick}
 use Rattle.wire.specs.Numbers.{Bytes}
 use Rattle.boxes.specs.declared.walk.BoxAt.{BoxAt}
-use Rattle.boxes.specs.declared.seek.Tiling.{Tiling}
-use Rattle.boxes.specs.declared.seek.Tiling.TheVariants.{Whole, Torn}
 use Rattle.boxes.specs.Box.{Box, head, write}
 use Rattle.boxes.specs.Boxes.{boxes, total, after, tiles}
 use Rattle.boxes.specs.Walk.{box_at}
-use Rattle.boxes.specs.Seek.{tiling_of, count, nth, place_by, place_in, start_in, Cut}
+use Rattle.boxes.specs.Seek.{tiling_of, count, nth, place_by, place_in, start_in, Cut, Tiling, Whole, Torn}
 use Rattle.boxes.proofs.Reading.{lengths, length_cons}
 use Rattle.boxes.proofs.Meaning.{nth_hit, nth_next, nth_miss, place_hit, place_next, place_miss}
 use Rattle.boxes.proofs.Numbered.{by_number, place_is, place_past}

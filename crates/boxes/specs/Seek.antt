@@ -1,19 +1,24 @@
 -- Counting and finding boxes by their code.
-use Rattle.std.specs.Prelude.{ℕ, zero, suc, ◌+◌, ◌-◌, ◌≤◌, ◌≡◌, Bool, true, false, List, [], ◌∷◌, ◌++◌, length, take, drop}
+use Rattle.std.specs.Prelude.{ℕ, zero, suc, ◌+◌, ◌-◌, ◌≤◌, ◌≡◌, Bool, true, false, List, [], ◌∷◌, ◌++◌, length, take, drop, Option, Some, None, Result, Ok, Err}
 use Rattle.wire.specs.Tests.{pick, if_eq}
 use Rattle.wire.specs.Clauses.{every}
 use Rattle.boxes.specs.declared.walk.BoxAt.{BoxAt}
 use Rattle.boxes.specs.declared.walk.Form.{Form}
 use Rattle.boxes.specs.declared.walk.Form.TheVariants.{Plain}
-use Rattle.boxes.specs.declared.seek.Tiling.{Tiling}
-use Rattle.boxes.specs.declared.seek.Tiling.TheVariants.{Whole, Torn}
-use Rattle.boxes.specs.declared.seek.Seen.{Seen}
-use Rattle.boxes.specs.declared.seek.Seen.TheVariants.{At, Missing}
 use Rattle.boxes.specs.Box.{Box, is_plain, head_of, head, size, write}
 use Rattle.boxes.specs.Boxes.{boxes, after, tiles}
 use Rattle.boxes.specs.Walk.{box_at}
 
 -- boxes tile the part, or the tiling is torn where the bytes past the last box start
+abbrev pub Tiling : Type 0
+Tiling = Result (Unit {0}) ℕ
+
+abbrev pub Whole : Tiling
+Whole = Ok tt
+
+abbrev pub Torn : ℕ → Tiling
+Torn p = Err p
+
 unfoldable pub tiling_of : List ℕ → Tiling
 tiling_of xs = pick (tiles xs) Whole (Torn (length xs - length (after xs)))
 
@@ -73,9 +78,9 @@ pub record Cut (xs : List ℕ) (c n : ℕ) (b : BoxAt) : Type 0 where
   pub least : b.head ≤ b.span
   pub inside : b.at + b.span ≤ length xs
 
-abbrev pub SeenAs : List ℕ → ℕ → ℕ → Seen → Type 0
-SeenAs xs c n (At b) = Cut xs c n b
-SeenAs xs c n Missing = count c (boxes xs) ≤ n
+abbrev pub SeenAs : List ℕ → ℕ → ℕ → Option BoxAt → Type 0
+SeenAs xs c n (Some b) = Cut xs c n b
+SeenAs xs c n None = count c (boxes xs) ≤ n
 
 -- the boxes before place at are p, and c means `seen` of them
 pub record Passed (xs : List ℕ) (c seen at : ℕ) : Type 0 where

@@ -11,20 +11,8 @@ use crate::walk::{BoxAt, Step, Walk};
 // Any box is meant by this number.
 pub const ANY: usize = 0;
 
-#[derive(Clone, Copy)]
-pub enum Tiling {
-    Whole,
-    Torn(usize),
-}
-
-#[derive(Clone, Copy)]
-pub enum Seen {
-    At(BoxAt),
-    Missing,
-}
-
-// How a part ends: with its last box, or with bytes that are no box.
-pub fn ends(part: &[u8]) -> Tiling
+// How a part ends: with its last box, or torn at the place of bytes that are no box.
+pub fn ends(part: &[u8]) -> Result<(), usize>
     ensures { result ≡ tiling_of part.now }
 {
     let mut w = Walk { at: 0 };
@@ -34,10 +22,10 @@ pub fn ends(part: &[u8]) -> Tiling
                 w = next;
             }
             Step::End => {
-                return Tiling::Whole;
+                return Ok(());
             }
             Step::Broken(p) => {
-                return Tiling::Torn(p);
+                return Err(p);
             }
         }
     }
@@ -48,8 +36,8 @@ pub fn tiles(part: &[u8]) -> usize
     ensures { result ≡ one_if (tiles_of part.now) }
 {
     match ends(part) {
-        Tiling::Whole => 1,
-        Tiling::Torn(_) => 0,
+        Ok(()) => 1,
+        Err(_) => 0,
     }
 }
 
@@ -110,7 +98,7 @@ pub fn tally(part: &[u8], c: usize) -> usize
 }
 
 // The n-th box that has a code, from 0.
-pub fn nth(part: &[u8], c: usize, n: usize) -> Seen
+pub fn nth(part: &[u8], c: usize, n: usize) -> Option<BoxAt>
     ensures { SeenAs part.now c n result }
 {
     let mut w = Walk { at: 0 };
@@ -120,16 +108,16 @@ pub fn nth(part: &[u8], c: usize, n: usize) -> Seen
             Step::Found(b, next) => {
                 let m = seen + meant(c, b.code);
                 if n < m {
-                    return Seen::At(b);
+                    return Some(b);
                 }
                 seen = m;
                 w = next;
             }
             Step::End => {
-                return Seen::Missing;
+                return None;
             }
             Step::Broken(_) => {
-                return Seen::Missing;
+                return None;
             }
         }
     }
@@ -140,8 +128,8 @@ fn past(part: &[u8]) -> usize
     ensures { result ≡ total (boxes part.now) }
 {
     match ends(part) {
-        Tiling::Whole => part.len(),
-        Tiling::Torn(p) => p,
+        Ok(()) => part.len(),
+        Err(p) => p,
     }
 }
 
@@ -150,8 +138,8 @@ pub fn place(part: &[u8], c: usize, n: usize) -> usize
     ensures { (result ≡ place_in c n (boxes part.now)) × (result ≤ length part.now) }
 {
     match nth(part, c, n) {
-        Seen::At(b) => b.at,
-        Seen::Missing => past(part),
+        Some(b) => b.at,
+        None => past(part),
     }
 }
 
@@ -160,8 +148,8 @@ pub fn start(part: &[u8], c: usize, n: usize) -> usize
     ensures { (result ≡ start_in c n (boxes part.now)) × (result ≤ length part.now) }
 {
     match nth(part, c, n) {
-        Seen::At(b) => b.at + b.head,
-        Seen::Missing => past(part),
+        Some(b) => b.at + b.head,
+        None => past(part),
     }
 }
 
@@ -170,7 +158,7 @@ pub fn payload(part: &[u8], c: usize, n: usize) -> &[u8]
     ensures { result.now ≡ nth_in c n (boxes part.now) }
 {
     match nth(part, c, n) {
-        Seen::At(b) => walk::body(part, b),
-        Seen::Missing => &part[0..0],
+        Some(b) => walk::body(part, b),
+        None => &part[0..0],
     }
 }

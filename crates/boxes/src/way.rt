@@ -5,7 +5,6 @@ ghost use Rattle.boxes.specs.Box.{head_of, field_of, more_of};
 ghost use Rattle.boxes.specs.Walk.{payload};
 ghost use Rattle.boxes.specs.Way.{Under, BoxInside, turns, box_by, around, tail_by, over_nth, edit_way};
 
-use crate::seek::Seen;
 use crate::walk::{BoxAt, Form};
 use crate::{seek, walk};
 use wire::{number, pen};
@@ -136,8 +135,8 @@ fn put_turn(
     ensures { Put (over_nth t.code t.nth (edit_way (turns (drop i way.now)) (tail_by keep new.now)) src.now) out.old at result out.new }
 {
     match seek::nth(src, t.code, t.nth) {
-        Seen::At(b) => put_around(out, at, src, b, way, i, keep, new),
-        Seen::Missing => pen::put_part(out, at, src),
+        Some(b) => put_around(out, at, src, b, way, i, keep, new),
+        None => pen::put_part(out, at, src),
     }
 }
 

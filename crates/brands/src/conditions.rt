@@ -11,7 +11,6 @@ ghost use Rattle.brands.specs.Brands.{few as few_of, early as early_of, second a
 ghost use Rattle.brands.specs.Own.{OwnAt};
 
 use boxes::seek;
-use boxes::seek::Seen;
 use layout::entries::Lists;
 use layout::every::Tracks;
 use layout::{entries, every, gather};
@@ -165,8 +164,8 @@ fn second(file: &[u8]) -> usize
     ensures { result ≡ second_of (boxes file.now) }
 {
     match seek::nth(file, seek::ANY, 1) {
-        Seen::At(b) => b.code,
-        Seen::Missing => 0,
+        Some(b) => b.code,
+        None => 0,
     }
 }
 

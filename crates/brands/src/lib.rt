@@ -15,7 +15,6 @@ ghost use Rattle.brands.specs.Own.{OwnAt};
 ghost use Rattle.brands.specs.Calls.{brand_answer};
 
 use conditions::Own;
-use judge::Judgement;
 use layout::entries;
 use layout::every::Tracks;
 use release::compatible;
@@ -82,10 +81,6 @@ fn brand_of(file: &[u8], e: Tracks, code: usize) -> usize
 pub fn brand(file: &[u8], code: usize) -> Answer
     ensures { result ≡ brand_answer file.now code }
 {
-    let j = judge::judge_tracks(file);
-    let answer = j.answer;
-    match answer {
-        Judgement::Accepted => Answer::Done(brand_of(file, j.tracks, code)),
-        Judgement::Refused(n, p) => Answer::Refused(n, p),
-    }
+    let tracks = judge::judge_tracks(file)?;
+    Ok(brand_of(file, tracks, code))
 }

@@ -4,7 +4,7 @@ use Rattle.wire.specs.Tests.{if_eq}
 use Rattle.codes.specs.Codes.{MOOV}
 use Rattle.boxes.specs.Box.{Box, write}
 use Rattle.boxes.specs.Boxes.{boxes}
-use Rattle.rule.specs.Results.{Result}
+use Rattle.rule.specs.Results.{ToWrite}
 use Rattle.judge.specs.Calls.{result_on}
 use Rattle.judge.specs.Acceptance.{editable}
 use Rattle.edit_offsets.specs.Close.{closed}
@@ -28,5 +28,5 @@ unfoldable pub move_of : List ℕ → List ℕ
 move_of xs = settled xs (write (moov_second (boxes (closed xs))))
 
 -- "move 23, 25"
-unfoldable pub move_result : List ℕ → Result
+unfoldable pub move_result : List ℕ → ToWrite
 move_result xs = result_on xs ((23, editable xs) ∷ []) (move_of xs)

@@ -8,17 +8,15 @@ ghost use Rattle.boxes.specs.Boxes.{boxes};
 ghost use Rattle.boxes.specs.Seek.{ANY, place_in, Cut};
 ghost use Rattle.boxes.specs.Containers.{LONGEST};
 ghost use Rattle.rule.specs.Results.{asked, Exact};
-ghost use Rattle.rule.specs.Results.Result.{gives};
+ghost use Rattle.rule.specs.Results.ToWrite.{gives};
 ghost use Rattle.judge.specs.Acceptance.{Meets, editable};
 ghost use Rattle.edit_move.specs.Moving.{move_of, move_result};
 ghost use Rattle.edit_move.specs.Arrange.{arranged};
 
 use boxes::seek;
-use boxes::seek::Seen;
 use boxes::walk::BoxAt;
 use boxes::words::By;
-use judge::Judgement;
-use rule::Answer;
+use rule::{Answer, refusals};
 use wire::pen;
 
 // Writes a file with its box b at place f.
@@ -69,8 +67,8 @@ fn write_moved(out: &mut [u8], file: &[u8]) -> usize
 {
     let second = seek::place(file, seek::ANY, 1);
     match seek::nth(file, codes::MOOV, 0) {
-        Seen::At(b) => shift(out, file, second, b),
-        Seen::Missing => 0,
+        Some(b) => shift(out, file, second, b),
+        None => 0,
     }
 }
 
@@ -80,20 +78,18 @@ fn move_accepted(file: &[u8], out: &mut [u8]) -> Answer
     ensures { Exact (asked ((23, editable file.now) ∷ []) (gives (move_of file.now))) out.old result out.new }
 {
     if judge::editable(file) == 0 {
-        return Answer::Refused(23, 0);
+        return Err(refusals::NOT_EDITABLE);
     }
     if out.len() < file.len() {
-        return Answer::Refused(25, 0);
+        return Err(refusals::NO_ROOM);
     }
-    Answer::Done(write_moved(out, file))
+    Ok(write_moved(out, file))
 }
 
 // Writes the file with `moov` right after `ftyp`, other top-level boxes in their order, and answers its length.
 pub fn move_moov(file: &[u8], out: &mut [u8]) -> Answer
     ensures { Exact (move_result file.now) out.old result out.new }
 {
-    match judge::judge(file) {
-        Judgement::Accepted => move_accepted(file, out),
-        Judgement::Refused(n, p) => Answer::Refused(n, p),
-    }
+    judge::judge(file)?;
+    move_accepted(file, out)
 }

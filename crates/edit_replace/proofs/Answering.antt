@@ -6,12 +6,12 @@ use mathlib.Core.List.{List, [], ◌∷◌}
 use lib.ListN.{length}
 use Rattle.wire.specs.Writing.{Wrote}
 use Rattle.boxes.specs.Containers.{LONGEST}
-use Rattle.rule.specs.declared.Answer.TheVariants.{Done, Refused}
 use Rattle.rule.specs.Results.{asked, in_limit, Exact}
-use Rattle.rule.specs.Results.Result.{gives}
+use Rattle.rule.specs.Results.ToWrite.{gives}
 use Rattle.rule.proofs.Results.{exact_short, exact_wrote, over_limit, in_limit_lem}
 use Rattle.edit_offsets.specs.Settle.{settled}
 use Rattle.edit_offsets.proofs.Settled.{settled_length}
+use Rattle.rule.specs.Answers.{Done, Refused}
 
 -- settling changes no length
 module _ (xs zs out : List ℕ) {span : ℕ} (e : span ≡ length zs) where

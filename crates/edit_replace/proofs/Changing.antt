@@ -15,10 +15,10 @@ use Rattle.boxes.specs.Way.{edit_way, tail_by}
 use Rattle.boxes.specs.Kin.{Kin}
 use Rattle.boxes.specs.Boxes.{FRONT}
 use Rattle.boxes.proofs.Down.{Down, last, into, Once, end_of, way_bytes, kin_way}
-use Rattle.movie.specs.declared.entry.Spot.TheVariants.{In}
 use Rattle.movie.specs.Ways.{to_stsd, follow}
 use Rattle.movie.specs.Movie.{track, sample_table}
 use Rattle.edit_replace.specs.Replace.{turn, way_to, record_at}
+use Rattle.movie.specs.Named.{In}
 
 -- ---- the way
 

@@ -1,4 +1,5 @@
 -- The place of an entry: what is written there, and the kind of what stands there. Assumes nothing.
+use Rattle.std.specs.Prelude.{Option, None}
 use Prim.Native.Nat.{ℕ, ◌-◌}
 use mathlib.Core.Path.{◌≡◌, refl, sym, ap, subst, ◌∙◌}
 use mathlib.Core.List.{List, ◌++◌}
@@ -19,31 +20,27 @@ use Rattle.boxes.proofs.Every.{all_here}
 use Rattle.boxes.proofs.Turning.{nth_at}
 use Rattle.boxes.proofs.Cutting.{cut_payload}
 use Rattle.movie.specs.declared.entry.Spot.{Spot}
-use Rattle.movie.specs.declared.entry.Spot.TheVariants.{In, Past}
 use Rattle.movie.specs.Movie.{track}
 use Rattle.movie.specs.Stsds.{stsds_from, stsds}
 use Rattle.movie.specs.Entries.{entries}
-use Rattle.movie.specs.Named.{list_in, spot_in, bytes_at}
+use Rattle.movie.specs.Named.{list_in, spot_in, bytes_at, In}
 use Rattle.movie.proofs.Asking.{spot_past, named_none}
 use Rattle.movie.proofs.Naming.{bytes_list, cut_is}
 use Rattle.movie.proofs.Spots.{bytes_at_lem}
 use Rattle.entry_heads.specs.Kinds.{kind_of}
 use Rattle.entry_heads.specs.Heads.{head_size}
-use Rattle.rule.specs.declared.Answer.{Answer}
-use Rattle.rule.specs.declared.Answer.TheVariants.{Refused}
 use Rattle.rule.specs.Results.{Exact}
 use Rattle.rule.proofs.Results.{test_nay}
 use Rattle.judge.specs.Acceptance.{Meets}
 use Rattle.edit_offsets.specs.Close.{shut_at, closed}
 use Rattle.edit_offsets.specs.Settle.{settled}
 use Rattle.edit_replace.specs.declared.place.Place.{Place}
-use Rattle.edit_replace.specs.declared.place.Placing.{Placing}
-use Rattle.edit_replace.specs.declared.place.Placing.TheVariants.{Nowhere}
 use Rattle.edit_replace.specs.Replace.{kind_at, record_code, takes, record_at, record_replaced, replace_of}
 use Rattle.edit_replace.specs.Places.{Found, FoundAs, Within, way_in, record_there, place_text, place_result}
 use Rattle.edit_replace.specs.Fitting.{entry_result}
 use Rattle.edit_replace.proofs.Shutting.{payload_is, around_is, cut_shut}
 use Rattle.edit_replace.proofs.Taking.{code_told, kind_none, takes_none}
+use Rattle.rule.specs.Answers.{Answer, Refused}
 
 -- ---- what is written there
 
@@ -94,7 +91,7 @@ module _ (xs : List ℕ) (i : ℕ) (new : List ℕ) {b : BoxAt} (c : Cut xs MOOV
           let n : ℕ = head_size (kind_at xs i) - HEAD in
           let a : record_there xs (shut_at b) p n new ≡ record_at (In f.t p.nth) n new (closed xs) = record_in xs b p (record { t = f.t; moov = c; place = f.place }) n new v m in
           let u : In f.t p.nth ≡ spot_in (stsds xs) (i - 1) = f.spot q ∙ ap (λ (m : List ℕ). spot_in (stsds_from 0 (boxes m) q) (i - 1)) moov_is in
-          ap (settled xs) a ∙ ap (λ (s : Spot). settled xs (record_at s n new (closed xs))) u
+          ap (settled xs) a ∙ ap (λ (s : Option Spot). settled xs (record_at s n new (closed xs))) u
 
       pub place_exact : {out left : List ℕ} {r : Answer} → Exact (place_result xs b p (kind_of p.entry.code) new) out r left → Exact (entry_result xs i new) out r left
       unfolding place_result entry_result
@@ -110,6 +107,6 @@ module _ (xs : List ℕ) (i : ℕ) (new : List ℕ) {b : BoxAt} (c : Cut xs MOOV
   unfolding entry_result
   none_exact e out = test_nay 20 _ _ _ out (none_takes e) refl
 
-  pub nowhere_exact : (r : Placing) → FoundAs (payload xs b) (i - 1) r → r ≡ Nowhere → (out : List ℕ) → Exact (entry_result xs i new) out (Refused 20 0) out
+  pub nowhere_exact : (r : Option Place) → FoundAs (payload xs b) (i - 1) r → r ≡ None → (out : List ℕ) → Exact (entry_result xs i new) out (Refused 20 0) out
   unfolding FoundAs
-  nowhere_exact r s e out = let g = subst (FoundAs (payload xs b) (i - 1)) e s in none_exact (kind_none xs i (named_none xs (i - 1) _ (spot_past xs moov_is (i - 1) Past g refl) refl)) out
+  nowhere_exact r s e out = let g = subst (FoundAs (payload xs b) (i - 1)) e s in none_exact (kind_none xs i (named_none xs (i - 1) _ (spot_past xs moov_is (i - 1) None g refl) refl)) out

@@ -19,7 +19,6 @@ use Rattle.boxes.proofs.OneOfList.{nth_by_lem}
 use Rattle.boxes.proofs.OneOfPart.{boxes_nth, after_nth}
 use Rattle.boxes.proofs.Down.{Once}
 use Rattle.boxes.proofs.InMoov.{OneMoov}
-use Rattle.movie.specs.declared.entry.Spot.TheVariants.{In}
 use Rattle.judge.specs.Acceptance.{Meets}
 use Rattle.edit_offsets.specs.Close.{shut_at, closed}
 use Rattle.edit_offsets.specs.Settle.{offsets, settled}
@@ -30,6 +29,7 @@ use Rattle.edit_replace.specs.Fitting.{grown, grown_box}
 use Rattle.edit_replace.proofs.Shutting.{boxes_shut}
 use Rattle.edit_replace.proofs.Standing.{made, moov_moves, moov_alike, moov_stands, moov_inside}
 use Rattle.edit_replace.proofs.Changing.{to_entry, record_bytes, record_kin}
+use Rattle.movie.specs.Named.{In}
 
 module _ (t n keep : ℕ) (new xs : List ℕ) (w : Bytes new) (v : Bytes xs) (m : Meets xs) (s : length (record_at (In t n) keep new (closed xs)) < 4294967296)
     {b : BoxAt} (c : Cut xs MOOV 0 b) where

@@ -15,7 +15,6 @@ use Rattle.boxes.specs.Containers.{LONGEST}
 use Rattle.boxes.specs.Walk.{payload}
 use Rattle.boxes.specs.Rewrite.{edit_in, in_body}
 use Rattle.boxes.specs.Words.{moved, reword_leaf}
-use Rattle.movie.specs.declared.entry.Spot.TheVariants.{In}
 use Rattle.movie.specs.Entries.{entries}
 use Rattle.entry_heads.specs.Heads.{head_size}
 use Rattle.release.specs.declared.Release.{Release}
@@ -31,6 +30,7 @@ use Rattle.edit_replace.specs.Fitting.{grown, grown_box, Fits}
 use Rattle.edit_replace.proofs.Taking.{kind_none, record_short}
 use Rattle.edit_replace.proofs.Placing.{record_in}
 use Rattle.edit_replace.proofs.Settling.{record_filled, record_settled, only, there_inside, still}
+use Rattle.movie.specs.Named.{In}
 
 -- ---- the writing
 

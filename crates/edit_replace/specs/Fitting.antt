@@ -6,8 +6,8 @@ use Rattle.boxes.specs.Boxes.{boxes}
 use Rattle.boxes.specs.Containers.{LONGEST}
 use Rattle.release.specs.Releases.{release_of}
 use Rattle.entry_rules.specs.Decoders.{record_rule}
-use Rattle.rule.specs.Results.{Result, asked, in_limit}
-use Rattle.rule.specs.Results.Result.{gives}
+use Rattle.rule.specs.Results.{ToWrite, asked, in_limit}
+use Rattle.rule.specs.Results.ToWrite.{gives}
 use Rattle.judge.specs.Acceptance.{Meets, editable}
 use Rattle.edit_offsets.specs.Close.{shut_at}
 use Rattle.edit_replace.specs.declared.place.Place.{Place}
@@ -31,7 +31,7 @@ abbrev pub grown_box : BoxAt → ℕ → ℕ → BoxAt
 grown_box b n m = record { at = b.at; form = b.form; head = b.head; span = b.span + n - m; code = b.code }
 
 -- of an accepted file
-unfoldable pub entry_result : List ℕ → ℕ → List ℕ → Result
+unfoldable pub entry_result : List ℕ → ℕ → List ℕ → ToWrite
 entry_result xs i new =
     asked
     ((20, takes (kind_at xs i) new)

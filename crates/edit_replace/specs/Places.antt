@@ -1,5 +1,5 @@
 -- Where an entry stands, and what is written there.
-use Rattle.std.specs.Prelude.{ℕ, ◌+◌, ◌-◌, ◌≤◌, min, ◌≡◌, List, [], ◌∷◌, ◌++◌, map, length}
+use Rattle.std.specs.Prelude.{ℕ, ◌+◌, ◌-◌, ◌≤◌, min, ◌≡◌, List, [], ◌∷◌, ◌++◌, map, length, Option, Some, None}
 use Rattle.codes.specs.Codes.{MOOV, TRAK}
 use Rattle.boxes.specs.declared.walk.BoxAt.{BoxAt}
 use Rattle.boxes.specs.declared.way.Turn.{Turn}
@@ -7,22 +7,19 @@ use Rattle.boxes.specs.Boxes.{HEAD, FRONT, boxes}
 use Rattle.boxes.specs.Walk.{payload}
 use Rattle.boxes.specs.Seek.{ANY, Cut}
 use Rattle.boxes.specs.Way.{around, edit_way, tail_by}
-use Rattle.movie.specs.declared.entry.Spot.TheVariants.{In}
 use Rattle.movie.specs.Ways.{to_stsd}
 use Rattle.movie.specs.Stsds.{stsds_from}
 use Rattle.movie.specs.Entries.{entries_in}
-use Rattle.movie.specs.Named.{list_in, InTrack, spot_in}
+use Rattle.movie.specs.Named.{list_in, InTrack, spot_in, In}
 use Rattle.entry_heads.specs.Heads.{head_size}
 use Rattle.release.specs.Releases.{release_of}
 use Rattle.entry_rules.specs.Decoders.{record_rule}
-use Rattle.rule.specs.Results.{Result, asked, in_limit}
-use Rattle.rule.specs.Results.Result.{gives}
+use Rattle.rule.specs.Results.{ToWrite, asked, in_limit}
+use Rattle.rule.specs.Results.ToWrite.{gives}
 use Rattle.judge.specs.Acceptance.{editable}
 use Rattle.edit_offsets.specs.Close.{shut_at}
 use Rattle.edit_offsets.specs.Settle.{settled}
 use Rattle.edit_replace.specs.declared.place.Place.{Place}
-use Rattle.edit_replace.specs.declared.place.Placing.{Placing}
-use Rattle.edit_replace.specs.declared.place.Placing.TheVariants.{At, Nowhere}
 use Rattle.edit_replace.specs.Replace.{turn, takes}
 
 -- ---- the place
@@ -33,9 +30,9 @@ pub record PlaceIn (ys : List ℕ) (k : BoxAt) (n : ℕ) (p : Place) : Type 0 wh
   pub nth : p.nth ≡ n
   pub entry : Cut (list_in (payload ys k)) ANY n p.entry
 
-unfoldable pub InTrackAs : List ℕ → BoxAt → ℕ → Placing → Type 0
-InTrackAs ys k n (At p) = PlaceIn ys k n p
-InTrackAs ys k n Nowhere = ⊥
+unfoldable pub InTrackAs : List ℕ → BoxAt → ℕ → Option Place → Type 0
+InTrackAs ys k n (Some p) = PlaceIn ys k n p
+InTrackAs ys k n None = ⊥
 
 -- entry n of track t, both from 0
 pub record PlaceOf (ys : List ℕ) (t n : ℕ) (p : Place) : Type 0 where
@@ -43,9 +40,9 @@ pub record PlaceOf (ys : List ℕ) (t n : ℕ) (p : Place) : Type 0 where
   pub trak : Cut ys TRAK t p.trak
   pub entry : Cut (list_in (payload ys p.trak)) ANY n p.entry
 
-unfoldable pub InMoovAs : List ℕ → ℕ → ℕ → Placing → Type 0
-InMoovAs ys t n (At p) = PlaceOf ys t n p
-InMoovAs ys t n Nowhere = ⊥
+unfoldable pub InMoovAs : List ℕ → ℕ → ℕ → Option Place → Type 0
+InMoovAs ys t n (Some p) = PlaceOf ys t n p
+InMoovAs ys t n None = ⊥
 
 -- entry i, from 0 and in file order, wherever the boxes of `moov` start
 pub record Found (ys : List ℕ) (i : ℕ) (p : Place) : Type 0 where
@@ -54,9 +51,9 @@ pub record Found (ys : List ℕ) (i : ℕ) (p : Place) : Type 0 where
   pub within : InTrack ys i t p.nth
   pub spot : (q : ℕ) → In t p.nth ≡ spot_in (stsds_from 0 (boxes ys) q) i
 
-unfoldable pub FoundAs : List ℕ → ℕ → Placing → Type 0
-FoundAs ys i (At p) = Found ys i p
-FoundAs ys i Nowhere = (q : ℕ) → length (entries_in (stsds_from 0 (boxes ys) q)) ≤ i
+unfoldable pub FoundAs : List ℕ → ℕ → Option Place → Type 0
+FoundAs ys i (Some p) = Found ys i p
+FoundAs ys i None = (q : ℕ) → length (entries_in (stsds_from 0 (boxes ys) q)) ≤ i
 
 -- in the `moov` b of the file xs
 pub record Within (xs : List ℕ) (b : BoxAt) (p : Place) : Type 0 where
@@ -83,7 +80,7 @@ length_in m e keep n = m - (e.span - e.head) + (min keep (e.span - e.head) + n)
 unfoldable pub place_text : List ℕ → BoxAt → Place → ℕ → List ℕ → List ℕ
 place_text xs b p kind new = settled xs (record_there xs (shut_at b) p (head_size kind - HEAD) new)
 
-unfoldable pub place_result : List ℕ → BoxAt → Place → ℕ → List ℕ → Result
+unfoldable pub place_result : List ℕ → BoxAt → Place → ℕ → List ℕ → ToWrite
 place_result xs b p kind new =
     asked
     ((20, takes kind new)

@@ -1,6 +1,6 @@
 -- "Replace decoder record of entry i (from 1, sheet order, samr, sawb, s263 only): its damr or d263 becomes the given one of
 -- the same code. Enclosing sizes follow."
-use Rattle.std.specs.Prelude.{ℕ, ◌-◌, Bool, true, List, [], ◌∷◌, ◌++◌, map, length}
+use Rattle.std.specs.Prelude.{ℕ, ◌-◌, Bool, true, List, [], ◌∷◌, ◌++◌, map, length, Option, None, Some}
 use Rattle.wire.specs.Tests.{if_eq, if_lt}
 use Rattle.wire.specs.Clauses.{is_eq, is_lt, every}
 use Rattle.wire.specs.Numbers.{word}
@@ -10,7 +10,6 @@ use Rattle.boxes.specs.Boxes.{HEAD, FRONT, boxes}
 use Rattle.boxes.specs.Seek.{ANY}
 use Rattle.boxes.specs.Way.{edit_way, tail_by}
 use Rattle.movie.specs.declared.entry.Spot.{Spot}
-use Rattle.movie.specs.declared.entry.Spot.TheVariants.{In, Past}
 use Rattle.movie.specs.Ways.{to_stsd}
 use Rattle.movie.specs.Stsds.{stsds}
 use Rattle.movie.specs.Entries.{entries}
@@ -19,7 +18,7 @@ use Rattle.entry_heads.specs.Kinds.{OtherKind, SamrKind, SawbKind, S263Kind, kin
 use Rattle.entry_heads.specs.Heads.{head_size}
 use Rattle.release.specs.Releases.{release_of}
 use Rattle.entry_rules.specs.Decoders.{record_rule}
-use Rattle.rule.specs.Results.{Result, in_limit}
+use Rattle.rule.specs.Results.{ToWrite, in_limit}
 use Rattle.judge.specs.Calls.{result_on}
 use Rattle.judge.specs.Acceptance.{editable}
 use Rattle.edit_offsets.specs.Close.{closed}
@@ -45,9 +44,9 @@ abbrev pub way_to : ℕ → ℕ → List Turn
 way_to t n = turn MOOV 0 ∷ turn TRAK t ∷ (map (λ c. turn c 0) to_stsd ++ (record { skip = FRONT; code = ANY; nth = n } ∷ []))
 
 -- the record is what stands behind the first `keep` bytes of the entry's payload
-abbrev pub record_at : Spot → ℕ → List ℕ → List ℕ → List ℕ
-record_at (In t n) keep new xs = edit_way (way_to t n) (tail_by keep new) xs
-record_at Past keep new xs = xs
+abbrev pub record_at : Option Spot → ℕ → List ℕ → List ℕ → List ℕ
+record_at (Some s) keep new xs = edit_way (way_to s.track s.nth) (tail_by keep new) xs
+record_at None keep new xs = xs
 
 -- in the file with its `moov` closed, where every entry stands as in the file
 unfoldable pub record_replaced : List ℕ → ℕ → List ℕ → List ℕ
@@ -63,7 +62,7 @@ unfoldable pub takes : ℕ → List ℕ → Bool
 takes kind new = every (is_lt 0 (record_code kind) ∷ if_lt (length new) HEAD true (is_eq (word 4 new 4) (record_code kind)) ∷ [])
 
 -- "replace 20, 21, 23, 24, 25"
-unfoldable pub replace_result : List ℕ → ℕ → List ℕ → Result
+unfoldable pub replace_result : List ℕ → ℕ → List ℕ → ToWrite
 replace_result xs i new =
     result_on xs
     ((20, takes (kind_at xs i) new)

@@ -10,7 +10,7 @@ ghost use Rattle.codes.specs.Codes.{MOOV};
 ghost use Rattle.boxes.specs.Seek.{Cut};
 ghost use Rattle.entry_heads.specs.Kinds.{kind_of};
 ghost use Rattle.rule.specs.Results.{asked, in_limit, Exact};
-ghost use Rattle.rule.specs.Results.Result.{gives};
+ghost use Rattle.rule.specs.Results.ToWrite.{gives};
 ghost use Rattle.judge.specs.Acceptance.{Meets};
 ghost use Rattle.edit_offsets.specs.Close.{shut_at};
 ghost use Rattle.edit_offsets.specs.Settle.{settled};
@@ -18,14 +18,12 @@ ghost use Rattle.edit_replace.specs.Replace.{replace_result};
 ghost use Rattle.edit_replace.specs.Places.{Within, record_there, place_result};
 ghost use Rattle.edit_replace.specs.Fitting.{entry_result};
 
-use boxes::seek::Seen;
 use boxes::walk::BoxAt;
 use boxes::{containers, seek, walk};
 use entry_heads::{head, kind};
 use entry_rules::decoder;
-use judge::Judgement;
-use place::{Place, Placing};
-use rule::Answer;
+use place::Place;
+use rule::{Answer, refusals};
 
 // At a place in the `moov` b of a file that an edit takes: 24, 25, or the result is written.
 fn replace_at(file: &[u8], b: BoxAt, p: Place, keep: usize, new: &[u8], out: &mut [u8]) -> Answer
@@ -34,12 +32,12 @@ fn replace_at(file: &[u8], b: BoxAt, p: Place, keep: usize, new: &[u8], out: &mu
 {
     let span = write::result_length(file, p.entry, keep, new);
     if containers::LONGEST < span {
-        return Answer::Refused(24, 0);
+        return Err(refusals::TOO_LONG);
     }
     if out.len() < span {
-        return Answer::Refused(25, 0);
+        return Err(refusals::NO_ROOM);
     }
-    Answer::Done(write::replaced(out, file, b, p, keep, new))
+    Ok(write::replaced(out, file, b, p, keep, new))
 }
 
 // Of the entry there: 20, 21, 23, and then as it fits.
@@ -49,13 +47,13 @@ fn replace_entry(file: &[u8], b: BoxAt, p: Place, new: &[u8], out: &mut [u8]) ->
 {
     let kind = kind::of_code(p.entry.code);
     if record::takes(kind, new) == 0 {
-        return Answer::Refused(20, 0);
+        return Err(refusals::NO_SUCH);
     }
     if !decoder::record_rule(kind, release::of_file(file), new) {
-        return Answer::Refused(21, 0);
+        return Err(refusals::BAD_RECORD);
     }
     if judge::editable(file) == 0 {
-        return Answer::Refused(23, 0);
+        return Err(refusals::NOT_EDITABLE);
     }
     replace_at(file, b, p, head::size(kind) - walk::HEAD, new, out)
 }
@@ -66,12 +64,12 @@ fn replace_in(file: &[u8], b: BoxAt, i: usize, new: &[u8], out: &mut [u8]) -> An
     ensures { Exact (entry_result file.now i new.now) out.old result out.new }
 {
     if i == 0 {
-        return Answer::Refused(20, 0);
+        return Err(refusals::NO_SUCH);
     }
-    match place::find(walk::body(file, b), i - 1) {
-        Placing::At(p) => replace_entry(file, b, p, new, out),
-        Placing::Nowhere => Answer::Refused(20, 0),
-    }
+    let Some(p) = place::find(walk::body(file, b), i - 1) else {
+        return Err(refusals::NO_SUCH);
+    };
+    replace_entry(file, b, p, new, out)
 }
 
 // In a file that was accepted, which has a `moov`.
@@ -79,18 +77,16 @@ fn replace_accepted(file: &[u8], i: usize, new: &[u8], out: &mut [u8]) -> Answer
     requires { Meets file.now }
     ensures { Exact (entry_result file.now i new.now) out.old result out.new }
 {
-    match seek::nth(file, codes::MOOV, 0) {
-        Seen::At(b) => replace_in(file, b, i, new, out),
-        Seen::Missing => Answer::Refused(20, 0),
-    }
+    let Some(b) = seek::nth(file, codes::MOOV, 0) else {
+        return Err(refusals::NO_SUCH);
+    };
+    replace_in(file, b, i, new, out)
 }
 
 // Writes the file with another decoder record in entry i, from 1 and in file order, and answers its length.
 pub fn replace(file: &[u8], entry: usize, new: &[u8], out: &mut [u8]) -> Answer
     ensures { Exact (replace_result file.now entry new.now) out.old result out.new }
 {
-    match judge::judge(file) {
-        Judgement::Accepted => replace_accepted(file, entry, new, out),
-        Judgement::Refused(n, p) => Answer::Refused(n, p),
-    }
+    judge::judge(file)?;
+    replace_accepted(file, entry, new, out)
 }

@@ -7,11 +7,9 @@ ghost use Rattle.boxes.specs.Seek.{ANY, count, nth as nth_in};
 ghost use Rattle.movie.specs.Named.{list_in};
 ghost use Rattle.edit_replace.specs.Places.{InTrackAs, InMoovAs, FoundAs};
 
-use boxes::seek::Seen;
 use boxes::walk::BoxAt;
 use boxes::{seek, walk};
 use movie::entry;
-use movie::entry::Spot;
 
 // A track's box in `moov`, the box of one of its entries in their list, and the entry's number there, from 0.
 #[derive(Clone, Copy)]
@@ -21,44 +19,32 @@ pub struct Place {
     pub nth: usize,
 }
 
-#[derive(Clone, Copy)]
-pub enum Placing {
-    At(Place),
-    Nowhere,
-}
-
 // Entry n of the track k of a `moov`, which has it.
-fn in_track(moov: &[u8], k: BoxAt, n: usize) -> Placing
+fn in_track(moov: &[u8], k: BoxAt, n: usize) -> Option<Place>
     requires { (k.head ≤ k.span) × (k.at + k.span ≤ length moov.now) × (n < count ANY (boxes (list_in (payload moov.now k)))) }
     ensures { InTrackAs moov.now k n result }
 {
-    match seek::nth(entry::list(walk::body(moov, k)), seek::ANY, n) {
-        Seen::At(e) => Placing::At(Place {
-            trak: k,
-            entry: e,
-            nth: n,
-        }),
-        Seen::Missing => Placing::Nowhere,
-    }
+    let entry = seek::nth(entry::list(walk::body(moov, k)), seek::ANY, n)?;
+    Some(Place {
+        trak: k,
+        entry,
+        nth: n,
+    })
 }
 
 // Entry n of track t of a `moov`, which has them.
-fn in_moov(moov: &[u8], t: usize, n: usize) -> Placing
+fn in_moov(moov: &[u8], t: usize, n: usize) -> Option<Place>
     requires { (t < count TRAK (boxes moov.now)) × (n < count ANY (boxes (list_in (nth_in TRAK t (boxes moov.now))))) }
     ensures { InMoovAs moov.now t n result }
 {
-    match seek::nth(moov, codes::TRAK, t) {
-        Seen::At(k) => in_track(moov, k, n),
-        Seen::Missing => Placing::Nowhere,
-    }
+    let k = seek::nth(moov, codes::TRAK, t)?;
+    in_track(moov, k, n)
 }
 
 // Entry i of a `moov`, from 0 and in file order.
-pub fn find(moov: &[u8], i: usize) -> Placing
+pub fn find(moov: &[u8], i: usize) -> Option<Place>
     ensures { FoundAs moov.now i result }
 {
-    match entry::find_spot(moov, i) {
-        Spot::In(t, n) => in_moov(moov, t, n),
-        Spot::Past => Placing::Nowhere,
-    }
+    let s = entry::find_spot(moov, i)?;
+    in_moov(moov, s.track, s.nth)
 }

@@ -16,15 +16,11 @@ use Rattle.std.specs.declared.option.Option.{Option}
 use Rattle.std.specs.declared.option.Option.TheVariants.{Some, None}
 use Rattle.clocks.specs.Clocks.{zone_fine, zone_of, zoned_of, may_shift}
 use Rattle.clocks.proofs.Signed.{zone_found, zone_missing}
-use Rattle.rule.specs.declared.Answer.{Answer}
-use Rattle.rule.specs.declared.Answer.TheVariants.{Refused}
 use Rattle.rule.specs.Results.{asked, Exact}
-use Rattle.rule.specs.Results.Result.{gives}
+use Rattle.rule.specs.Results.ToWrite.{gives}
 use Rattle.rule.proofs.Results.{test_nay}
 use Rattle.judge.specs.Acceptance.{editable}
-use Rattle.judge.specs.declared.Judgement.{Judgement}
-use Rattle.judge.specs.declared.Judgement.TheVariants.{Accepted}
-use Rattle.judge.specs.Judgement.{judged}
+use Rattle.judge.specs.Judgement.{judged, Judgement, Accepted}
 use Rattle.judge.proofs.Calls.{met, result_accepted}
 use Rattle.edit_offsets.specs.Close.{closed}
 use Rattle.edit_offsets.proofs.ClosedFile.{length_closed}
@@ -32,6 +28,7 @@ use Rattle.edit_shift.specs.Shift.{shift_of, all_times, shiftable, shift_result}
 use Rattle.edit_shift.specs.Amount.{by_zone, zone_text, zone_result}
 use Rattle.edit_shift.proofs.Passing.{all_length}
 use Rattle.edit_shift.proofs.Meaning.{leaves_are, shift_text}
+use Rattle.rule.specs.Answers.{Answer, Refused}
 
 pub text_length : (z : Zone) (xs : List ℕ) → length (zone_text z xs) ≡ length xs
 unfolding zone_text

@@ -12,8 +12,8 @@ use Rattle.boxes.specs.Seek.{count, find, nth}
 use Rattle.boxes.specs.Words.{moved}
 use Rattle.clocks.specs.declared.Zone.{Zone}
 use Rattle.clocks.specs.Zones.{leaves}
-use Rattle.rule.specs.Results.{Result, asked}
-use Rattle.rule.specs.Results.Result.{gives}
+use Rattle.rule.specs.Results.{ToWrite, asked}
+use Rattle.rule.specs.Results.ToWrite.{gives}
 use Rattle.judge.specs.Acceptance.{editable}
 use Rattle.edit_offsets.specs.Close.{closed}
 use Rattle.edit_shift.specs.Shift.{CREATION, both, track_times, all_times, all_times_by}
@@ -43,5 +43,5 @@ unfoldable pub zone_text : Zone → List ℕ → List ℕ
 zone_text z xs = all_times_by (moved (by_zone z)) (closed xs)
 
 -- of an accepted file
-unfoldable pub zone_result : Zone → List ℕ → Result
+unfoldable pub zone_result : Zone → List ℕ → ToWrite
 zone_result z xs = asked ((22, all_times (leaves z) xs) ∷ (23, editable xs) ∷ []) (gives (zone_text z xs))

@@ -13,7 +13,7 @@ use Rattle.boxes.specs.Rewrite.{Leaves, edit_in}
 use Rattle.boxes.specs.Words.{reword}
 use Rattle.clocks.specs.Clocks.{zone_fine, shift_time, may_shift}
 use Rattle.movie.specs.Movie.{movie, tracks, track, mdia}
-use Rattle.rule.specs.Results.{Result}
+use Rattle.rule.specs.Results.{ToWrite}
 use Rattle.judge.specs.Calls.{result_on}
 use Rattle.judge.specs.Acceptance.{editable}
 use Rattle.edit_offsets.specs.Close.{closed}
@@ -65,5 +65,5 @@ unfoldable pub shiftable : ℤ → List ℕ → Bool
 shiftable z xs = every (zone_fine z ∷ all_times (may_shift z) xs ∷ [])
 
 -- "shift 22, 23, 25"
-unfoldable pub shift_result : ℤ → List ℕ → Result
+unfoldable pub shift_result : ℤ → List ℕ → ToWrite
 shift_result z xs = result_on xs ((22, shiftable z xs) ∷ (23, editable xs) ∷ []) (shift_of z xs)

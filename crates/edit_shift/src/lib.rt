@@ -13,13 +13,11 @@ ghost use Rattle.edit_offsets.specs.Close.{closed};
 ghost use Rattle.edit_shift.specs.Shift.{both as both_of, track_times, all_times_by, shift_result};
 ghost use Rattle.edit_shift.specs.Amount.{box_times, tracks_times, moov_times, times_of, headers_of, zone_result};
 
-use boxes::seek::Seen;
 use boxes::walk::{BoxAt, Step, Walk};
 use boxes::words::{By, Target, Targets};
 use boxes::{seek, walk, words};
 use clocks::Zone;
-use judge::Judgement;
-use rule::Answer;
+use rule::{Answer, refusals};
 use wire::{number, pen};
 
 // Whether both times of a header may be shifted: 1 or 0.
@@ -136,13 +134,13 @@ fn shift_by(file: &[u8], b: BoxAt, zone: Zone, out: &mut [u8]) -> Answer
     ensures { Exact (zone_result zone file.now) out.old result out.new }
 {
     if all_times(walk::body(file, b), zone) == 0 {
-        return Answer::Refused(22, 0);
+        return Err(refusals::BAD_TIME);
     }
     if judge::editable(file) == 0 {
-        return Answer::Refused(23, 0);
+        return Err(refusals::NOT_EDITABLE);
     }
     if out.len() < file.len() {
-        return Answer::Refused(25, 0);
+        return Err(refusals::NO_ROOM);
     }
     put_shifted(
         out,
@@ -155,7 +153,7 @@ fn shift_by(file: &[u8], b: BoxAt, zone: Zone, out: &mut [u8]) -> Answer
             less: zone.ahead,
         },
     );
-    Answer::Done(file.len())
+    Ok(file.len())
 }
 
 // The shift of an accepted file, which has a `moov`.
@@ -163,21 +161,19 @@ fn shift_accepted(file: &[u8], zone: Zone, out: &mut [u8]) -> Answer
     requires { (Near zone) × (Meets file.now) }
     ensures { Exact (zone_result zone file.now) out.old result out.new }
 {
-    match seek::nth(file, codes::MOOV, 0) {
-        Seen::At(b) => shift_by(file, b, zone, out),
-        Seen::Missing => Answer::Refused(22, 0),
-    }
+    let Some(b) = seek::nth(file, codes::MOOV, 0) else {
+        return Err(refusals::BAD_TIME);
+    };
+    shift_by(file, b, zone, out)
 }
 
 // The shift of a file by minutes.
 pub fn shift(file: &[u8], minutes: i64, out: &mut [u8]) -> Answer
     ensures { Exact (shift_result minutes file.now) out.old result out.new }
 {
-    match judge::judge(file) {
-        Judgement::Accepted => match clocks::zone_of(minutes) {
-            Some(zone) => shift_accepted(file, zone, out),
-            None => Answer::Refused(22, 0),
-        },
-        Judgement::Refused(n, p) => Answer::Refused(n, p),
+    judge::judge(file)?;
+    match clocks::zone_of(minutes) {
+        Some(zone) => shift_accepted(file, zone, out),
+        None => Err(refusals::BAD_TIME),
     }
 }

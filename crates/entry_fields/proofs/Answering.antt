@@ -17,12 +17,11 @@ use Rattle.entry_records.specs.declared.record.WriteError.TheVariants.{BadFields
 use Rattle.entry_records.specs.Fields.{fields_rule}
 use Rattle.entry_records.specs.Texts.{text_of}
 use Rattle.entry_records.specs.Records.{rate_numbers, fields_of, written_number, written_value, read_of, written_of, out_of}
-use Rattle.rule.specs.declared.Answer.{Answer}
-use Rattle.rule.specs.declared.Answer.TheVariants.{Done, Refused}
 use Rattle.rule.specs.Results.{asked, answer_in, left_in, Exact}
-use Rattle.rule.specs.Results.Result.{gives}
+use Rattle.rule.specs.Results.ToWrite.{gives}
 use Rattle.rule.proofs.Results.{exact_refuses, exact_wrote}
 use Rattle.entry_fields.specs.Numbers.{record_of, read_result, record_result, write_result}
+use Rattle.rule.specs.Answers.{Answer, Done, Refused}
 
 -- ---- numbers into a list
 

@@ -22,11 +22,11 @@ use Rattle.entry_records.specs.Fields.{fields_rule}
 use Rattle.entry_records.specs.Records.{fields_of, read_of}
 use Rattle.entry_records.proofs.Reading.{written_reads}
 use Rattle.entry_records.proofs.Rewriting.{read_writes}
-use Rattle.rule.specs.declared.Answer.TheVariants.{Done}
-use Rattle.rule.specs.Results.{Result, asked, answer_in, left_in}
-use Rattle.rule.specs.Results.Result.{gives}
+use Rattle.rule.specs.Results.{ToWrite, asked, answer_in, left_in}
+use Rattle.rule.specs.Results.ToWrite.{gives}
 use Rattle.rule.proofs.Results.{asked_gave}
 use Rattle.entry_fields.specs.Numbers.{at, h263_of, picture_of, record_of, is_record, fields_in, record_rule_in, text_in, read_result, write_result}
+use Rattle.rule.specs.Answers.{Done}
 
 -- ---- records and their numbers
 
@@ -94,7 +94,7 @@ meeting release (Some r) e = (r, refl, e)
 meeting release None e = absurd (false≢true e)
 
 -- a test that holds says nothing
-holding : (n : ℕ) (t : Bool) (g : Result) → t ≡ true → asked ((n, t) ∷ []) g ≡ g
+holding : (n : ℕ) (t : Bool) (g : ToWrite) → t ≡ true → asked ((n, t) ∷ []) g ≡ g
 unfolding asked
 holding n t g e = rw e
 

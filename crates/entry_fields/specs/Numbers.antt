@@ -13,8 +13,8 @@ use Rattle.entry_records.specs.declared.record.WriteError.TheVariants.{BadFields
 use Rattle.entry_records.specs.Fields.{fields_rule}
 use Rattle.entry_records.specs.Texts.{text_of}
 use Rattle.entry_records.specs.Records.{fields_of, read_number, written_number, read_of}
-use Rattle.rule.specs.Results.{Result, asked}
-use Rattle.rule.specs.Results.Result.{gives}
+use Rattle.rule.specs.Results.{ToWrite, asked}
+use Rattle.rule.specs.Results.ToWrite.{gives}
 
 -- ---- the record of numbers
 
@@ -83,13 +83,13 @@ text_in (Some r) = text_of r
 text_in None = []
 
 -- the fields of an entry of a release: 21, 25
-unfoldable pub read_result : Release → List ℕ → Result
+unfoldable pub read_result : Release → List ℕ → ToWrite
 read_result release xs = asked ((read_number None, is_record (read_of release xs)) ∷ []) (gives (fields_in (read_of release xs)))
 
 -- the entry of a record, of a release: 21, 25
-unfoldable pub record_result : Release → Record → Result
+unfoldable pub record_result : Release → Record → ToWrite
 record_result release r = asked ((written_number (Err BadFields), fields_rule release r) ∷ []) (gives (text_of r))
 
 -- the entry of fields, of a release: 21, 25
-unfoldable pub write_result : Release → List ℕ → Result
+unfoldable pub write_result : Release → List ℕ → ToWrite
 write_result release ns = asked ((written_number (Err BadFields), record_rule_in release (record_of ns)) ∷ []) (gives (text_in (record_of ns)))

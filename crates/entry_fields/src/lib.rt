@@ -8,6 +8,7 @@ use entry_records::field::Record;
 use entry_records::record;
 use entry_records::record::WriteError;
 use release::Release;
+use rule::refusals;
 use rule::Answer;
 
 mod numbers;
@@ -19,7 +20,7 @@ pub fn read(entry: &[u8], release: Release, out: &mut [u64]) -> Answer
     match record::read(entry, release) {
         Some(Record::Speech(f)) => numbers::put_amr(f, out),
         Some(Record::Picture(f)) => numbers::put_h263(f, out),
-        None => Answer::Refused(21, 0),
+        None => Err(refusals::BAD_RECORD),
     }
 }
 
@@ -28,9 +29,9 @@ fn write_record(fields: Record, release: Release, out: &mut [u8]) -> Answer
     ensures { Exact (record_result release fields) out.old result out.new }
 {
     match record::write(fields, release, out) {
-        Ok(n) => Answer::Done(n),
-        Err(WriteError::BadFields) => Answer::Refused(21, 0),
-        Err(WriteError::TooShort) => Answer::Refused(25, 0),
+        Ok(n) => Ok(n),
+        Err(WriteError::BadFields) => Err(refusals::BAD_RECORD),
+        Err(WriteError::TooShort) => Err(refusals::NO_ROOM),
     }
 }
 
@@ -40,6 +41,6 @@ pub fn write(fields: &[u64], release: Release, out: &mut [u8]) -> Answer
 {
     match numbers::record_of(fields) {
         Some(f) => write_record(f, release, out),
-        None => Answer::Refused(21, 0),
+        None => Err(refusals::BAD_RECORD),
     }
 }

@@ -5,11 +5,12 @@ ghost use Rattle.std.specs.Prelude.{◌≤◌, ◌≡◌, length};
 ghost use Rattle.entry_records.specs.declared.field.Record.TheVariants.{Speech, Picture};
 ghost use Rattle.entry_records.specs.Records.{rate_numbers, fields_of};
 ghost use Rattle.rule.specs.Results.{Exact};
-ghost use Rattle.rule.specs.Results.Result.{gives};
+ghost use Rattle.rule.specs.Results.ToWrite.{gives};
 ghost use Rattle.entry_fields.specs.Numbers.{amr_of, h263_of, picture_of, record_of};
 
 use entry_heads::kind;
 use entry_records::field::{Amr, H263, Rates, Record};
+use rule::refusals;
 use rule::Answer;
 
 // The eight fields of a `samr` or `sawb`.
@@ -17,7 +18,7 @@ pub fn put_amr(f: Amr, out: &mut [u64]) -> Answer
     ensures { Exact (gives (fields_of (Speech f))) out.old result out.new }
 {
     if out.len() < 8 {
-        return Answer::Refused(25, 0);
+        return Err(refusals::NO_ROOM);
     }
     out[..8].copy_from_slice(&[
         f.kind as u64,
@@ -29,7 +30,7 @@ pub fn put_amr(f: Amr, out: &mut [u64]) -> Answer
         f.period as u64,
         f.frames as u64,
     ]);
-    Answer::Done(8)
+    Ok(8)
 }
 
 // 1 and the rates of a `bitr`, or three times 0 where none follows.
@@ -47,7 +48,7 @@ pub fn put_h263(f: H263, out: &mut [u64]) -> Answer
     ensures { Exact (gives (fields_of (Picture f))) out.old result out.new }
 {
     if out.len() < 11 {
-        return Answer::Refused(25, 0);
+        return Err(refusals::NO_ROOM);
     }
     let rates = rate_numbers(f.rates);
     out[..11].copy_from_slice(&[
@@ -63,7 +64,7 @@ pub fn put_h263(f: H263, out: &mut [u64]) -> Answer
         rates[1],
         rates[2],
     ]);
-    Answer::Done(11)
+    Ok(11)
 }
 
 // The fields of a `samr` or `sawb` in eight numbers.

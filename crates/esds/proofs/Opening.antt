@@ -15,7 +15,7 @@ use Rattle.descriptors.specs.Trees.{Tree, tree, first_head, first_own, first_hel
 use Rattle.descriptors.specs.Reading.{read_on}
 use Rattle.descriptors.proofs.Orders.{read_fits, read_last, wanted_leads}
 use Rattle.rule.specs.Results.{asked}
-use Rattle.rule.specs.Results.Result.{gives, refuses}
+use Rattle.rule.specs.Results.ToWrite.{gives, refuses}
 use Rattle.esds.specs.declared.value.Values.{Values}
 use Rattle.esds.specs.declared.value.Esds.{Esds}
 use Rattle.esds.specs.Values.{configuration, sl, specific, values_by, given, values_in, specific_at, esds_in, fixed_by, fixed_in}

@@ -17,15 +17,14 @@ use Rattle.descriptors.specs.Lengths.{shortest, least_more, TOO_LONG}
 use Rattle.descriptors.specs.Parts.{ES, CONFIGURATION, SPECIFIC, SL}
 use Rattle.descriptors.specs.Texts.{head_text, descriptor_text}
 use Rattle.descriptors.proofs.Written.{length_text}
-use Rattle.rule.specs.declared.Answer.{Answer}
-use Rattle.rule.specs.declared.Answer.TheVariants.{Refused}
 use Rattle.rule.specs.Results.{Exact, asked}
-use Rattle.rule.specs.Results.Result.{gives}
+use Rattle.rule.specs.Results.ToWrite.{gives}
 use Rattle.rule.proofs.Results.{test_not, test_so}
 use Rattle.esds.specs.declared.value.Values.{Values}
 use Rattle.esds.specs.Values.{has_esds, kind_rule}
 use Rattle.esds.specs.Texts.{specific_text, configuration_text, configuration_body, es_body, es_text, esds_text, values_rule, SizesOf}
 use Rattle.esds.specs.Calls.{values_of, esds_write}
+use Rattle.rule.specs.Answers.{Answer, Refused}
 
 -- ---- a descriptor
 

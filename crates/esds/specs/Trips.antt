@@ -5,9 +5,8 @@ use Rattle.entry_heads.specs.Kinds.{kind_of}
 use Rattle.entry_heads.specs.Heads.{head_size}
 use Rattle.movie.specs.declared.entry.EntryAt.{EntryAt}
 use Rattle.movie.specs.Named.{EntryIs, entry_as}
-use Rattle.rule.specs.Results.Result.{gives}
-use Rattle.judge.specs.declared.Judgement.TheVariants.{Accepted}
-use Rattle.judge.specs.Judgement.{judged}
+use Rattle.rule.specs.Results.ToWrite.{gives}
+use Rattle.judge.specs.Judgement.{judged, Accepted}
 use Rattle.esds.specs.Calls.{esds_read, specific_part}
 
 -- an accepted file has, in entry i of a kind, behind the head, the box xs

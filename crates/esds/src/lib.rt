@@ -11,7 +11,7 @@ ghost use Rattle.descriptors.specs.Trees.{tree};
 ghost use Rattle.entry_heads.specs.Kinds.{kind_of};
 ghost use Rattle.wire.specs.Numbers.{word};
 ghost use Rattle.rule.specs.Results.{asked, Exact};
-ghost use Rattle.rule.specs.Results.Result.{gives};
+ghost use Rattle.rule.specs.Results.ToWrite.{gives};
 ghost use Rattle.esds.specs.Values.{kind_rule};
 ghost use Rattle.esds.specs.Texts.{esds_text, values_rule};
 ghost use Rattle.esds.specs.Calls.{esds_numbers, opened_result, tree_result, opened_as, entry_opened, esds_read, specific_part, values_of, esds_write};
@@ -19,25 +19,17 @@ ghost use Rattle.esds.specs.Calls.{esds_numbers, opened_result, tree_result, ope
 use descriptors::list::Reading;
 use descriptors::{list, part};
 use entry_heads::{head, kind};
-use judge::Judgement;
 use movie::entry;
-use movie::entry::Named;
-use rule::Answer;
+use rule::refusals;
+use rule::{Answer, Refusal};
 use value::{Esds, Values};
 use wire::{lend, number};
 
 // How many bytes of an `esds` stand before its descriptors: its header, and four zero bytes.
 const BEFORE: usize = 12;
 
-// What an `esds` says, or a refusal with its number and place.
-#[derive(Clone, Copy)]
-pub enum Opened {
-    Found(Esds),
-    Refused(usize, usize),
-}
-
 // The descriptors that start at a place, in an entry of a kind: 50, 51, 52.
-fn open_tree(bytes: &[u8], kind: usize, place: usize) -> Opened
+fn open_tree(bytes: &[u8], kind: usize, place: usize) -> Result<Esds, Refusal>
     requires { place < 2 ^ 32 }
     ensures { opened_result result ≡ tree_result kind place (tree TOP bytes.now) }
 {
@@ -47,58 +39,56 @@ fn open_tree(bytes: &[u8], kind: usize, place: usize) -> Opened
     };
     let r = list::read(bytes, part::TOP, start);
     if !r.fits {
-        return Opened::Refused(50, 0);
+        return Err(refusals::NO_FIT);
     }
     if r.last != part::SL {
-        return Opened::Refused(51, 0);
+        return Err(refusals::BAD_PARTS);
     }
     let e = value::read(bytes, kind, place);
     let v = e.values;
     if !value::fixed(bytes, v) {
-        return Opened::Refused(52, 0);
+        return Err(refusals::BAD_NUMBER);
     }
-    Opened::Found(e)
+    Ok(e)
 }
 
 // The `esds` of an entry that stands at a place: 20 for another kind.
-fn open_entry(entry: &[u8], place: usize) -> Opened
+fn open_entry(entry: &[u8], place: usize) -> Result<Esds, Refusal>
     requires { place ≤ LONGEST }
     ensures { opened_result result ≡ opened_as (kind_of (word 4 entry.now 4)) place entry.now }
 {
     let kind = kind::of_code(number::word32(entry, 4));
     if !value::has_esds(kind) {
-        return Opened::Refused(20, 0);
+        return Err(refusals::NO_SUCH);
     }
     let before = head::size(kind) + BEFORE;
     open_tree(lend::rest(entry, before), kind, place + before)
 }
 
 // Of entry i, from 1, of an accepted file: 20 where there is none.
-fn open_in(file: &[u8], i: usize) -> Opened
+fn open_in(file: &[u8], i: usize) -> Result<Esds, Refusal>
     requires { length file.now ≤ LONGEST }
     ensures { opened_result result ≡ entry_opened file.now i }
 {
     if i == 0 {
-        return Opened::Refused(20, 0);
+        return Err(refusals::NO_SUCH);
     }
     match entry::entry(file, i - 1) {
-        Named::At(e) => {
+        Some(e) => {
             let from = e.place;
             let to = e.place + e.span;
             open_entry(&file[from..to], from)
         }
-        Named::Missing => Opened::Refused(20, 0),
+        None => Err(refusals::NO_SUCH),
     }
 }
 
 // What stands in the `esds` of entry i, from 1, of a file.
-pub fn open(file: &[u8], i: usize) -> Opened
+pub fn open(file: &[u8], i: usize) -> Result<Esds, Refusal>
     ensures { opened_result result ≡ esds_read file.now i }
 {
-    match judge::judge(file) {
-        Judgement::Accepted => open_in(file, i),
-        Judgement::Refused(n, p) => Opened::Refused(n, p),
-    }
+    judge::judge(file)?;
+    open_in(file, i)
 }
 
 // The ten numbers of it.
@@ -106,7 +96,7 @@ fn put(e: Esds, out: &mut [u64]) -> Answer
     ensures { Exact (gives (esds_numbers e)) out.old result out.new }
 {
     if out.len() < 10 {
-        return Answer::Refused(25, 0);
+        return Err(refusals::NO_ROOM);
     }
     let v = e.values;
     out[..10].copy_from_slice(&[
@@ -121,17 +111,15 @@ fn put(e: Esds, out: &mut [u64]) -> Answer
         e.place as u64,
         e.span as u64,
     ]);
-    Answer::Done(10)
+    Ok(10)
 }
 
 // The same as numbers: the values, and the place and the length of the specific information.
 pub fn read(file: &[u8], i: usize, out: &mut [u64]) -> Answer
     ensures { Exact (esds_read file.now i) out.old result out.new }
 {
-    match open(file, i) {
-        Opened::Found(e) => put(e, out),
-        Opened::Refused(n, p) => Answer::Refused(n, p),
-    }
+    let e = open(file, i)?;
+    put(e, out)
 }
 
 // The specific information as a part of the file, empty where it isn't there and where the call is refused.
@@ -139,8 +127,8 @@ pub fn specific(file: &[u8], i: usize) -> &[u8]
     ensures { result.now ≡ specific_part file.now (esds_read file.now i) }
 {
     match open(file, i) {
-        Opened::Found(e) => lend::front(lend::rest(file, e.place), e.span),
-        Opened::Refused(_, _) => &file[0..0],
+        Ok(e) => lend::front(lend::rest(file, e.place), e.span),
+        Err(_) => &file[0..0],
     }
 }
 
@@ -166,16 +154,16 @@ fn write_values(v: Values, specific: &[u8], out: &mut [u8]) -> Answer
     ensures { Exact (asked ((50, values_rule v specific.now) ∷ (52, kind_rule v) ∷ []) (gives (esds_text v specific.now))) out.old result out.new }
 {
     if !text::values_rule(v, specific) {
-        return Answer::Refused(50, 0);
+        return Err(refusals::NO_FIT);
     }
     if !value::kind_rule(v) {
-        return Answer::Refused(52, 0);
+        return Err(refusals::BAD_NUMBER);
     }
     let z = text::measure(v, specific);
     if out.len() < z.whole {
-        return Answer::Refused(25, 0);
+        return Err(refusals::NO_ROOM);
     }
-    Answer::Done(text::put_esds(out, v, specific, z))
+    Ok(text::put_esds(out, v, specific, z))
 }
 
 // The `esds` of eight numbers and the specific information.
@@ -183,11 +171,11 @@ pub fn write(fields: &[u64], specific: &[u8], out: &mut [u8]) -> Answer
     ensures { Exact (esds_write fields.now specific.now) out.old result out.new }
 {
     if fields.len() != 8 {
-        return Answer::Refused(20, 0);
+        return Err(refusals::NO_SUCH);
     }
     let v = values_of(fields);
     if !value::has_esds(v.kind) {
-        return Answer::Refused(20, 0);
+        return Err(refusals::NO_SUCH);
     }
     write_values(v, specific, out)
 }

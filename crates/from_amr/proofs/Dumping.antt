@@ -10,8 +10,6 @@ use Rattle.wire.proofs.Clauses.{is_eq_lem, not_eq, is_le_lem, not_le}
 use Rattle.wire.proofs.Writing.{pen_front}
 use Rattle.boxes.specs.Boxes.{nothing}
 use Rattle.boxes.specs.Containers.{LONGEST}
-use Rattle.rule.specs.declared.Answer.{Answer}
-use Rattle.rule.specs.declared.Answer.TheVariants.{Done, Refused}
 use Rattle.rule.specs.Results.{Exact}
 use Rattle.rule.proofs.Results.{exact_refuses, exact_short, exact_wrote, test_not, test_so, over_limit, in_limit_lem}
 use Rattle.frames.specs.declared.codec.Codec.{Codec}
@@ -23,6 +21,7 @@ use Rattle.frames.proofs.Rests.{frames_whole}
 use Rattle.from_amr.specs.File.{StartsAt, file_of}
 use Rattle.from_amr.specs.Dump.{magic, without_magic, MOST_FRAMES, made_of, dump_of}
 use Rattle.from_amr.proofs.Lengths.{length_file}
+use Rattle.rule.specs.Answers.{Answer, Done, Refused}
 
 -- the run that code reads
 pub run_whole : (k : Codec) (ys : List ℕ) (n : ℕ) {r : Run} → n ≡ length ys → RunOf (frames_to n k ys) r → RunOf (frames k ys) r

@@ -14,13 +14,13 @@ use Rattle.frames.specs.declared.codec.Codec.TheVariants.{Amr, Wideband}
 use Rattle.frames.specs.Codecs.{data_bytes}
 use Rattle.frames.specs.Frames.{type_of, frame_size, good, frames_to, frames, joined, rest}
 use Rattle.frames.specs.Modes.{seen, type_bit, mode_bit, mode_set}
-use Rattle.rule.specs.declared.Answer.TheVariants.{Done}
 use Rattle.rule.specs.Results.{asked, answer_in}
-use Rattle.rule.specs.Results.Result.{refuses}
+use Rattle.rule.specs.Results.ToWrite.{refuses}
 use Rattle.from_amr.specs.Fields.{fields}
 use Rattle.from_amr.specs.Boxes.{ftyp, mvhd, tkhd, mdhd, hdlr, smhd, dref, stsd, one_for, sizes_of, stsz}
 use Rattle.from_amr.specs.File.{start, file_of}
 use Rattle.from_amr.specs.Dump.{magic, opens, without_magic, made_of, dump_of, from_amr}
+use Rattle.rule.specs.Answers.{Done}
 
 -- no frames; and two without data, of types 14 and 15
 made : (answer_in (from_amr (magic Amr)) (bytes 600 0) ≡ Done 526) × (answer_in (from_amr (magic Wideband ++ 0x70 ∷ 0x7C ∷ [])) (bytes 600 0) ≡ Done 560)

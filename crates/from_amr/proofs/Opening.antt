@@ -5,13 +5,12 @@ use mathlib.Core.Bool.{Bool, true, false}
 use mathlib.Core.List.{List}
 use Rattle.std.specs.Prelude.{nat_eq}
 use Rattle.std.specs.List.{starts_with}
-use Rattle.rule.specs.declared.Answer.{Answer}
-use Rattle.rule.specs.declared.Answer.TheVariants.{Refused}
 use Rattle.rule.specs.Results.{Exact}
 use Rattle.rule.proofs.Results.{exact_refuses}
 use Rattle.frames.specs.declared.codec.Codec.{Codec}
 use Rattle.frames.specs.declared.codec.Codec.TheVariants.{Amr, Wideband}
 use Rattle.from_amr.specs.Dump.{magic, opens, dump_of, from_amr}
+use Rattle.rule.specs.Answers.{Answer, Refused}
 
 -- the dump, asked whether it starts with a magic
 module _ (k : Codec) (xs : List ℕ) {t : Bool} (e : t ≡ starts_with nat_eq xs (magic k)) where

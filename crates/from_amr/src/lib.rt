@@ -11,7 +11,7 @@ use boxes::containers::LONGEST;
 use frames::codec::Codec;
 use frames::run;
 use frames::run::Run;
-use rule::Answer;
+use rule::{Answer, Refusal, refusals};
 use wire::lend;
 
 mod field;
@@ -28,17 +28,17 @@ fn made(codec: Codec, part: &[u8], run: Run, out: &mut [u8]) -> Answer
     ensures { Exact (made_of codec (frames codec part.now)) out.old result out.new }
 {
     if MOST_FRAMES < run.count {
-        return Answer::Refused(42, 0);
+        return Err(refusals::TOO_MANY_FRAMES);
     }
     let n = file::start(run.count) + part.len();
     if LONGEST < n {
-        return Answer::Refused(24, 0);
+        return Err(refusals::TOO_LONG);
     }
     if out.len() < n {
-        return Answer::Refused(25, 0);
+        return Err(refusals::NO_ROOM);
     }
     file::put(out, codec, part, run);
-    Answer::Done(n)
+    Ok(n)
 }
 
 // The file of a codec's dump, past a magic of so many bytes.
@@ -49,7 +49,10 @@ fn dump_of(codec: Codec, dump: &[u8], magic: usize, out: &mut [u8]) -> Answer
     let part = lend::rest(dump, magic);
     let run = run::read(codec, part, part.len());
     if run.bytes < part.len() {
-        return Answer::Refused(41, magic + run.bytes);
+        return Err(Refusal {
+            number: 41,
+            place: magic + run.bytes,
+        });
     }
     made(codec, part, run, out)
 }
@@ -64,5 +67,5 @@ pub fn from_amr(dump: &[u8], out: &mut [u8]) -> Answer
     if dump.starts_with(b"#!AMR-WB\n") {
         return dump_of(Codec::Wideband, dump, 9, out);
     }
-    Answer::Refused(40, 0)
+    Err(refusals::NO_DUMP)
 }

@@ -10,9 +10,7 @@ use Rattle.boxes.specs.Box.{Box, head}
 use Rattle.boxes.specs.Boxes.{after}
 use Rattle.boxes.specs.Walk.{Over}
 use Rattle.boxes.specs.Containers.{kind_in}
-use Rattle.rule.specs.declared.Verdict.{Verdict}
-use Rattle.rule.specs.declared.Verdict.TheVariants.{Fine, Bad}
-use Rattle.rule.specs.Verdict.{unless}
+use Rattle.rule.specs.Verdict.{unless, Verdict, Fine, Bad}
 use Rattle.rule.specs.Judge.{Judge, judge_box, judge_in}
 use Rattle.rule.proofs.Places.{sooner_none}
 use Rattle.rule.proofs.Traverse.{Found, found_none, found_over}

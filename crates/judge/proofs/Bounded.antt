@@ -20,9 +20,7 @@ use Rattle.movie.proofs.Stsds.Each.{none as no_more, more}
 use Rattle.release.specs.declared.Release.{Release}
 use Rattle.std.specs.Prelude.{Option}
 use Rattle.entry_rules.specs.declared.entry.Around.{Around}
-use Rattle.rule.specs.declared.Verdict.{Verdict}
-use Rattle.rule.specs.declared.Verdict.TheVariants.{Fine}
-use Rattle.rule.specs.Verdict.{unless}
+use Rattle.rule.specs.Verdict.{unless, Verdict, Fine}
 use Rattle.rule.specs.Judge.{judge_list}
 use Rattle.rule.proofs.Bounds.{named, Bounded, sooner_most, unless_most, if_most, list_most}
 use Rattle.rule_lists.specs.Five.{list_form_in, MOST, passing, five}

@@ -1,32 +1,29 @@
 -- What a call on a file comes to, once it knows the judgement; and what is known of one that is done. Assumes nothing.
+use Rattle.std.specs.Prelude.{Result, Ok, Err}
+use Rattle.std.specs.Result.{IsErrAnd}
 use Prim.Native.Nat.{ℕ}
 use native.Mathlib.Omega.{arith}
 use mathlib.Core.Path.{◌≡◌, refl, sym, ◌∙◌}
 use mathlib.Core.Bool.{Bool, true}
 use mathlib.Core.List.{List, map}
 use Rattle.wire.specs.Clauses.{every}
-use Rattle.rule.specs.declared.Answer.{Answer}
-use Rattle.rule.specs.declared.Answer.TheVariants as answer
 use Rattle.rule.specs.Results.{asked, answer_in, Exact}
-use Rattle.rule.specs.Results.Result.{gives, refuses}
+use Rattle.rule.specs.Results.ToWrite.{gives, refuses}
+use Rattle.rule.specs.declared.Refusal.{Refusal}
+use Rattle.rule.proofs.SameRefusal.{passed_on}
 use Rattle.rule.proofs.Results.{Gave, exact_refuses, refused_not, gives_done, asked_done}
 use Rattle.layout.specs.declared.every.Tracks.{Tracks}
-use Rattle.judge.specs.declared.Judgement.{Judgement}
-use Rattle.judge.specs.declared.Judgement.TheVariants.{Accepted, Refused}
-use Rattle.judge.specs.Judgement.{judged}
+use Rattle.judge.specs.Judgement.{judged, Judgement, Accepted}
 use Rattle.judge.specs.Tracks.{WithTracks}
 use Rattle.judge.specs.Calls.{when_accepted, answer_on, result_on}
 use Rattle.judge.specs.Acceptance.{Meets}
 use Rattle.judge.proofs.Exact.{accepted_meets}
+use Rattle.rule.specs.Answers.{Answer, Done, Refused}
 
 module _ (xs : List ℕ) {j : Judgement} (e : j ≡ judged xs) where
   -- what a call may go by
   pub met : j ≡ Accepted → Meets xs
   met f = accepted_meets xs (sym e ∙ f)
-
-  -- a refused file needs no tracks
-  pub refused_with : (t : Tracks) {n p : ℕ} → j ≡ Refused n p → WithTracks xs (record { answer = Refused n p; tracks = t })
-  refused_with t {n} {p} f = record { answer = sym f ∙ e; tracks = λ (q : Refused n p ≡ Accepted). let z : ◌≡◌ {A = ℕ} 0 1 = cc in absurd (omega arith) }
 
   -- ---- any answer
 
@@ -34,9 +31,10 @@ module _ (xs : List ℕ) {j : Judgement} (e : j ≡ judged xs) where
   unfolding when_accepted
   when_accepted_lem refusal a f g = rw (← e, f, g)
 
-  pub when_refused : {A : Type 0} (refusal : ℕ → ℕ → A) (a : A) {n p : ℕ} → j ≡ Refused n p → refusal n p ≡ when_accepted refusal (judged xs) a
+  -- `?` hands the refusal on
+  pub when_passed : {A : Type 0} (a : Result A Refusal) {f : Refusal} (r : Result A Refusal) → j ≡ Err f → IsErrAnd r (λ y. y ≡ f) → r ≡ when_accepted Refused (judged xs) a
   unfolding when_accepted
-  when_refused refusal a f = rw (← e, f)
+  when_passed a r g h = passed_on r h ∙ rw (← e, g) refl
 
   -- ---- a number
 
@@ -44,9 +42,9 @@ module _ (xs : List ℕ) {j : Judgement} (e : j ≡ judged xs) where
   unfolding answer_on
   answer_accepted a f g = when_accepted_lem _ a f g
 
-  pub answer_refused : (a : Answer) {n p : ℕ} → j ≡ Refused n p → answer.Refused n p ≡ answer_on xs a
+  pub answer_passed : (a : Answer) {f : Refusal} (r : Answer) → j ≡ Err f → IsErrAnd r (λ y. y ≡ f) → r ≡ answer_on xs a
   unfolding answer_on
-  answer_refused a f = when_refused _ a f
+  answer_passed a r g h = when_passed a r g h
 
   -- ---- what is written into a lent room
 
@@ -54,9 +52,9 @@ module _ (xs : List ℕ) {j : Judgement} (e : j ≡ judged xs) where
   unfolding result_on when_accepted
   result_accepted ts ys out f x = rw (← e, f) x
 
-  pub result_refused : (ts : List (ℕ × Bool)) (ys out : List ℕ) {n p : ℕ} → j ≡ Refused n p → Exact (result_on xs ts ys) out (answer.Refused n p) out
+  pub result_passed : (ts : List (ℕ × Bool)) (ys out : List ℕ) {f : Refusal} (r : Answer) → j ≡ Err f → IsErrAnd r (λ y. y ≡ f) → Exact (result_on xs ts ys) out r out
   unfolding result_on when_accepted
-  result_refused ts ys out f = rw (← e, f) (exact_refuses _ _ out)
+  result_passed ts ys out r g h = rw (passed_on r h, ← e, g) (exact_refuses _ _ out)
 
 -- a call that is done: its file meets the rules, each test holds, and what it gives stands in the room
 pub record DoneOn (xs : List ℕ) (ts : List (ℕ × Bool)) (ys out : List ℕ) (n : ℕ) : Type 0 where
@@ -65,12 +63,12 @@ pub record DoneOn (xs : List ℕ) (ts : List (ℕ × Bool)) (ys out : List ℕ) 
   pub is : result_on xs ts ys ≡ gives ys
   pub gave : Gave ys out n
 
-pub result_done : (xs : List ℕ) (ts : List (ℕ × Bool)) (ys out : List ℕ) (n : ℕ) → answer_in (result_on xs ts ys) out ≡ answer.Done n → DoneOn xs ts ys out n
+pub result_done : (xs : List ℕ) (ts : List (ℕ × Bool)) (ys out : List ℕ) (n : ℕ) → answer_in (result_on xs ts ys) out ≡ Done n → DoneOn xs ts ys out n
 unfolding result_on when_accepted answer_in
 result_done xs ts ys out n = go (judged xs) refl
   where
-    go : (j : Judgement) → judged xs ≡ j → answer_in (when_accepted refuses j (asked ts (gives ys))) out ≡ answer.Done n → DoneOn xs ts ys out n
+    go : (j : Judgement) → judged xs ≡ j → answer_in (when_accepted refuses j (asked ts (gives ys))) out ≡ Done n → DoneOn xs ts ys out n
     go Accepted f e =
         let a = asked_done ts ys out n e in
         record { meets = accepted_meets xs f; tests = a.0; is = rw f a.1; gave = gives_done ys out n (rw a.1 at e) }
-    go (Refused k p) f e = absurd (refused_not k p n e)
+    go (Err r) f e = absurd (refused_not r.number r.place n e)

@@ -8,9 +8,7 @@ use Rattle.wire.specs.Clauses.{one_if}
 use Rattle.wire.proofs.Clauses.{yea, nay}
 use Rattle.boxes.specs.Box.{Box}
 use Rattle.boxes.specs.Containers.{FILE, DEPTH}
-use Rattle.rule.specs.declared.Verdict.{Verdict}
-use Rattle.rule.specs.declared.Verdict.TheVariants.{Fine, Bad}
-use Rattle.rule.specs.Verdict.{is_fine}
+use Rattle.rule.specs.Verdict.{is_fine, Verdict, Fine, Bad}
 use Rattle.rule.specs.Judge.{judge_in}
 use Rattle.rule.specs.Rule.{Rule, placed, all_in}
 use Rattle.rule.proofs.Places.{placed_says}

@@ -11,8 +11,7 @@ use Rattle.boxes.specs.declared.walk.BoxAt.{BoxAt}
 use Rattle.boxes.specs.Boxes.{boxes, total, after}
 use Rattle.boxes.specs.Containers.{kind_in}
 use Rattle.boxes.specs.Walk.{payload, box_at}
-use Rattle.rule.specs.declared.Verdict.TheVariants.{Fine}
-use Rattle.rule.specs.Verdict.{sooner, unless}
+use Rattle.rule.specs.Verdict.{sooner, unless, Fine}
 use Rattle.rule.specs.Judge.{judge_list, judge_box, judge_in}
 use Rattle.rule.proofs.Places.{unless_yea}
 use Rattle.judge.specs.Asked.{shaped_by, tiled_by, first_by}

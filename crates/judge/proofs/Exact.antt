@@ -7,8 +7,6 @@ use Rattle.boxes.specs.Box.{Box}
 use Rattle.boxes.specs.Boxes.{boxes}
 use Rattle.boxes.specs.Containers.{FILE, DEPTH}
 use Rattle.release.specs.Releases.{release_of}
-use Rattle.rule.specs.declared.Verdict.{Verdict}
-use Rattle.rule.specs.declared.Verdict.TheVariants.{Fine, Bad}
 use Rattle.rule.specs.Judge.{Judge}
 use Rattle.rule.specs.Rule.{Rule, Says}
 use Rattle.rule.proofs.Places.{placed_says}
@@ -22,11 +20,10 @@ use Rattle.rule_tracks.specs.Seven.{seven_rule}
 use Rattle.rule_tracks.proofs.KeptEight.{eight_says}
 use Rattle.rule_entries.proofs.Kept.{ten_says}
 use Rattle.judge.specs.One.{one_rule}
-use Rattle.judge.specs.declared.Judgement.{Judgement}
-use Rattle.judge.specs.declared.Judgement.TheVariants.{Accepted}
-use Rattle.judge.specs.Judgement.{judges, verdict_by, unless_broken, judged_from, judged}
+use Rattle.judge.specs.Judgement.{judges, verdict_by, unless_broken, judged_from, judged, Judgement, Accepted}
 use Rattle.judge.specs.Acceptance.{Holds, rules, Meets}
 use Rattle.judge.proofs.One.{one_holds, holds_one}
+use Rattle.rule.specs.Verdict.{Verdict, Fine, Bad}
 
 -- ---- some rules
 

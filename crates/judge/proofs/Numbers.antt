@@ -2,9 +2,8 @@
 use Prim.Native.Nat.{ℕ, ◌-◌}
 use native.Mathlib.Omega.{arith}
 use mathlib.Core.Path.{◌≡◌, refl, ap, ◌∙◌}
-use Rattle.rule.specs.declared.Verdict.{Verdict}
-use Rattle.rule.specs.declared.Verdict.TheVariants.{Fine, Bad}
 use Rattle.judge.specs.Asked.{as_number}
+use Rattle.rule.specs.Verdict.{Verdict, Fine, Bad}
 
 pub number_as : {r : ℕ} {u v : Verdict} → r ≡ as_number u → u ≡ v → r ≡ as_number v
 number_as e q = e ∙ ap as_number q

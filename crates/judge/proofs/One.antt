@@ -12,9 +12,7 @@ use Rattle.wire.proofs.Clauses.{is_le_lem, not_le, le_is, clause, fails, holds, 
 use Rattle.boxes.specs.Containers.{FILE, LONGEST, parent, kind_in}
 use Rattle.boxes.specs.Boxes.{boxes}
 use Rattle.boxes.proofs.Reading.{all_of}
-use Rattle.rule.specs.declared.Verdict.{Verdict}
-use Rattle.rule.specs.declared.Verdict.TheVariants.{Fine, Bad}
-use Rattle.rule.specs.Verdict.{sooner, unless}
+use Rattle.rule.specs.Verdict.{sooner, unless, Verdict, Fine, Bad}
 use Rattle.rule.specs.Judge.{judge_in}
 use Rattle.rule.specs.Rule.{all_in}
 use Rattle.rule.proofs.Opened.{opened, closed}

@@ -9,9 +9,7 @@ use Rattle.boxes.specs.Box.{Box}
 use Rattle.boxes.specs.Boxes.{boxes}
 use Rattle.boxes.specs.Containers.{FILE, DEPTH, LONGEST}
 use Rattle.release.specs.Releases.{release_of}
-use Rattle.rule.specs.declared.Verdict.{Verdict}
-use Rattle.rule.specs.declared.Verdict.TheVariants.{Fine, Bad}
-use Rattle.rule.specs.Verdict.{unless}
+use Rattle.rule.specs.Verdict.{unless, Verdict, Fine, Bad}
 use Rattle.rule.specs.Judge.{Judge}
 use Rattle.rule.proofs.Places.{placed_says}
 use Rattle.rule.proofs.Alike.{no_test}
@@ -28,11 +26,10 @@ use Rattle.rule_tracks.specs.Asked.{asked_seven, asked_eight}
 use Rattle.rule_tracks.proofs.Asked.{seven_asked_lem, eight_asked_lem}
 use Rattle.rule_entries.specs.Ten.{ten}
 use Rattle.judge.specs.One.{one, one_rule}
-use Rattle.judge.specs.declared.Judgement.{Judgement}
-use Rattle.judge.specs.declared.Judgement.TheVariants.{Accepted, Refused}
-use Rattle.judge.specs.Judgement.{verdict_by, unless_broken, judged_from, judged}
+use Rattle.judge.specs.Judgement.{verdict_by, unless_broken, judged_from, judged, Judgement, Accepted}
 use Rattle.judge.specs.Asked.{shaped_by, tiled_by, formed_by, first_by, leaf_by, node_by, judge_by, verdict_of}
 use Rattle.judge.proofs.One.{one_holds, one_short, one_long}
+use Rattle.rule.specs.Answers.{Refused}
 
 -- k rules from number n on, as code asks them
 abbrev asked : ℕ → ℕ → List Box → List Judge

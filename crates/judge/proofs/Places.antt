@@ -1,4 +1,5 @@
 -- The judgement's number is at most 10, and its place lies in the file. Assumes nothing.
+use Rattle.std.specs.Prelude.{Err}
 use Prim.Native.Nat.{ℕ, ◌+◌, ◌≤◌, ◌<◌}
 use native.Mathlib.Omega.{arith}
 use mathlib.Core.Path.{◌≡◌, refl}
@@ -9,8 +10,6 @@ use Rattle.boxes.specs.Box.{Box}
 use Rattle.boxes.specs.Boxes.{boxes}
 use Rattle.boxes.specs.Containers.{FILE, DEPTH, LONGEST}
 use Rattle.release.specs.Releases.{release_of}
-use Rattle.rule.specs.declared.Verdict.{Verdict}
-use Rattle.rule.specs.declared.Verdict.TheVariants.{Fine, Bad}
 use Rattle.rule.specs.Judge.{Judge}
 use Rattle.rule.proofs.Bounds.{each_bounded, named, Bounded, placed_bounded, judge_most}
 use Rattle.rule_shape.specs.Two.{tiled_rule, shut_in}
@@ -20,12 +19,12 @@ use Rattle.rule_tracks.specs.Six.{six_rule}
 use Rattle.rule_tracks.specs.Seven.{seven_rule}
 use Rattle.rule_tracks.proofs.Bounded.{eight_bounded}
 use Rattle.judge.specs.One.{one_rule}
-use Rattle.judge.specs.declared.Judgement.{Judgement}
-use Rattle.judge.specs.declared.Judgement.TheVariants.{Accepted, Refused}
-use Rattle.judge.specs.Judgement.{judged_number, judged_place, judges, verdict_by, unless_broken, judged_from, judged}
+use Rattle.judge.specs.Judgement.{judged_number, judged_place, judges, verdict_by, unless_broken, judged_from, judged, Judgement, Accepted}
 use Rattle.judge.proofs.Order.{too_long}
 use Rattle.judge.proofs.Bounded.{five_bounded, nine_bounded, ten_bounded}
 use Rattle.judge.proofs.Refusals.{refused_breaks}
+use Rattle.rule.specs.Verdict.{Verdict, Fine, Bad}
+use Rattle.rule.specs.Answers.{Refused}
 
 -- judges that are bounded, one by one
 data AllBounded : List Judge → Type 0 where
@@ -56,7 +55,7 @@ number_most xs = go (judged xs) refl
   where
     go : (j : Judgement) → judged xs ≡ j → judged_number j ≤ 10
     go Accepted e = omega arith
-    go (Refused n p) e = (refused_breaks xs n p e).most
+    go (Err r) e = (refused_breaks xs r.number r.place e).most
 
 pub place_in : (xs : List ℕ) → judged_place (judged xs) ≤ length xs
 unfolding judged

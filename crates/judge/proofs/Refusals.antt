@@ -1,4 +1,5 @@
 -- A refusal's number is that of the first rule that is broken, and its place the first that breaks it. Assumes nothing.
+use Rattle.std.specs.Prelude.{Err}
 use Prim.Native.Nat.{ℕ, zero, suc, ◌+◌, ◌-◌, ◌≤◌, ◌<◌}
 use native.Mathlib.Omega.{arith}
 use mathlib.Core.Path.{◌≡◌, refl, ap, ◌∙◌}
@@ -7,21 +8,20 @@ use lib.ListN.{length, get_or}
 use Rattle.wire.proofs.Tests.{lt_or}
 use Rattle.boxes.specs.Boxes.{boxes}
 use Rattle.boxes.specs.Containers.{FILE, DEPTH, LONGEST}
-use Rattle.rule.specs.declared.Verdict.{Verdict}
-use Rattle.rule.specs.declared.Verdict.TheVariants.{Fine, Bad}
 use Rattle.rule.specs.Judge.{Judge}
 use Rattle.rule.specs.Rule.{Rule, Says}
 use Rattle.rule.proofs.Acceptance.{fine_all, all_fine}
 use Rattle.judge.specs.One.{one, one_rule}
-use Rattle.judge.specs.declared.Judgement.{Judgement}
-use Rattle.judge.specs.declared.Judgement.TheVariants.{Accepted, Refused}
-use Rattle.judge.specs.Judgement.{verdict_by, unless_broken, judged_from, judged}
+use Rattle.judge.specs.Judgement.{verdict_by, unless_broken, judged_from, judged, Judgement, Accepted}
 use Rattle.judge.specs.Acceptance.{Holds}
 use Rattle.judge.specs.Refusal.{judge_of, Breaks}
 use Rattle.judge.proofs.One.{one_holds, one_short, one_long}
 use Rattle.judge.proofs.Exact.{Say, Hold, rules_say, meet_all, accepted_meets}
 use Rattle.judge.proofs.Exact.Say.{none, more}
 use Rattle.judge.proofs.Exact.Hold.{nil, cons}
+use Rattle.rule.specs.Verdict.{Verdict, Fine, Bad}
+use Rattle.rule.proofs.SameRefusal.{same_number, same_place}
+use Rattle.rule.specs.Answers.{Refused}
 
 -- a verdict is not both
 fine_not : {v : Verdict} {p : ℕ} → v ≡ Fine → v ≡ Bad p → ⊥
@@ -74,7 +74,7 @@ from_refused (more {j} {r} {js} {rs} s t) m xs n p e = go (verdict_by j xs) refl
     go : (v : Verdict) → verdict_by j xs ≡ v → unless_broken m v (judged_from (m + 1) js xs) ≡ Refused n p
         → (judged_from (m + 1) js xs ≡ Refused n p → From js rs xs (m + 1) n p) → From (j ∷ js) (r ∷ rs) xs m n p
     go Fine f g h = from_next s xs m n p f (h g)
-    go (Bad q) f g h = let a : m ≡ n = cc in let b : q ≡ p = cc in from_here s xs m n p (f ∙ ap Bad b) a
+    go (Bad q) f g h = from_here s xs m n p (f ∙ ap Bad (same_place g)) (same_number g)
 
 -- ---- rules 1 to 10
 
@@ -103,12 +103,12 @@ hold_at (cons r a) (suc i) h = hold_at a i (omega arith)
 pub breaks_refused : (xs : List ℕ) (n p : ℕ) → Breaks xs n p → judged xs ≡ Refused n p
 breaks_refused xs n p b = go (judged xs) refl
   where
-    same : (m q : ℕ) → n ≡ m → Breaks xs m q → Refused m q ≡ Refused n p
+    same : (m q : ℕ) → n ≡ m → Breaks xs m q → Refused {A = Unit {0}} m q ≡ Refused n p
     same m q e c = let f : verdict_by (judge_of (boxes xs) n) xs ≡ Bad q = rw e c.first in let z : q ≡ p = bad_same f b.first in cc
 
     go : (j : Judgement) → judged xs ≡ j → j ≡ Refused n p
     go Accepted e = absurd (b.broken (hold_at (meet_all xs (accepted_meets xs e)) (n - 1) (omega (arith, b.least, b.most))))
-    go (Refused m q) e =
-        let c = refused_breaks xs m q e in
-        lt_or n m (λ h. absurd (b.broken (c.below n b.least h)))
-        (λ g. lt_or m n (λ h. absurd (c.broken (b.below m c.least h))) (λ l. same m q (omega arith) c))
+    go (Err r) e =
+        let c = refused_breaks xs r.number r.place e in
+        lt_or n r.number (λ h. absurd (b.broken (c.below n b.least h)))
+        (λ g. lt_or r.number n (λ h. absurd (c.broken (b.below r.number c.least h))) (λ l. same r.number r.place (omega arith) c))

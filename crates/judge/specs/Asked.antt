@@ -5,9 +5,7 @@ use Rattle.boxes.specs.declared.walk.Form.{Form}
 use Rattle.boxes.specs.Box.{Box}
 use Rattle.boxes.specs.Boxes.{boxes}
 use Rattle.release.specs.Releases.{release_of}
-use Rattle.rule.specs.declared.Verdict.{Verdict}
-use Rattle.rule.specs.declared.Verdict.TheVariants.{Fine, Bad}
-use Rattle.rule.specs.Verdict.{sooner, unless}
+use Rattle.rule.specs.Verdict.{sooner, unless, Verdict, Fine, Bad}
 use Rattle.rule.specs.Judge.{Judge, judge_box, judge_in}
 use Rattle.rule.specs.Rule.{Rule, placed_by}
 use Rattle.rule_shape.specs.Two.{tiled_rule, may_have}

@@ -1,11 +1,12 @@
 -- The judgement of a file: "The number given is the lowest whose rule is broken".
-use Rattle.std.specs.Prelude.{ℕ, ◌+◌, List, [], ◌∷◌}
+use Rattle.std.specs.Prelude.{ℕ, ◌+◌, List, [], ◌∷◌, Result, Ok, Err}
 use Rattle.boxes.specs.Box.{Box}
 use Rattle.boxes.specs.Boxes.{boxes}
 use Rattle.boxes.specs.Containers.{FILE, DEPTH}
 use Rattle.release.specs.Releases.{release_of}
-use Rattle.rule.specs.declared.Verdict.{Verdict}
-use Rattle.rule.specs.declared.Verdict.TheVariants.{Fine, Bad}
+use Rattle.rule.specs.declared.Refusal.{Refusal}
+use Rattle.rule.specs.Answers.{Refused}
+use Rattle.rule.specs.Verdict.{Verdict, Fine, Bad}
 use Rattle.rule.specs.Judge.{Judge, judge_in}
 use Rattle.rule_shape.specs.Two.{two}
 use Rattle.rule_shape.specs.Three.{three}
@@ -17,17 +18,22 @@ use Rattle.rule_tracks.specs.Seven.{seven}
 use Rattle.rule_tracks.specs.Eight.{eight}
 use Rattle.rule_entries.specs.Ten.{ten}
 use Rattle.judge.specs.One.{one}
-use Rattle.judge.specs.declared.Judgement.{Judgement}
-use Rattle.judge.specs.declared.Judgement.TheVariants.{Accepted, Refused}
+
+-- a file is accepted, or why it is refused
+abbrev pub Judgement : Type 0
+Judgement = Result (Unit {0}) Refusal
+
+pattern abbrev pub Accepted : Judgement
+Accepted = Ok tt
 
 -- the refusal number of the paper, 0 where there is none, and its place
 abbrev pub judged_number : Judgement → ℕ
 judged_number Accepted = 0
-judged_number (Refused n p) = n
+judged_number (Err e) = e.number
 
 abbrev pub judged_place : Judgement → ℕ
 judged_place Accepted = 0
-judged_place (Refused n p) = p
+judged_place (Err e) = e.place
 
 -- rules 1 to 10 in their order; rules 8 and 10 are asked in a file with the boxes l
 abbrev pub judges : List Box → List Judge

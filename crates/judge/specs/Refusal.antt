@@ -2,12 +2,12 @@
 use Rattle.std.specs.Prelude.{ℕ, ◌-◌, ◌≤◌, ◌<◌, ◌≡◌, List, get_or}
 use Rattle.boxes.specs.Box.{Box}
 use Rattle.boxes.specs.Boxes.{boxes}
-use Rattle.rule.specs.declared.Verdict.TheVariants.{Bad}
 use Rattle.rule.specs.Judge.{Judge}
 use Rattle.rule.specs.Rule.{Rule}
 use Rattle.judge.specs.One.{one, one_rule}
 use Rattle.judge.specs.Judgement.{judges, verdict_by}
 use Rattle.judge.specs.Acceptance.{rules, Holds}
+use Rattle.rule.specs.Verdict.{Bad}
 
 -- rule n, from 1 to 10, with places and without, in a file with the boxes l
 abbrev pub judge_of : List Box → ℕ → Judge

@@ -16,14 +16,10 @@ ghost use Rattle.judge.specs.Tracks.{WithTracks};
 use boxes::containers;
 use layout::every;
 use layout::every::Tracks;
-use rule::Verdict;
+use rule::{Refusal, Verdict, refusals};
 
-// A file is accepted, or refused with a number and a place.
-#[derive(Clone, Copy)]
-pub enum Judgement {
-    Accepted,
-    Refused(usize, usize),
-}
+// A file is accepted, or why it is refused.
+pub type Judgement = Result<(), Refusal>;
 
 // What rule n says of a file.
 fn verdict_of(n: usize, file: &[u8]) -> Verdict
@@ -41,18 +37,15 @@ fn judge_from(n: usize, file: &[u8]) -> Judgement
     requires { (8 ≤ length file.now) × (length file.now ≤ LONGEST) × SureBefore file.now n }
     ensures { result ≡ judged file.now }
 {
-    let mut k = n;
-    while k < 11 {
-        match verdict_of(k, file) {
-            Verdict::Fine => {
-                k += 1;
-            }
-            Verdict::Bad(p) => {
-                return Judgement::Refused(k, p);
+    for number in n..11 {
+        match verdict_of(number, file) {
+            Ok(()) => {}
+            Err(place) => {
+                return Err(Refusal { number, place });
             }
         }
     }
-    Judgement::Accepted
+    Ok(())
 }
 
 // The lowest number whose rule is broken, with the place of the first box in file order that breaks it. All rules are asked at once first, and only those in doubt again.
@@ -60,57 +53,31 @@ pub fn judge(file: &[u8]) -> Judgement
     ensures { result ≡ judged file.now }
 {
     if file.len() < 8 {
-        return Judgement::Refused(1, 0);
+        return Err(refusals::LENGTH);
     }
     if containers::LONGEST < file.len() {
-        return Judgement::Refused(1, 0);
+        return Err(refusals::LENGTH);
     }
     judge_from(rule_all::sure_before(file), file)
 }
 
-// The judgement, and where the file is accepted what its tracks say.
-#[derive(Clone, Copy)]
-pub struct JudgedTracks {
-    pub answer: Judgement,
-    pub tracks: Tracks,
-}
-
-// Looks the tracks up.
-fn looked_up(answer: Judgement, file: &[u8]) -> JudgedTracks
-    requires { answer ≡ judged file.now }
-    ensures { WithTracks file.now result }
-{
-    match answer {
-        Judgement::Accepted => JudgedTracks {
-            answer: Judgement::Accepted,
-            tracks: every::lay(file),
-        },
-        Judgement::Refused(n, p) => JudgedTracks {
-            answer: Judgement::Refused(n, p),
-            tracks: every::blanks(0),
-        },
-    }
-}
-
-// The same, with the tracks as they were found on the way.
-pub fn judge_tracks(file: &[u8]) -> JudgedTracks
+// The same, and where the file is accepted what its tracks say, as they were found on the way.
+pub fn judge_tracks(file: &[u8]) -> Result<Tracks, Refusal>
     ensures { WithTracks file.now result }
 {
     if file.len() < 8 {
-        return looked_up(Judgement::Refused(1, 0), file);
+        return Err(refusals::LENGTH);
     }
     if containers::LONGEST < file.len() {
-        return looked_up(Judgement::Refused(1, 0), file);
+        return Err(refusals::LENGTH);
     }
     let s = rule_all::sure_tracks(file);
     if s.sure < 11 {
-        return looked_up(judge_from(s.sure, file), file);
+        judge_from(s.sure, file)?;
+        return Ok(every::lay(file));
     }
     let tracks = s.tracks;
-    JudgedTracks {
-        answer: Judgement::Accepted,
-        tracks,
-    }
+    Ok(tracks)
 }
 
 // Whether an edit takes a file, which refusal 23 asks: 1 or 0. Each container is walked once first.
@@ -122,7 +89,7 @@ pub fn editable(file: &[u8]) -> usize
         return 1;
     }
     match shape::first(23, file) {
-        Verdict::Fine => 1,
-        Verdict::Bad(_) => 0,
+        Ok(()) => 1,
+        Err(_) => 0,
     }
 }

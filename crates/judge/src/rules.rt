@@ -15,9 +15,9 @@ fn unless(answer: usize, place: usize) -> Verdict
     ensures { result ≡ unless_answer answer place }
 {
     if answer == 0 {
-        return Verdict::Bad(place);
+        return Err(place);
     }
-    Verdict::Fine
+    Ok(())
 }
 
 // What rule n says of an opaque box of code c in a container of kind k.
@@ -37,7 +37,7 @@ fn leaf_by(n: usize, k: usize, c: usize, body: &[u8], place: usize, start: usize
     if n == 9 {
         return rule_lists::url::urls_in(k, c, body, start);
     }
-    Verdict::Fine
+    Ok(())
 }
 
 // What rule n says of a container of kind k.
@@ -60,7 +60,7 @@ fn node_by(n: usize, file: &[u8], k: usize, part: &[u8], home: usize, base: usiz
     if n == 10 {
         return rule_entries::ten_at(file, k, part, base);
     }
-    Verdict::Fine
+    Ok(())
 }
 
 // A box of a container of kind k.
@@ -101,18 +101,18 @@ pub fn judge_in(
     ensures { result ≡ judge_in (rule_by n (boxes file.now)) depth k part.now home base }
 {
     if depth == 0 {
-        return Verdict::Fine;
+        return Ok(());
     }
     let mut found = node_by(n, file, k, part, home, base);
     let mut w = Walk { at: 0 };
     loop {
         match w.step(part) {
             Step::Found(b, next) => match judge_box(n, file, part, b, base, k, depth) {
-                Verdict::Fine => {
+                Ok(()) => {
                     w = next;
                 }
-                Verdict::Bad(p) => {
-                    found = rule::sooner(found, Verdict::Bad(p));
+                Err(p) => {
+                    found = rule::sooner(found, Err(p));
                     w = next;
                 }
             },

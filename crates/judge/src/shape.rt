@@ -111,7 +111,7 @@ pub fn first(n: usize, file: &[u8]) -> Verdict
 {
     let found = first_in(n, file, 0, 0, containers::FILE, containers::DEPTH);
     if found == 0 {
-        return Verdict::Fine;
+        return Ok(());
     }
-    Verdict::Bad(found - 1)
+    Err(found - 1)
 }

@@ -1,4 +1,5 @@
 -- The entry of a number, from the lists of the tracks. Assumes nothing.
+use Rattle.std.specs.Prelude.{None}
 use Prim.Native.Nat.{ℕ, ◌+◌, ◌-◌, ◌≤◌, ◌<◌}
 use native.Mathlib.Omega.{arith}
 use mathlib.Core.Path.{◌≡◌, refl, sym, ap, subst, ◌∙◌}
@@ -13,7 +14,6 @@ use Rattle.movie.specs.Movie.{movie, tracks, track}
 use Rattle.movie.specs.Stsds.{Stsd, stsds_from, stsds}
 use Rattle.movie.specs.Entries.{entries_in, entries}
 use Rattle.movie.specs.Named.{list_in, InTrack, NamedAs}
-use Rattle.movie.specs.declared.entry.Named.TheVariants.{Missing}
 use Rattle.layout.specs.declared.gather.Slot.{Slot}
 use Rattle.layout.specs.declared.entries.Lists.{Lists}
 use Rattle.layout.specs.Entries.{list_slot, ListAt, ListsAt}
@@ -51,7 +51,7 @@ module _ {xs : List ℕ} {i t left : ℕ} (k : Left xs i t left) where
           is = λ p. k.is p ∙ ap (drop left) (from_here xs h p) ∙ drop-append-le left _ _ (omega (arith, long xs h p));
         }
 
-  pub left_end : tracks xs ≤ t → NamedAs xs i Missing
+  pub left_end : tracks xs ≤ t → NamedAs xs i None
   unfolding NamedAs entries stsds entries_in
   left_end h =
       let p = start_in MOOV 0 (boxes xs) in

@@ -10,9 +10,8 @@ ghost use Rattle.layout.specs.Entries.{list_slot, ListAt, ListsAt};
 use crate::every::Tracks;
 use crate::gather::Slot;
 use crate::{every, gather};
-use boxes::seek::Seen;
 use boxes::{seek, walk};
-use movie::entry::{EntryAt, Named};
+use movie::entry::EntryAt;
 
 // How many tracks there are, and of the first four what stands past the front of their `stsd`s, with the count of entries in it.
 #[derive(Clone, Copy)]
@@ -77,23 +76,23 @@ pub fn list_slot(l: Lists, t: usize) -> Slot
 }
 
 // Entry n of the list of track t, both from 0.
-fn entry_in(file: &[u8], s: Slot, t: usize, n: usize) -> Named
+fn entry_in(file: &[u8], s: Slot, t: usize, n: usize) -> Option<EntryAt>
     requires { ListAt file.now t s × (n < s.n) × (t < 4) × (length file.now ≤ LONGEST) }
     ensures { PlacedAs file.now t n result }
 {
     match seek::nth(gather::bytes(file, s), seek::ANY, n) {
-        Seen::At(b) => Named::At(EntryAt {
+        Some(b) => Some(EntryAt {
             track: t + 1,
             nth: n,
             place: s.from + b.at,
             span: b.span,
         }),
-        Seen::Missing => Named::Missing,
+        None => None,
     }
 }
 
 // Entry i, from 0 and in file order.
-pub fn entry(file: &[u8], l: Lists, i: usize) -> Named
+pub fn entry(file: &[u8], l: Lists, i: usize) -> Option<EntryAt>
     requires { ListsAt file.now l × (tracks_of file.now ≤ 4) × (length file.now ≤ LONGEST) }
     ensures { NamedAs file.now i result }
 {
@@ -108,7 +107,7 @@ pub fn entry(file: &[u8], l: Lists, i: usize) -> Named
         left -= s.n;
         t += 1;
     }
-    Named::Missing
+    None
 }
 
 // How many entries the file has.

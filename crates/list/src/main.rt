@@ -1,7 +1,6 @@
 // Prints the listing of a file. The file is named by the first argument, or is standard input.
 #![tactic(auto)]
 
-use rule::Answer;
 use std::process::ExitCode;
 use tidy_files::input;
 use tidy_words::tell::{Failure, Outcome, To};
@@ -25,10 +24,8 @@ fn list(rt: HostRuntime, file: &[u8]) -> Outcome {
         return print(rt, b"too long here\n");
     }
     let mut text = [0u8; listing::ROOM];
-    match listing::listing(file, &mut text) {
-        Answer::Done(n) => print(rt, lend::front(&text, n)),
-        Answer::Refused(_, _) => Err(no_room(rt)),
-    }
+    let n = listing::listing(file, &mut text).map_err(|_| no_room(rt))?;
+    print(rt, lend::front(&text, n))
 }
 
 // One byte more than the room tells a longer file.

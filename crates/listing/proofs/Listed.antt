@@ -1,4 +1,5 @@
 -- Laws of the lines of a file. Assumes nothing.
+use Rattle.std.specs.Prelude.{Option, Some, None}
 use Prim.Native.Nat.{ℕ, ◌+◌, ◌-◌, ◌≤◌, ◌<◌}
 use native.Mathlib.Omega.{arith}
 use native.Mathlib.Numerals.{add-one}
@@ -15,8 +16,6 @@ use Rattle.wire.proofs.Resting.{rest_all, rest_more, rest_none}
 use Rattle.sample_tables.specs.declared.time.MediaTicks.{MediaTicks}
 use Rattle.sample_tables.specs.Times.{media_ticks}
 use Rattle.movie.specs.declared.entry.EntryAt.{EntryAt}
-use Rattle.movie.specs.declared.entry.Named.{Named}
-use Rattle.movie.specs.declared.entry.Named.TheVariants.{At, Missing}
 use Rattle.movie.specs.Movie.{tracks, track, sample_table, handler, scale}
 use Rattle.movie.specs.Entries.{Entry, entries}
 use Rattle.movie.specs.Named.{entry_as, NamedAs}
@@ -73,12 +72,12 @@ found_line xs i track place span h e f p q =
     let l : length (take span (drop place xs)) ≡ span = length-take span (drop place xs) ∙ rw length-drop (omega arith) in
     pen_is (rw (f, e, z, l)) (pen_then p q)
 
-module _ (xs : List ℕ) (i : ℕ) {r : Named} (s : NamedAs xs i r) {out : List ℕ} {at : ℕ} where
-  pub entry_found : (e : EntryAt) → r ≡ At e → {after : List ℕ} {n : ℕ} → Put (entry_line (i + 1) (entry_as xs e)) out at n after → Put (first_line (i + 1) (drop i (entries xs))) out at n after
+module _ (xs : List ℕ) (i : ℕ) {r : Option EntryAt} (s : NamedAs xs i r) {out : List ℕ} {at : ℕ} where
+  pub entry_found : (e : EntryAt) → r ≡ Some e → {after : List ℕ} {n : ℕ} → Put (entry_line (i + 1) (entry_as xs e)) out at n after → Put (first_line (i + 1) (drop i (entries xs))) out at n after
   unfolding first_line
   entry_found e f p = pen_is (sym (rw (named_at xs i r s e f).is)) p
 
-  pub entry_missing : r ≡ Missing → Put (first_line (i + 1) (drop i (entries xs))) out at at out
+  pub entry_missing : r ≡ None → Put (first_line (i + 1) (drop i (entries xs))) out at at out
   unfolding first_line
   entry_missing f = pen_is (sym (rw (drop_of_length-le (entries xs) {i = i} (named_none xs i r s f)))) (pen_none out at)
 

@@ -1,18 +1,17 @@
 -- The printed listing of a file.
-use Rattle.std.specs.Prelude.{ℕ, zero, suc, ◌+◌, List, [], ◌∷◌, ◌++◌}
+use Rattle.std.specs.Prelude.{ℕ, zero, suc, ◌+◌, List, [], ◌∷◌, ◌++◌, Err}
 use Rattle.wire.specs.Text.{text}
 use Rattle.wire.specs.Clauses.{one_if}
 use Rattle.codes.specs.Codes.{GP4, GP5, GP6, GR6}
 use Rattle.movie.specs.Movie.{tracks, track, handler, scale}
 use Rattle.movie.specs.Entries.{Entry, entries}
-use Rattle.rule.specs.Results.{Result}
-use Rattle.rule.specs.Results.Result.{gives}
-use Rattle.judge.specs.declared.Judgement.{Judgement}
-use Rattle.judge.specs.declared.Judgement.TheVariants.{Accepted, Refused}
-use Rattle.judge.specs.Judgement.{judged}
+use Rattle.rule.specs.Results.{ToWrite}
+use Rattle.rule.specs.Results.ToWrite.{gives}
+use Rattle.judge.specs.Judgement.{judged, Judgement, Accepted}
 use Rattle.read_tracks.specs.Reads.{media_of}
 use Rattle.brands.specs.Brands.{brand_holds}
 use Rattle.listing.specs.Lines.{track_line, entry_line, brand_line, refused_line}
+use Rattle.rule.specs.Answers.{Refused}
 
 -- the line of track t, whose payload is b
 unfoldable pub line_of : ℕ → List ℕ → List ℕ
@@ -46,11 +45,11 @@ accepted_lines xs = text "file 0\n" ++ track_lines xs (tracks xs) ++ entry_lines
 
 unfoldable pub lines_for : Judgement → List ℕ → List ℕ
 lines_for Accepted xs = accepted_lines xs
-lines_for (Refused n p) xs = refused_line n p
+lines_for (Err e) xs = refused_line e.number e.place
 
 abbrev pub listing : List ℕ → List ℕ
 listing xs = lines_for (judged xs) xs
 
 -- a refused file has a listing too: only 25 is refused
-unfoldable pub listing_result : List ℕ → Result
+unfoldable pub listing_result : List ℕ → ToWrite
 listing_result xs = gives (listing xs)

@@ -5,31 +5,30 @@ mod line;
 mod lines;
 
 ghost use Rattle.rule.specs.Results.{Exact};
-ghost use Rattle.rule.specs.Results.Result.{gives};
+ghost use Rattle.rule.specs.Results.ToWrite.{gives};
 ghost use Rattle.layout.specs.Every.{TracksAt};
 ghost use Rattle.judge.specs.Acceptance.{Meets};
 ghost use Rattle.listing.specs.Lines.{refused_line};
 ghost use Rattle.listing.specs.Listing.{accepted_lines, listing_result};
 
 use brands::conditions;
-use judge::Judgement;
 use layout::entries;
 use layout::every::Tracks;
-use rule::Answer;
+use rule::{Answer, Refusal, refusals};
 use rule_lists::total;
 
 // Room for the listing of any file: the most that its writers promise to take.
 pub const ROOM: usize = lines::OTHERS + lines::ENTRY * total::MOST;
 
 // A refused file's line, whole or not at all: a run into no room says how long it is.
-fn list_refused(n: usize, p: usize, out: &mut [u8]) -> Answer
-    ensures { Exact (gives (refused_line n p)) out.old result out.new }
+fn list_refused(e: Refusal, out: &mut [u8]) -> Answer
+    ensures { Exact (gives (refused_line e.number e.place)) out.old result out.new }
 {
-    let m = line::put_refused(&mut out[0..0], n, p);
+    let m = line::put_refused(&mut out[0..0], e);
     if out.len() < m {
-        return Answer::Refused(25, 0);
+        return Err(refusals::NO_ROOM);
     }
-    Answer::Done(line::put_refused(out, n, p))
+    Ok(line::put_refused(out, e))
 }
 
 // An accepted file's lines, in the same way unless there is room for the most that they can take.
@@ -40,23 +39,21 @@ fn list_accepted(file: &[u8], e: Tracks, out: &mut [u8]) -> Answer
     let l = entries::lay(file, e);
     let o = conditions::asked(file, e, l);
     if lines::OTHERS + lines::ENTRY * entries::count(file, l) <= out.len() {
-        return Answer::Done(lines::put_accepted(out, file, e, l, o));
+        return Ok(lines::put_accepted(out, file, e, l, o));
     }
     let m = lines::put_accepted(&mut out[0..0], file, e, l, o);
     if out.len() < m {
-        return Answer::Refused(25, 0);
+        return Err(refusals::NO_ROOM);
     }
-    Answer::Done(lines::put_accepted(out, file, e, l, o))
+    Ok(lines::put_accepted(out, file, e, l, o))
 }
 
 // The listing of any file: only 25 is refused.
 pub fn listing(file: &[u8], out: &mut [u8]) -> Answer
     ensures { Exact (listing_result file.now) out.old result out.new }
 {
-    let j = judge::judge_tracks(file);
-    let answer = j.answer;
-    match answer {
-        Judgement::Accepted => list_accepted(file, j.tracks, out),
-        Judgement::Refused(n, p) => list_refused(n, p, out),
+    match judge::judge_tracks(file) {
+        Ok(tracks) => list_accepted(file, tracks, out),
+        Err(e) => list_refused(e, out),
     }
 }

@@ -5,6 +5,7 @@ ghost use Rattle.listing.specs.Lines.{handler_text, code_text, track_line, entry
 
 use decimal::put_labelled;
 use entry_heads::kind;
+use rule::Refusal;
 use sample_tables::time::MediaTicks;
 use wire::pen;
 
@@ -99,10 +100,10 @@ pub fn put_brand(out: &mut [u8], at: usize, code: usize, k: usize) -> usize
 }
 
 // A refused file's line.
-pub fn put_refused(out: &mut [u8], n: usize, p: usize) -> usize
-    ensures { Put (refused_line n p) out.old 0 result out.new }
+pub fn put_refused(out: &mut [u8], e: Refusal) -> usize
+    ensures { Put (refused_line e.number e.place) out.old 0 result out.new }
 {
-    let a = put_labelled(out, 0, b"file ", n);
-    let b = put_labelled(out, a, b" at ", p);
+    let a = put_labelled(out, 0, b"file ", e.number);
+    let b = put_labelled(out, a, b" at ", e.place);
     pen::put_part(out, b, b"\n")
 }

@@ -15,7 +15,6 @@ use brands::conditions::Own;
 use layout::entries::Lists;
 use layout::every::Tracks;
 use layout::{entries, every, gather};
-use movie::entry::Named;
 use wire::{number, pen};
 
 // The most bytes that the line of an entry takes, and that all other lines of a file take.
@@ -75,8 +74,8 @@ fn put_entry(out: &mut [u8], at: usize, file: &[u8], l: Lists, i: usize) -> usiz
 {
     let number = i + 1;
     match entries::entry(file, l, i) {
-        Named::At(e) => put_found(out, at, file, number, e.track, e.place, e.span),
-        Named::Missing => at,
+        Some(e) => put_found(out, at, file, number, e.track, e.place, e.span),
+        None => at,
     }
 }
 

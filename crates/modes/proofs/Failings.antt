@@ -6,13 +6,13 @@ use mathlib.Core.List.{List, [], ◌∷◌}
 use lib.ListN.{length, drop, set, length-drop}
 use lib.Seq.{drop-length, sets-eq}
 use Rattle.wire.proofs.Tests.{eq_yea, eq_nay}
-use Rattle.rule.specs.declared.Answer.TheVariants.{Done, Refused}
 use Rattle.rule.specs.Results.{Exact}
-use Rattle.rule.specs.Results.Result.{gives}
+use Rattle.rule.specs.Results.ToWrite.{gives}
 use Rattle.rule.proofs.Results.{exact_short, exact_wrote}
 use Rattle.sample_walk.specs.declared.walk.Sample.{Sample}
 use Rattle.modes.specs.declared.Failing.{Failing}
 use Rattle.modes.specs.Track.{failing_from, failing_numbers}
+use Rattle.rule.specs.Answers.{Done, Refused}
 
 -- ---- the loop: no sample before number n fails
 

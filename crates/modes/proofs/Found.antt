@@ -11,12 +11,12 @@ use Rattle.movie.specs.Named.{list_in}
 use Rattle.layout.specs.Slots.{slot_in}
 use Rattle.layout.specs.Track.{Laid}
 use Rattle.layout.specs.declared.track.Track.{Track}
-use Rattle.rule.specs.declared.Answer.{Answer}
 use Rattle.rule.specs.Results.{Exact}
-use Rattle.rule.specs.Results.Result.{gives}
+use Rattle.rule.specs.Results.ToWrite.{gives}
 use Rattle.sample_walk.specs.Samples.{samples_at}
 use Rattle.modes.specs.declared.Failing.{Failing}
 use Rattle.modes.specs.Track.{speech_only, why_of, failing_from, failing_in, failing_numbers}
+use Rattle.rule.specs.Answers.{Answer}
 
 pub laid_list : {xs b : List ℕ} {k : Track} → Laid xs b k → {stsd list : List ℕ} → stsd ≡ slot_in xs k.stsd → list ≡ drop FRONT stsd → list ≡ list_in b
 unfolding list_in

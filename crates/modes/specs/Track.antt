@@ -9,7 +9,7 @@ use Rattle.boxes.specs.Seek.{by_number}
 use Rattle.movie.specs.Named.{list_in}
 use Rattle.mdat.specs.Samples.{sample_bytes}
 use Rattle.rule.specs.Rule.{all_list}
-use Rattle.rule.specs.Results.{Result}
+use Rattle.rule.specs.Results.{ToWrite}
 use Rattle.judge.specs.Calls.{result_on}
 use Rattle.read_tracks.specs.Reads.{is_track, track_body}
 use Rattle.sample_walk.specs.declared.walk.Sample.{Sample}
@@ -49,6 +49,6 @@ failing_numbers f = if_eq f.why 0 [] (f.number ∷ f.why ∷ [])
 
 -- ---- the call: 20, 25
 
-unfoldable pub modes_result : List ℕ → ℕ → Result
+unfoldable pub modes_result : List ℕ → ℕ → ToWrite
 modes_result xs t =
     result_on xs ((20, is_track xs t) ∷ (20, speech_only (boxes (list_in (track_body xs t)))) ∷ []) (failing_numbers (failing_in xs (track_body xs t)))

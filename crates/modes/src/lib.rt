@@ -7,7 +7,7 @@ mod speech;
 ghost use Rattle.std.specs.Prelude.{◌≡◌, [], ◌∷◌, ◌≤◌};
 ghost use Rattle.boxes.specs.Boxes.{boxes};
 ghost use Rattle.rule.specs.Results.{asked, Exact};
-ghost use Rattle.rule.specs.Results.Result.{gives};
+ghost use Rattle.rule.specs.Results.ToWrite.{gives};
 ghost use Rattle.judge.specs.Acceptance.{Meets};
 ghost use Rattle.movie.specs.Named.{list_in};
 ghost use Rattle.read_tracks.specs.Reads.{is_track, track_body};
@@ -16,10 +16,8 @@ ghost use Rattle.sample_walk.specs.Walks.{Sampled};
 ghost use Rattle.modes.specs.Track.{speech_only, why_of, failing_from, failing_numbers, failing_in, modes_result};
 
 use boxes::walk;
-use judge::Judgement;
 use layout::gather;
-use read_tracks::NumberedTrack;
-use rule::Answer;
+use rule::{Answer, refusals};
 use sample_tables::size;
 use sample_walk::walk::{Sample, SampleWalk};
 use wire::lend;
@@ -68,14 +66,14 @@ fn put(f: Failing, out: &mut [u64]) -> Answer
     ensures { Exact (gives (failing_numbers f)) out.old result out.new }
 {
     if f.why == 0 {
-        return Answer::Done(0);
+        return Ok(0);
     }
     if out.len() < 2 {
-        return Answer::Refused(25, 0);
+        return Err(refusals::NO_ROOM);
     }
     out[0] = f.number as u64;
     out[1] = f.why as u64;
-    Answer::Done(2)
+    Ok(2)
 }
 
 // Of a file that is accepted.
@@ -83,35 +81,31 @@ fn modes_in(file: &[u8], track: usize, out: &mut [u64]) -> Answer
     requires { Meets file.now }
     ensures { Exact (asked ((20, is_track file.now track) ∷ (20, speech_only (boxes (list_in (track_body file.now track)))) ∷ []) (gives (failing_numbers (failing_in file.now (track_body file.now track))))) out.old result out.new }
 {
-    match read_tracks::numbered_track(file, track) {
-        NumberedTrack::At(k) => {
-            let stsd = k.stsd;
-            let stsc = k.stsc;
-            let stsz = k.stsz;
-            let stco = k.stco;
-            let list = lend::rest(gather::bytes(file, stsd), walk::FRONT);
-            if speech::only(list) == 0 {
-                return Answer::Refused(20, 0);
-            }
-            let f = first_failing(
-                file,
-                list,
-                gather::bytes(file, stsc),
-                gather::bytes(file, stsz),
-                gather::bytes(file, stco),
-            );
-            put(f, out)
-        }
-        NumberedTrack::Missing => Answer::Refused(20, 0),
+    let Some(k) = read_tracks::numbered_track(file, track) else {
+        return Err(refusals::NO_SUCH);
+    };
+    let stsd = k.stsd;
+    let stsc = k.stsc;
+    let stsz = k.stsz;
+    let stco = k.stco;
+    let list = lend::rest(gather::bytes(file, stsd), walk::FRONT);
+    if speech::only(list) == 0 {
+        return Err(refusals::NO_SUCH);
     }
+    let f = first_failing(
+        file,
+        list,
+        gather::bytes(file, stsc),
+        gather::bytes(file, stsz),
+        gather::bytes(file, stco),
+    );
+    put(f, out)
 }
 
 // The first sample of a track of speech that fails, and why.
 pub fn modes(file: &[u8], track: usize, out: &mut [u64]) -> Answer
     ensures { Exact (modes_result file.now track) out.old result out.new }
 {
-    match judge::judge(file) {
-        Judgement::Accepted => modes_in(file, track, out),
-        Judgement::Refused(n, p) => Answer::Refused(n, p),
-    }
+    judge::judge(file)?;
+    modes_in(file, track, out)
 }

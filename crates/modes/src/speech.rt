@@ -6,7 +6,6 @@ ghost use Rattle.modes.specs.Sample.{codec_of, speech_of};
 ghost use Rattle.modes.specs.Track.{entry_bytes, speech_only};
 
 use boxes::seek;
-use boxes::seek::Seen;
 use entry_heads::kind;
 use frames::codec::Codec;
 use wire::number;
@@ -56,11 +55,11 @@ pub fn described(list: &[u8], n: usize) -> Speech
     ensures { result ≡ speech_of (entry_bytes (boxes list.now) n) }
 {
     match seek::nth(list, seek::ANY, n) {
-        Seen::At(b) => {
+        Some(b) => {
             let from = b.at;
             let to = b.at + b.span;
             read(&list[from..to])
         }
-        Seen::Missing => read(&list[0..0]),
+        None => read(&list[0..0]),
     }
 }

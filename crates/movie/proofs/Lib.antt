@@ -7,3 +7,4 @@ pub mod Asking
 pub mod Spots
 pub mod Stsds
 pub mod Kept
+pub mod SameSpot

@@ -1,4 +1,5 @@
 -- The entry of a number in a track, in the file. Assumes nothing.
+use Rattle.std.specs.Prelude.{Option, Some, None}
 use Prim.Native.Nat.{ℕ, ◌+◌, ◌<◌}
 use native.Mathlib.Omega.{arith}
 use mathlib.Core.Path.{◌≡◌, sym, ap, ◌∙◌}
@@ -16,8 +17,6 @@ use Rattle.boxes.specs.Seek.{ANY, find, start_in, Cut}
 use Rattle.boxes.proofs.Lying.{Lies, bytes_lies, lies_in, lies_drop, lies_found}
 use Rattle.boxes.proofs.Cutting.{length_box, lies_box}
 use Rattle.movie.specs.declared.entry.EntryAt.{EntryAt}
-use Rattle.movie.specs.declared.entry.Named.{Named}
-use Rattle.movie.specs.declared.entry.Named.TheVariants.{At, Missing}
 use Rattle.movie.specs.Ways.{to_stsd, follow, start_along}
 use Rattle.movie.specs.Movie.{movie, track}
 use Rattle.movie.specs.Stsds.{stsds}
@@ -88,7 +87,7 @@ module _ (xs : List ℕ) (v : Bytes xs) {i t n : ℕ} (s : InTrack (find MOOV (b
         last = omega (arith, p.track, s.some);
       }
 
-  pub named_in : (r : Named) → PlacedAs xs t n r → NamedAs xs i r
+  pub named_in : (r : Option EntryAt) → PlacedAs xs t n r → NamedAs xs i r
   unfolding track PlacedAs NamedAs
-  named_in (At e) p = entry_is p
-  named_in Missing p = absurd (omega (arith, s.few))
+  named_in (Some e) p = entry_is p
+  named_in None p = absurd (omega (arith, s.few))

@@ -1,4 +1,5 @@
 -- The spot of an entry as a function, by the walk over the boxes of `moov`; and its bytes. Assumes nothing.
+use Rattle.std.specs.Prelude.{Option, None}
 use Prim.Native.Nat.{ℕ, zero, suc, ◌+◌, ◌-◌, ◌≤◌, ◌<◌}
 use native.Mathlib.Omega.{arith}
 use mathlib.Core.Path.{◌≡◌, refl, sym, ap, ◌∙◌}
@@ -16,10 +17,9 @@ use Rattle.boxes.specs.Seek.{meant}
 use Rattle.boxes.proofs.Seeking.{ran_next}
 use Rattle.boxes.proofs.Meaning.{meant_or}
 use Rattle.movie.specs.declared.entry.Spot.{Spot}
-use Rattle.movie.specs.declared.entry.Spot.TheVariants.{In, Past}
 use Rattle.movie.specs.Stsds.{stsd_of, stsds_from}
 use Rattle.movie.specs.Entries.{Entry, entries_of}
-use Rattle.movie.specs.Named.{held, SpotAs, spot_in, bytes_at}
+use Rattle.movie.specs.Named.{held, SpotAs, spot_in, bytes_at, In}
 use Rattle.movie.proofs.Boxed.{held_hit, stsds_hit, held_miss, stsds_miss}
 use Rattle.movie.proofs.Counting.{length_of}
 use Rattle.movie.proofs.Spotting.{Gone, gone_none, gone_more, gone_in, gone_past}
@@ -62,7 +62,7 @@ pub spotted_none : (ys : List ℕ) (i : ℕ) → Spotted ys i 0 i 0
 spotted_none ys i = record { gone = gone_none ys i; spot = λ p. let z : p + 0 ≡ p = omega arith in rw z }
 
 -- a spot that is told is the one of entry i, wherever those boxes start
-abbrev SpotIs : List ℕ → ℕ → Spot → Type 0
+abbrev SpotIs : List ℕ → ℕ → Option Spot → Type 0
 SpotIs ys i r = SpotAs ys i r × ((p : ℕ) → r ≡ spot_in (stsds_from 0 (boxes ys) p) i)
 
 module _ {ys : List ℕ} {i t left at : ℕ} (g : Spotted ys i t left at) where
@@ -77,7 +77,7 @@ module _ {ys : List ℕ} {i t left at : ℕ} (g : Spotted ys i t left at) where
         let k : n ≡ held b.code (payload ys b) = rw f at e in
         (gone_in g.gone v s f e h, λ p. sym (g.spot p ∙ rw s.list (spot_in_lem t (box_at ys b) (boxes (drop w.at ys)) (p + at) left (omega arith))))
 
-  pub spotted_past : Over ys at → SpotIs ys i Past
+  pub spotted_past : Over ys at → SpotIs ys i None
   unfolding spot_in stsds_from
   spotted_past o = (gone_past g.gone o, λ p. sym (g.spot p ∙ rw o.list))
 

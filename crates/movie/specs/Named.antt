@@ -1,15 +1,12 @@
 -- An entry by its number, from 0 and in file order.
-use Rattle.std.specs.Prelude.{ℕ, ◌+◌, ◌-◌, ◌≤◌, ◌<◌, ◌≡◌, List, [], ◌∷◌, ◌++◌, length, take, drop}
+use Rattle.std.specs.Prelude.{ℕ, ◌+◌, ◌-◌, ◌≤◌, ◌<◌, ◌≡◌, List, [], ◌∷◌, ◌++◌, length, take, drop, Option, Some, None}
 use Rattle.wire.specs.Tests.{if_eq, if_lt}
 use Rattle.codes.specs.Codes.{MOOV, TRAK}
 use Rattle.boxes.specs.declared.walk.BoxAt.{BoxAt}
 use Rattle.boxes.specs.Boxes.{boxes, FRONT}
 use Rattle.boxes.specs.Seek.{ANY, count, by_number, nth as nth_in, start_in, Cut}
 use Rattle.movie.specs.declared.entry.EntryAt.{EntryAt}
-use Rattle.movie.specs.declared.entry.Named.{Named}
-use Rattle.movie.specs.declared.entry.Named.TheVariants.{At, Missing}
 use Rattle.movie.specs.declared.entry.Spot.{Spot}
-use Rattle.movie.specs.declared.entry.Spot.TheVariants.{In, Past}
 use Rattle.movie.specs.Ways.{to_stsd, follow}
 use Rattle.movie.specs.Movie.{movie, tracks, track as track_of}
 use Rattle.movie.specs.Stsds.{Stsd, stsd_of, stsds_from}
@@ -38,9 +35,13 @@ pub record InTrack (ys : List ℕ) (i t n : ℕ) : Type 0 where
   pub rest : ℕ → List Entry
   pub is : (p : ℕ) → drop i (entries_in (stsds_from 0 (boxes ys) p)) ≡ drop n (entries_of (stsd_of (t + 1) (nth_in TRAK t (boxes ys)) (p + start_in TRAK t (boxes ys)))) ++ rest p
 
-abbrev pub SpotAs : List ℕ → ℕ → Spot → Type 0
-SpotAs ys i (In t n) = InTrack ys i t n
-SpotAs ys i Past = (p : ℕ) → length (entries_in (stsds_from 0 (boxes ys) p)) ≤ i
+-- track t and number n there
+abbrev pub In : ℕ → ℕ → Option Spot
+In t n = Some (record { track = t; nth = n })
+
+abbrev pub SpotAs : List ℕ → ℕ → Option Spot → Type 0
+SpotAs ys i (Some s) = InTrack ys i s.track s.nth
+SpotAs ys i None = (p : ℕ) → length (entries_in (stsds_from 0 (boxes ys) p)) ≤ i
 
 -- what an answer says of an entry
 abbrev pub entry_as : List ℕ → EntryAt → Entry
@@ -55,9 +56,9 @@ pub record Placed (xs : List ℕ) (t n : ℕ) (e : EntryAt) : Type 0 where
   pub span : e.span ≡ box.span
   pub place : e.place ≡ list_start xs t + box.at
 
-unfoldable pub PlacedAs : List ℕ → ℕ → ℕ → Named → Type 0
-PlacedAs xs t n (At e) = Placed xs t n e
-PlacedAs xs t n Missing = count ANY (boxes (list_in (track_of xs t))) ≤ n
+unfoldable pub PlacedAs : List ℕ → ℕ → ℕ → Option EntryAt → Type 0
+PlacedAs xs t n (Some e) = Placed xs t n e
+PlacedAs xs t n None = count ANY (boxes (list_in (track_of xs t))) ≤ n
 
 -- it is entry i: those from number i on are it and those from i + 1 on
 pub record EntryIs (xs : List ℕ) (i : ℕ) (e : EntryAt) : Type 0 where
@@ -66,15 +67,15 @@ pub record EntryIs (xs : List ℕ) (i : ℕ) (e : EntryAt) : Type 0 where
   pub first : 1 ≤ e.track
   pub last : e.track ≤ tracks xs
 
-unfoldable pub NamedAs : List ℕ → ℕ → Named → Type 0
-NamedAs xs i (At e) = EntryIs xs i e
-NamedAs xs i Missing = length (entries xs) ≤ i
+unfoldable pub NamedAs : List ℕ → ℕ → Option EntryAt → Type 0
+NamedAs xs i (Some e) = EntryIs xs i e
+NamedAs xs i None = length (entries xs) ≤ i
 
 -- ---- the same as functions
 
 -- in which track the entry i of those `stsd`s is, and its number there, both from 0
-unfoldable pub spot_in : List Stsd → ℕ → Spot
-spot_in [] i = Past
+unfoldable pub spot_in : List Stsd → ℕ → Option Spot
+spot_in [] i = None
 spot_in (s ∷ l) i = if_lt i (length (entries_of s)) (In (s.track - 1) i) (spot_in l (i - length (entries_of s)))
 
 -- the bytes of entry i, and none where there is no such entry

@@ -8,7 +8,6 @@ ghost use Rattle.movie.specs.Stsds.{stsds_from};
 ghost use Rattle.movie.specs.Entries.{entries as entries_of_file};
 ghost use Rattle.movie.specs.Named.{list_in, held as held_by, list_start, SpotAs, PlacedAs, NamedAs, spot_in};
 
-use boxes::seek::Seen;
 use boxes::walk::{BoxAt, Step, Walk};
 use boxes::{seek, walk};
 use wire::{lend, number};
@@ -22,17 +21,11 @@ pub struct EntryAt {
     pub span: usize,
 }
 
-#[derive(Clone, Copy)]
-pub enum Named {
-    At(EntryAt),
-    Missing,
-}
-
 // A track and a number there, both from 0.
 #[derive(Clone, Copy)]
-pub enum Spot {
-    In(usize, usize),
-    Past,
+pub struct Spot {
+    pub track: usize,
+    pub nth: usize,
 }
 
 // The entries of a track: what stands past the front of its `stsd`.
@@ -86,7 +79,7 @@ fn one_track(code: usize) -> usize
 }
 
 // In which track of a `moov` the entry i is, and its number there.
-pub fn find_spot(moov: &[u8], i: usize) -> Spot
+pub fn find_spot(moov: &[u8], i: usize) -> Option<Spot>
     ensures { (SpotAs moov.now i result) × ((p : ℕ) → result ≡ spot_in (stsds_from 0 (boxes moov.now) p) i) }
 {
     let mut w = Walk { at: 0 };
@@ -97,17 +90,20 @@ pub fn find_spot(moov: &[u8], i: usize) -> Spot
             Step::Found(b, next) => {
                 let n = held(b.code, walk::body(moov, b));
                 if left < n {
-                    return Spot::In(t, left);
+                    return Some(Spot {
+                        track: t,
+                        nth: left,
+                    });
                 }
                 left = left - n;
                 t = t + one_track(b.code);
                 w = next;
             }
             Step::End => {
-                return Spot::Past;
+                return None;
             }
             Step::Broken(_) => {
-                return Spot::Past;
+                return None;
             }
         }
     }
@@ -124,28 +120,28 @@ fn list_start(file: &[u8], t: usize) -> usize
 }
 
 // Entry n of track t, both from 0.
-fn entry_of(file: &[u8], t: usize, n: usize) -> Named
+fn entry_of(file: &[u8], t: usize, n: usize) -> Option<EntryAt>
     requires { (length file.now ≤ LONGEST) × (t ≤ LONGEST) }
     ensures { PlacedAs file.now t n result }
 {
     match seek::nth(list(crate::track(file, t)), seek::ANY, n) {
-        Seen::At(b) => Named::At(EntryAt {
+        Some(b) => Some(EntryAt {
             track: t + 1,
             nth: n,
             place: list_start(file, t) + b.at,
             span: b.span,
         }),
-        Seen::Missing => Named::Missing,
+        None => None,
     }
 }
 
 // Entry i, from 0 and in file order.
-pub fn entry(file: &[u8], i: usize) -> Named
+pub fn entry(file: &[u8], i: usize) -> Option<EntryAt>
     requires { length file.now ≤ LONGEST }
     ensures { NamedAs file.now i result }
 {
     match find_spot(seek::payload(file, codes::MOOV, 0), i) {
-        Spot::In(t, n) => entry_of(file, t, n),
-        Spot::Past => Named::Missing,
+        Some(s) => entry_of(file, s.track, s.nth),
+        None => None,
     }
 }

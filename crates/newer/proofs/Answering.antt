@@ -16,13 +16,10 @@ use Rattle.clocks.specs.Clocks.{zone_fine}
 use Rattle.clocks.specs.Zones.{compared}
 use Rattle.clocks.proofs.Signed.{zone_found, zone_missing}
 use Rattle.clocks.proofs.Whole.{compared_is}
-use Rattle.judge.specs.declared.Judgement.{Judgement}
-use Rattle.judge.specs.declared.Judgement.TheVariants as judgement
-use Rattle.judge.specs.Judgement.{judged}
+use Rattle.judge.specs.Judgement.{judged, Judgement, Accepted}
 use Rattle.judge.specs.Calls.{when_accepted}
-use Rattle.newer.specs.declared.Outcome.{Outcome}
-use Rattle.newer.specs.declared.Outcome.TheVariants.{Refused}
-use Rattle.newer.specs.Newer.{modified, order_of, entry_in, entry_of, in_zones, newest_of}
+use Rattle.newer.specs.Newer.{modified, order_of, entry_in, entry_of, in_zones, newest_of, Outcome, RefusedIn}
+use Rattle.rule.specs.Answers.{Refused}
 
 -- the order that was found is that of the modification times, and the entry is looked up in the later file
 module _ (xs ys : List ℕ) (i : ℕ) (y z : Zone) {m n : ℕ} {o : Order} (e : m ≡ modified xs) (f : n ≡ modified ys) (g : o ≡ compared m y n z) where
@@ -39,11 +36,11 @@ module _ (xs ys : List ℕ) (i : ℕ) (y z : Zone) {m n : ℕ} {o : Order} (e : 
   order_later h q = rw (← found, h) (rw h at q)
 
 module _ (xs : List ℕ) (y : ℤ) (ys : List ℕ) (z : ℤ) (i : ℕ) where
-  pub zone_first : {w : Option Zone} → w ≡ clocks.zoned_of y → w ≡ None → Refused 0 22 0 ≡ in_zones xs y ys z i
+  pub zone_first : {w : Option Zone} → w ≡ clocks.zoned_of y → w ≡ None → RefusedIn 0 22 0 ≡ in_zones xs y ys z i
   unfolding in_zones
   zone_first e h = let q : false ≡ every (zone_fine y ∷ zone_fine z ∷ []) = fails 0 _ (zone_missing y e h) in rw (← q)
 
-  pub zone_second : {w : Option Zone} → w ≡ clocks.zoned_of z → w ≡ None → Refused 0 22 0 ≡ in_zones xs y ys z i
+  pub zone_second : {w : Option Zone} → w ≡ clocks.zoned_of z → w ≡ None → RefusedIn 0 22 0 ≡ in_zones xs y ys z i
   unfolding in_zones
   zone_second e h = let q : false ≡ every (zone_fine y ∷ zone_fine z ∷ []) = fails 1 _ (zone_missing z e h) in rw (← q)
 
@@ -57,15 +54,15 @@ module _ (xs : List ℕ) (y : ℤ) (ys : List ℕ) (z : ℤ) (i : ℕ) where
       q ∙ rw (← c, s.1, t.1, compared_is (modified xs) y (modified ys) z)
 
   module _ {j : Judgement} (e : j ≡ judged xs) where
-    pub file_first : {n p : ℕ} → j ≡ judgement.Refused n p → Refused 1 n p ≡ newest_of xs y ys z i
+    pub file_first : {n p : ℕ} → j ≡ Refused n p → RefusedIn 1 n p ≡ newest_of xs y ys z i
     unfolding newest_of when_accepted
     file_first h = rw (← e, h)
 
-    module _ (g : j ≡ judgement.Accepted) {k : Judgement} (f : k ≡ judged ys) where
-      pub file_second : {n p : ℕ} → k ≡ judgement.Refused n p → Refused 2 n p ≡ newest_of xs y ys z i
+    module _ (g : j ≡ Accepted) {k : Judgement} (f : k ≡ judged ys) where
+      pub file_second : {n p : ℕ} → k ≡ Refused n p → RefusedIn 2 n p ≡ newest_of xs y ys z i
       unfolding newest_of when_accepted
       file_second h = rw (← e, g, ← f, h)
 
-      pub file_both : k ≡ judgement.Accepted → {r : Outcome} → r ≡ in_zones xs y ys z i → r ≡ newest_of xs y ys z i
+      pub file_both : k ≡ Accepted → {r : Outcome} → r ≡ in_zones xs y ys z i → r ≡ newest_of xs y ys z i
       unfolding newest_of when_accepted
       file_both h q = rw (← e, g, ← f, h) q

@@ -6,9 +6,7 @@ use lib.ListN.{take, drop}
 use Rattle.wire.proofs.Tests.{eq_yea, eq_nay}
 use Rattle.clocks.specs.Clocks.{order_number}
 use Rattle.newer.specs.declared.Part.{Part}
-use Rattle.newer.specs.declared.Outcome.{Outcome}
-use Rattle.newer.specs.declared.Outcome.TheVariants.{Found, Refused}
-use Rattle.newer.specs.Newer.{told_by, part_of}
+use Rattle.newer.specs.Newer.{told_by, part_of, Outcome, Found, RefusedIn}
 
 module _ (xs ys : List ℕ) (w : Outcome) {o : Outcome} (e : o ≡ w) where
   module _ (f : Part) (g : o ≡ Found f) {a : List ℕ} {n : ℕ} (h : n ≡ order_number f.order) (m : a ≡ 0 ∷ f.file ∷ n ∷ []) where
@@ -23,6 +21,6 @@ module _ (xs ys : List ℕ) (w : Outcome) {o : Outcome} (e : o ≡ w) where
     unfolding part_of
     part_second h q = (q ∙ ap (λ (zs : List ℕ). take f.span (drop f.place zs)) (eq_nay f.file 1 xs ys ys h refl) ∙ ap (part_of xs ys) (sym g ∙ e), told_is)
 
-  pub part_none : {file n p : ℕ} {a : List ℕ} → o ≡ Refused file n p → a ≡ n ∷ file ∷ p ∷ [] → ([] ≡ part_of xs ys w) × (a ≡ told_by w)
+  pub part_none : {file n p : ℕ} {a : List ℕ} → o ≡ RefusedIn file n p → a ≡ n ∷ file ∷ p ∷ [] → ([] ≡ part_of xs ys w) × (a ≡ told_by w)
   unfolding part_of
   part_none g m = (ap (part_of xs ys) (sym g ∙ e), m ∙ ap told_by (sym g ∙ e))

@@ -4,14 +4,12 @@
 ghost use Rattle.std.specs.Prelude.{◌≡◌, [], ◌∷◌, ◌^◌, ◌≤◌, ◌<◌, length, take, drop};
 ghost use Rattle.boxes.specs.Containers.{LONGEST};
 ghost use Rattle.clocks.specs.Zones.{Near, compared as compared_of};
-ghost use Rattle.newer.specs.declared.Outcome.TheVariants.{Refused};
 ghost use Rattle.newer.specs.Newer.{modified as modified_of, entry_in, entry_of, in_zones, newest_of, told_by, part_of};
 
 use boxes::seek;
 use clocks::{Order, Zone};
-use judge::Judgement;
 use movie::entry;
-use movie::entry::Named;
+use rule::{Refusal, refusals};
 use wire::{lend, number};
 
 // What the first file is, and where the entry of the later one is: in file 1 or 2, at a place there, so long.
@@ -23,27 +21,24 @@ pub struct Part {
     pub span: usize,
 }
 
-// A refusal of 1 to 10 names the file, 1 or 2; any other has file 0.
-#[derive(Clone, Copy)]
-pub enum Outcome {
-    Found(Part),
-    Refused {
-        file: usize,
-        number: usize,
-        place: usize,
-    },
+// Why two files have no newer one: 1 to 10 name the file, 1 or 2; any other number has file 0.
+#[derive(Clone, Copy, Debug, PartialEq, Eq)]
+pub struct FileRefusal {
+    pub file: usize,
+    pub refusal: Refusal,
 }
 
-// A refusal that names no file.
-fn refused(number: usize) -> Outcome
-    ensures { result ≡ Refused 0 number 0 }
-{
-    Outcome::Refused {
-        file: 0,
-        number,
-        place: 0,
-    }
-}
+// No entry of that number.
+const NO_SUCH: FileRefusal = FileRefusal {
+    file: 0,
+    refusal: refusals::NO_SUCH,
+};
+
+// Minutes out of range.
+const BAD_TIME: FileRefusal = FileRefusal {
+    file: 0,
+    refusal: refusals::BAD_TIME,
+};
 
 // The modification time of a file.
 fn modified(file: &[u8]) -> usize
@@ -54,26 +49,26 @@ fn modified(file: &[u8]) -> usize
 }
 
 // Entry i of a file, from 1, with the order and which file it is.
-fn entry_in(file: &[u8], order: Order, which: usize, i: usize) -> Outcome
+fn entry_in(file: &[u8], order: Order, which: usize, i: usize) -> Result<Part, FileRefusal>
     requires { length file.now ≤ LONGEST }
     ensures { result ≡ entry_in order which file.now i }
 {
     if i == 0 {
-        return refused(20);
+        return Err(NO_SUCH);
     }
-    match entry::entry(file, i - 1) {
-        Named::At(e) => Outcome::Found(Part {
-            order,
-            file: which,
-            place: e.place,
-            span: e.span,
-        }),
-        Named::Missing => refused(20),
-    }
+    let Some(e) = entry::entry(file, i - 1) else {
+        return Err(NO_SUCH);
+    };
+    Ok(Part {
+        order,
+        file: which,
+        place: e.place,
+        span: e.span,
+    })
 }
 
 // Entry i of the later file, by two zones.
-fn compared(first: &[u8], y: Zone, second: &[u8], z: Zone, i: usize) -> Outcome
+fn compared(first: &[u8], y: Zone, second: &[u8], z: Zone, i: usize) -> Result<Part, FileRefusal>
     requires { (Near y) × (Near z) × (length first.now ≤ LONGEST) × (length second.now ≤ LONGEST) }
     ensures { result ≡ entry_of (compared_of (modified_of first.now) y (modified_of second.now) z) first.now second.now i }
 {
@@ -86,38 +81,30 @@ fn compared(first: &[u8], y: Zone, second: &[u8], z: Zone, i: usize) -> Outcome
 }
 
 // The same by minutes.
-fn zoned(first: &[u8], y: i64, second: &[u8], z: i64, i: usize) -> Outcome
+fn zoned(first: &[u8], y: i64, second: &[u8], z: i64, i: usize) -> Result<Part, FileRefusal>
     requires { (length first.now ≤ LONGEST) × (length second.now ≤ LONGEST) }
     ensures { result ≡ in_zones first.now y second.now z i }
 {
     match clocks::zone_of(y) {
         Some(a) => match clocks::zone_of(z) {
             Some(b) => compared(first, a, second, b, i),
-            None => refused(22),
+            None => Err(BAD_TIME),
         },
-        None => refused(22),
+        None => Err(BAD_TIME),
     }
 }
 
 // What the first of two files is, and where entry i of the later one is.
-pub fn newest(first: &[u8], y: i64, second: &[u8], z: i64, i: usize) -> Outcome
+pub fn newest(first: &[u8], y: i64, second: &[u8], z: i64, i: usize) -> Result<Part, FileRefusal>
     ensures { result ≡ newest_of first.now y second.now z i }
 {
-    match judge::judge(first) {
-        Judgement::Accepted => match judge::judge(second) {
-            Judgement::Accepted => zoned(first, y, second, z, i),
-            Judgement::Refused(number, place) => Outcome::Refused {
-                file: 2,
-                number,
-                place,
-            },
-        },
-        Judgement::Refused(number, place) => Outcome::Refused {
-            file: 1,
-            number,
-            place,
-        },
+    if let Err(refusal) = judge::judge(first) {
+        return Err(FileRefusal { file: 1, refusal });
     }
+    if let Err(refusal) = judge::judge(second) {
+        return Err(FileRefusal { file: 2, refusal });
+    }
+    zoned(first, y, second, z, i)
 }
 
 // So many bytes of a file from a place on, as far as it has them.
@@ -147,7 +134,7 @@ pub fn newer<'a>(
     ensures { (result.now ≡ part_of first.now second.now (newest_of first.now y second.now z i)) × (answer.new ≡ told_by (newest_of first.now y second.now z i)) }
 {
     match newest(first, y, second, z, i) {
-        Outcome::Found(f) => {
+        Ok(f) => {
             let order = f.order;
             tell(answer, 0, f.file, usize::from(order));
             if f.file == 1 {
@@ -155,12 +142,8 @@ pub fn newer<'a>(
             }
             cut(second, f.place, f.span)
         }
-        Outcome::Refused {
-            file,
-            number,
-            place,
-        } => {
-            tell(answer, number, file, place);
+        Err(e) => {
+            tell(answer, e.refusal.number, e.file, e.refusal.place);
             &first[0..0]
         }
     }

@@ -19,13 +19,13 @@ use Rattle.boxes.specs.Boxes.{boxes, after, total}
 use Rattle.boxes.specs.Containers.{FILE, LONGEST}
 use Rattle.boxes.proofs.Whole.{head_least}
 use Rattle.boxes.proofs.Placing.{total_is}
-use Rattle.rule.specs.declared.Answer.TheVariants.{Done}
 use Rattle.rule.specs.Results.{asked, length_fine, answer_in}
 use Rattle.rule_shape.specs.Two.{shut_in}
 use Rattle.outline.specs.Lines.{Line, prints, hex, code_printed, box_text, broken_text, printed}
 use Rattle.outline.specs.Lines.Line.{broken}
 use Rattle.outline.specs.Outline.{Opening, wherever, row_lines, list_lines, box_lines, rounds_at, outline, outline_result}
 use Rattle.outline.proofs.Printing.{printed_one, printed_append}
+use Rattle.rule.specs.Answers.{Done}
 
 -- ---- a line
 

@@ -5,8 +5,8 @@ use Rattle.codes.specs.Codes.{UDTA}
 use Rattle.boxes.specs.Box.{Box, head, size}
 use Rattle.boxes.specs.Boxes.{boxes, after, nothing}
 use Rattle.boxes.specs.Containers.{FILE, parent}
-use Rattle.rule.specs.Results.{Result, asked, length_fine}
-use Rattle.rule.specs.Results.Result.{gives}
+use Rattle.rule.specs.Results.{ToWrite, asked, length_fine}
+use Rattle.rule.specs.Results.ToWrite.{gives}
 use Rattle.rule_shape.specs.Two.{shut_in}
 use Rattle.outline.specs.Lines.{Line, printed}
 use Rattle.outline.specs.Lines.Line.{box, broken}
@@ -51,5 +51,5 @@ abbrev pub outline : List ℕ → List Line
 outline xs = list_lines wherever (rounds_at 1) FILE 1 0 xs
 
 -- "this works on refused files as well, but not on those of refusal 1"
-unfoldable pub outline_result : List ℕ → Result
+unfoldable pub outline_result : List ℕ → ToWrite
 outline_result xs = asked ((1, length_fine xs) ∷ []) (gives (printed (outline xs)))

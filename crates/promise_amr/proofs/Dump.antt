@@ -15,9 +15,8 @@ use Rattle.frames.specs.declared.codec.Codec.TheVariants.{Amr, Wideband}
 use Rattle.frames.specs.Frames.{frames, joined, rest}
 use Rattle.frames.proofs.Rests.{frames_whole}
 use Rattle.frames.proofs.Good.{frames_good}
-use Rattle.rule.specs.declared.Answer.TheVariants.{Done}
-use Rattle.rule.specs.Results.{Result, answer_in, left_in}
-use Rattle.rule.specs.Results.Result.{refuses}
+use Rattle.rule.specs.Results.{ToWrite, answer_in, left_in}
+use Rattle.rule.specs.Results.ToWrite.{refuses}
 use Rattle.rule.proofs.Results.{refused_not, asked_gave}
 use Rattle.from_amr.specs.File.{file_of}
 use Rattle.from_amr.specs.Dump.{magic, opens, without_magic, made_of, dump_of, from_amr}
@@ -27,10 +26,11 @@ use Rattle.promises.proofs.Runs.{demand}
 use Rattle.promises.proofs.OneAnswer.{One, one}
 use Rattle.promise_amr.specs.Made.{FromDump}
 use Rattle.promise_amr.proofs.Made.{made}
+use Rattle.rule.specs.Answers.{Done}
 
 module _ (xs : List ℕ) (v : Bytes xs) (out : List ℕ) (n : ℕ) where
   -- what a call that was done has left
-  abbrev Left : Result → Type 0
+  abbrev Left : ToWrite → Type 0
   Left r = answer_in r out ≡ Done n → FromDump xs (take n (left_in r out))
 
   module _ (k : Codec) (o : opens k xs ≡ true) where

@@ -10,8 +10,6 @@ use Rattle.wire.proofs.Numbers.{bytes_drop, bytes_take}
 use Rattle.boxes.specs.Boxes.{HEAD}
 use Rattle.frames.specs.declared.codec.Codec.{Codec}
 use Rattle.frames.specs.Frames.{joined}
-use Rattle.rule.specs.declared.Answer.{Answer}
-use Rattle.rule.specs.declared.Answer.TheVariants.{Done}
 use Rattle.rule.specs.Results.{answer_in, left_in, told_in}
 use Rattle.rule.proofs.Results.{asked_gave, one_report}
 use Rattle.salvage.specs.Unfinished.{size_field, behind_ftyp}
@@ -22,6 +20,7 @@ use Rattle.promises.specs.Demand.{Demand}
 use Rattle.promises.proofs.Runs.{demand}
 use Rattle.promise_amr.specs.Salvaged.{Salvaged}
 use Rattle.promise_amr.proofs.Made.{made}
+use Rattle.rule.specs.Answers.{Answer, Done}
 
 module _ (k : Codec) (xs : List ℕ) where
   payload_filled : Bytes xs → Bytes (payload_of xs)

@@ -12,15 +12,14 @@ use Rattle.entry_records.specs.Records.{read_of}
 use Rattle.frames.specs.declared.codec.Codec.{Codec}
 use Rattle.frames.specs.Frames.{frames, joined}
 use Rattle.frames.specs.Modes.{mode_set}
-use Rattle.rule.specs.declared.Answer.TheVariants.{Done}
-use Rattle.judge.specs.declared.Judgement.TheVariants.{Accepted}
-use Rattle.judge.specs.Judgement.{judged}
+use Rattle.judge.specs.Judgement.{judged, Accepted}
 use Rattle.judge.specs.Acceptance.{editable}
 use Rattle.brands.specs.Calls.{brand_answer}
 use Rattle.from_amr.specs.Boxes.{scale_by, entry_by}
 use Rattle.from_amr.specs.File.{ticks_of}
 use Rattle.from_amr.specs.Dump.{opens, without_magic}
 use Rattle.promise_kept.specs.Samples.{samples}
+use Rattle.rule.specs.Answers.{Done}
 
 -- its one entry stands where the paper's printed listing has it
 abbrev pub entry_of : Codec → List (List ℕ) → Entry

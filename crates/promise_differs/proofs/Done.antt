@@ -5,7 +5,6 @@ use mathlib.Core.List.{List}
 use Rattle.wire.specs.Numbers.{Bytes}
 use Rattle.boxes.specs.Box.{write}
 use Rattle.boxes.specs.Boxes.{boxes}
-use Rattle.rule.specs.declared.Answer.TheVariants.{Done}
 use Rattle.judge.specs.Acceptance.{Meets}
 use Rattle.edit_offsets.specs.Close.{closed}
 use Rattle.edit_move.specs.Moving.{moov_second, move_of}
@@ -16,6 +15,7 @@ use Rattle.promise_differs.proofs.Moving.{move_order, move_differs}
 use Rattle.promise_differs.proofs.Timing.{shift_differs}
 use Rattle.promise_differs.proofs.Edits.{replace_entry}
 use Rattle.promise_differs.proofs.Written.{shift_times}
+use Rattle.rule.specs.Answers.{Done}
 
 -- the boxes of the closed file in their new order, and then chunk offsets
 moves : (xs : List ℕ) → Bytes xs → Meets xs → Moves xs (move_of xs)

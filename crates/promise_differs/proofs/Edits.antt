@@ -1,5 +1,6 @@
 -- The end of demand 3, of each edit: "only the named fields, enclosing sizes, chunk offsets and, for a move, the box order
 -- differ". That of a move is `move_order` and `move_differs`, that of a shift `shift_differs`. Assumes nothing.
+use Rattle.std.specs.Prelude.{Option, Some, None}
 use Prim.Native.Nat.{ℕ, ◌-◌, ◌≤◌, ◌<◌}
 use native.Mathlib.Omega.{arith}
 use mathlib.Core.Path.{◌≡◌, refl, ◌∙◌}
@@ -11,10 +12,9 @@ use Rattle.wire.proofs.Tests.{lt_yea, lt_nay, lt_or}
 use Rattle.boxes.specs.Boxes.{boxes}
 use Rattle.boxes.specs.Containers.{LONGEST}
 use Rattle.movie.specs.declared.entry.Spot.{Spot}
-use Rattle.movie.specs.declared.entry.Spot.TheVariants.{In, Past}
 use Rattle.movie.specs.Stsds.{Stsd, stsds}
 use Rattle.movie.specs.Entries.{entries_of, entries_in, entries}
-use Rattle.movie.specs.Named.{spot_in}
+use Rattle.movie.specs.Named.{spot_in, In}
 use Rattle.release.specs.Releases.{release_of}
 use Rattle.entry_rules.specs.Decoders.{record_rule}
 use Rattle.judge.specs.Acceptance.{Meets}
@@ -34,11 +34,11 @@ use Rattle.promise_differs.proofs.OneEntry.{replaces_one}
 
 -- ---- a replacement
 
-in_not : (t n : ℕ) → In t n ≡ Past → ⊥
+in_not : (t n : ℕ) → In t n ≡ None → ⊥
 in_not t n e = let z : ◌≡◌ {A = ℕ} 0 1 = cc in omega arith
 
 -- an entry that is nowhere is past them all
-nowhere_past : (l : List Stsd) (i : ℕ) → spot_in l i ≡ Past → length (entries_in l) ≤ i
+nowhere_past : (l : List Stsd) (i : ℕ) → spot_in l i ≡ None → length (entries_in l) ≤ i
 unfolding spot_in entries_in
 nowhere_past [] i e = omega arith
 nowhere_past (s ∷ l) i e =
@@ -53,20 +53,20 @@ replace_differs xs i new w v m r h = go (spot_in (stsds xs) (i - 1)) refl (rw se
     few : length xs < 4294967296
     few = omega (arith, m.most)
 
-    go : (s : Spot) → spot_in (stsds xs) (i - 1) ≡ s → length (record_at s (kept_of xs i) new (closed xs)) ≤ LONGEST → Replaces xs i new (settled xs (record_at s (kept_of xs i) new (closed xs)))
-    go (In t n) e k =
-        let s : length (record_at (In t n) (kept_of xs i) new (closed xs)) < 4294967296 = omega arith in
-        let q = entry_in_lem xs i w m (record_first xs i (release_of (boxes xs)) (kind_at xs i) new refl r) t n e in
+    go : (s : Option Spot) → spot_in (stsds xs) (i - 1) ≡ s → length (record_at s (kept_of xs i) new (closed xs)) ≤ LONGEST → Replaces xs i new (settled xs (record_at s (kept_of xs i) new (closed xs)))
+    go (Some at) e k =
+        let s : length (record_at (In at.track at.nth) (kept_of xs i) new (closed xs)) < 4294967296 = omega arith in
+        let q = entry_in_lem xs i w m (record_first xs i (release_of (boxes xs)) (kind_at xs i) new refl r) at.track at.nth e in
         let shut = bytes_closed xs w few in
         record {
-          t = t;
-          n = n;
+          t = at.track;
+          n = at.nth;
           spot = e;
-          differs = closed_kin xs w few (OnlyRecord n (kept_of xs i) new) _ (record_differs xs t n (kept_of xs i) new (closed xs) v shut s);
-          there = rw (closed_track xs w few t) at (record_there xs t n (kept_of xs i) new (closed xs) v shut s (rw (closed_track xs w few t) (omega (arith, q.room))));
-          elsewhere = λ u z. rw (closed_track xs w few u) at (record_elsewhere xs t n (kept_of xs i) new (closed xs) v shut s u z);
+          differs = closed_kin xs w few (OnlyRecord at.nth (kept_of xs i) new) _ (record_differs xs at.track at.nth (kept_of xs i) new (closed xs) v shut s);
+          there = rw (closed_track xs w few at.track) at (record_there xs at.track at.nth (kept_of xs i) new (closed xs) v shut s (rw (closed_track xs w few at.track) (omega (arith, q.room))));
+          elsewhere = λ u z. rw (closed_track xs w few u) at (record_elsewhere xs at.track at.nth (kept_of xs i) new (closed xs) v shut s u z);
         }
-    go Past e k = absurd (past_none xs i (release_of (boxes xs)) new (nowhere_past (stsds xs) (i - 1) e) refl r)
+    go None e k = absurd (past_none xs i (release_of (boxes xs)) new (nowhere_past (stsds xs) (i - 1) e) refl r)
 
 -- so entry i has the given record, and every other entry has its bytes
 pub replace_entry : (xs : List ℕ) (i : ℕ) (new : List ℕ) → Bytes xs → Bytes new → Meets xs → record_rule (kind_at xs i) (release_of (boxes xs)) new ≡ true → length (replace_of xs i new) ≤ LONGEST

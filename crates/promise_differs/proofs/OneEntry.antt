@@ -7,14 +7,14 @@ use lib.ListN.{length}
 use Rattle.codes.specs.Codes.{STSD}
 use Rattle.wire.specs.Numbers.{Bytes}
 use Rattle.wire.proofs.Tests.{lt_yea, lt_nay, lt_or}
-use Rattle.movie.specs.declared.entry.Spot.TheVariants.{In}
 use Rattle.movie.specs.Movie.{track, sample_table}
 use Rattle.movie.specs.Stsds.{Stsd, stsds}
 use Rattle.movie.specs.Entries.{entries_of, entries_in, entries}
-use Rattle.movie.specs.Named.{spot_in}
+use Rattle.movie.specs.Named.{spot_in, In}
 use Rattle.movie.proofs.Stsds.{Each, each_stsd, Pairs}
 use Rattle.movie.proofs.Stsds.Each.{none, more}
 use Rattle.movie.proofs.Stsds.Pairs.{nil, cons}
+use Rattle.movie.proofs.SameSpot.{same_track, same_nth}
 use Rattle.judge.specs.Acceptance.{Meets}
 use Rattle.edit_replace.specs.Replace.{kind_at}
 use Rattle.promise_kept.proofs.Named.{entry_in_lem}
@@ -40,7 +40,7 @@ unfolding spot_in
 spot_past none j t n e = let z : ◌≡◌ {A = ℕ} 0 1 = cc in absurd (omega arith)
 spot_past (more {s = s} q h a) j t n e =
     lt_or j (length (entries_of s))
-    (λ k. let f : In (s.track - 1) j ≡ In t n = lt_yea _ _ _ _ _ k refl ∙ e in let g : s.track - 1 ≡ t = cc in omega arith)
+    (λ k. omega (arith, same_track (lt_yea _ _ _ _ _ k refl ∙ e)))
     (λ k. omega (arith, spot_past a (j - length (entries_of s)) t n (lt_nay _ _ _ _ _ k refl ∙ e)))
 
 module _ (xs : List ℕ) (i : ℕ) (new ys : List ℕ) (w : Bytes xs) (met : Meets xs) (first : 1 ≤ i) (small : length ys < 4294967296) (h : Replaces xs i new ys) where
@@ -65,8 +65,8 @@ module _ (xs : List ℕ) (i : ℕ) (new ys : List ℕ) (w : Bytes xs) (met : Mee
       one_here : In (s.track - 1) j ≡ In h.t h.n → (h.t < u + 1 → bare (entries_in m) ≡ bare (entries_in l)) → OneIn j (s ∷ l) (r ∷ m)
       unfolding entries_in
       one_here k a =
-          let y : s.track - 1 ≡ h.t = cc in
-          let z : j ≡ h.n = cc in
+          let y = same_track k in
+          let z = same_nth k in
           rw z (one_before (entries_in l) (entries_in m) (a (omega arith)) (its_track (omega arith)))
 
       -- past it

@@ -17,7 +17,6 @@ use Rattle.boxes.proofs.Numbered.{found_short}
 use Rattle.boxes.proofs.Lying.{bytes_lies, lies_found}
 use Rattle.boxes.proofs.Down.{end_of, end_by}
 use Rattle.boxes.proofs.OneOfPart.{nth_here, nth_other}
-use Rattle.movie.specs.declared.entry.Spot.TheVariants.{In}
 use Rattle.movie.specs.Ways.{to_stsd}
 use Rattle.movie.specs.Movie.{track, sample_table}
 use Rattle.edit_offsets.specs.Settle.{settled}
@@ -26,6 +25,7 @@ use Rattle.edit_replace.proofs.Changing.{stsd_end, by_stsd, stsd_way, to_entry, 
 use Rattle.promise_differs.specs.Differs.{TRACK, OnlyOffsets, with_record}
 use Rattle.promise_differs.proofs.Replacing.{follows}
 use Rattle.promise_differs.proofs.Tracking.{track_kin, same_stsd}
+use Rattle.movie.specs.Named.{In}
 
 -- of a file xs, whose chunk offsets were those of the file `from`
 module _ (from : List ℕ) (t n keep : ℕ) (new xs : List ℕ) (w : Bytes new) (v : Bytes xs) (s : length (record_at (In t n) keep new xs) < 4294967296) where

@@ -12,12 +12,12 @@ use Rattle.boxes.specs.Kin.{Kin}
 use Rattle.boxes.specs.Way.{edit_way}
 use Rattle.boxes.proofs.Kin.{Then, kin_then, kin_less}
 use Rattle.boxes.proofs.Down.{Once, end_of}
-use Rattle.movie.specs.declared.entry.Spot.TheVariants.{In}
 use Rattle.edit_offsets.specs.Settle.{settled}
 use Rattle.edit_replace.specs.Replace.{record_at}
 use Rattle.edit_replace.proofs.Changing.{stsd_way, record_bytes, record_kin}
 use Rattle.promise_differs.specs.Differs.{OnlyOffsets, with_record, OnlyRecord}
 use Rattle.promise_differs.proofs.Moving.{settled_differs}
+use Rattle.movie.specs.Named.{In}
 
 -- one `stsd` has another record, and then chunk offsets follow
 only_record : (n keep : ℕ) (new b₀ : List ℕ) (k c : ℕ) (b b'' : List ℕ) → Then (Once STBL STSD b₀ (with_record n keep new b₀)) OnlyOffsets k c b b'' → OnlyRecord n keep new k c b b''

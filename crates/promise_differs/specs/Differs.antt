@@ -7,10 +7,9 @@ use Rattle.boxes.specs.Containers.{FILE, DEPTH}
 use Rattle.boxes.specs.Seek.{ANY}
 use Rattle.boxes.specs.Kin.{Kin}
 use Rattle.boxes.specs.Way.{over_turn, tail_by}
-use Rattle.movie.specs.declared.entry.Spot.TheVariants.{In}
 use Rattle.movie.specs.Movie.{track, sample_table}
 use Rattle.movie.specs.Stsds.{stsds}
-use Rattle.movie.specs.Named.{spot_in}
+use Rattle.movie.specs.Named.{spot_in, In}
 use Rattle.entry_heads.specs.Heads.{head_size}
 use Rattle.edit_offsets.specs.Close.{closed}
 use Rattle.edit_move.specs.Moving.{moov_second}

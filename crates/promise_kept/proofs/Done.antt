@@ -12,7 +12,6 @@ use Rattle.boxes.specs.Containers.{LONGEST}
 use Rattle.clocks.specs.Clocks.{may_shift}
 use Rattle.release.specs.Releases.{release_of}
 use Rattle.entry_rules.specs.Decoders.{record_rule}
-use Rattle.rule.specs.declared.Answer.TheVariants.{Done}
 use Rattle.rule.specs.Results.{answer_in, left_in}
 use Rattle.judge.specs.Acceptance.{Meets}
 use Rattle.judge.proofs.Calls.{result_done}
@@ -22,6 +21,7 @@ use Rattle.edit_move.specs.Moving.{move_of, move_result}
 use Rattle.promise_kept.specs.Kept.{Keeps}
 use Rattle.promise_kept.specs.Edits.{Edit, shift, replace, move, Given, meaning, answer, left}
 use Rattle.promise_kept.proofs.Edits.{keeps_move, keeps_shift, keeps_replace}
+use Rattle.rule.specs.Answers.{Done}
 
 -- ---- a shift
 

@@ -1,5 +1,6 @@
 -- Demand 3 of each edit: what it makes of an accepted file is accepted, edits take it again, every track has the same samples, and
 -- every chunk offset follows its `mdat`. Assumes nothing.
+use Rattle.std.specs.Prelude.{Option, Some, None}
 use Prim.Native.Nat.{ℕ, ◌-◌, ◌≤◌}
 use mathlib.Core.Path.{◌≡◌, refl}
 use mathlib.Core.Bool.{true}
@@ -11,9 +12,8 @@ use Rattle.boxes.specs.Containers.{LONGEST}
 use Rattle.boxes.specs.Boxes.{HEAD, boxes}
 use Rattle.clocks.specs.Clocks.{shift_time}
 use Rattle.movie.specs.declared.entry.Spot.{Spot}
-use Rattle.movie.specs.declared.entry.Spot.TheVariants.{In, Past}
 use Rattle.movie.specs.Stsds.{stsds}
-use Rattle.movie.specs.Named.{spot_in}
+use Rattle.movie.specs.Named.{spot_in, In}
 use Rattle.entry_heads.specs.Heads.{head_size}
 use Rattle.release.specs.Releases.{release_of}
 use Rattle.entry_rules.specs.Decoders.{record_rule}
@@ -48,6 +48,6 @@ pub keeps_replace : (xs : List ℕ) (i : ℕ) (new : List ℕ) → Bytes xs → 
 unfolding replace_of record_replaced
 keeps_replace xs i new w v m r h = go (spot_in (stsds xs) (i - 1)) refl (rw settled_length at h)
   where
-    go : (s : Spot) → spot_in (stsds xs) (i - 1) ≡ s → length (record_at s (head_size (kind_at xs i) - HEAD) new (closed xs)) ≤ LONGEST → Keeps xs (settled xs (record_at s (head_size (kind_at xs i) - HEAD) new (closed xs)))
-    go (In t n) e k = keeps_stay xs _ w m (record_content xs i new w m r t n e v k)
-    go Past e k = keeps_stay xs (closed xs) w m (content_closed (release_of (boxes xs)) xs w m.most)
+    go : (s : Option Spot) → spot_in (stsds xs) (i - 1) ≡ s → length (record_at s (head_size (kind_at xs i) - HEAD) new (closed xs)) ≤ LONGEST → Keeps xs (settled xs (record_at s (head_size (kind_at xs i) - HEAD) new (closed xs)))
+    go (Some at) e k = keeps_stay xs _ w m (record_content xs i new w m r at.track at.nth e v k)
+    go None e k = keeps_stay xs (closed xs) w m (content_closed (release_of (boxes xs)) xs w m.most)

@@ -13,8 +13,7 @@ use Rattle.boxes.proofs.Whole.{head_least}
 use Rattle.boxes.proofs.Reading.{lengths, length_cons}
 use Rattle.mdat.proofs.Keeping.{tiled}
 use Rattle.release.specs.Releases.{release_of}
-use Rattle.judge.specs.declared.Judgement.TheVariants.{Accepted}
-use Rattle.judge.specs.Judgement.{judged}
+use Rattle.judge.specs.Judgement.{judged, Accepted}
 use Rattle.judge.specs.Acceptance.{Meets}
 use Rattle.judge.proofs.Exact.{meets_accepted}
 use Rattle.edit_offsets.specs.Settle.{settled}

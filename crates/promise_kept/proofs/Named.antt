@@ -15,12 +15,11 @@ use Rattle.boxes.proofs.Whole.{Good, head_least}
 use Rattle.boxes.proofs.Reading.{parts, lengths, length_cons, write_append}
 use Rattle.boxes.proofs.Every.{all_here}
 use Rattle.boxes.proofs.Tallying.{each_plain}
-use Rattle.movie.specs.declared.entry.Spot.TheVariants.{In}
 use Rattle.movie.specs.Ways.{follow}
 use Rattle.movie.specs.Movie.{track, sample_table}
 use Rattle.movie.specs.Stsds.{stsds}
 use Rattle.movie.specs.Entries.{entries}
-use Rattle.movie.specs.Named.{list_in, spot_in, bytes_at}
+use Rattle.movie.specs.Named.{list_in, spot_in, bytes_at, In}
 use Rattle.movie.proofs.Finding.{track_is, table_is}
 use Rattle.movie.proofs.Naming.{bytes_list}
 use Rattle.entry_heads.specs.Kinds.{kind_of}

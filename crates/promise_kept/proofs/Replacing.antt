@@ -18,10 +18,9 @@ use Rattle.boxes.proofs.Meaning.{meant_any}
 use Rattle.boxes.proofs.Down.{Once}
 use Rattle.boxes.proofs.OneOfList.{nth_by_lem}
 use Rattle.boxes.proofs.OneOfPart.{boxes_nth, after_nth}
-use Rattle.movie.specs.declared.entry.Spot.TheVariants.{In}
 use Rattle.movie.specs.Movie.{track, sample_table}
 use Rattle.movie.specs.Stsds.{stsds}
-use Rattle.movie.specs.Named.{spot_in}
+use Rattle.movie.specs.Named.{spot_in, In}
 use Rattle.entry_heads.specs.Heads.{head_size}
 use Rattle.release.specs.Releases.{release_of}
 use Rattle.entry_rules.specs.Decoders.{record_rule}

@@ -6,14 +6,14 @@ use mathlib.Core.List.{List, ◌∷◌}
 use lib.ListN.{length, drop}
 use Rattle.wire.proofs.Tests.{lt_yea, lt_nay, lt_or}
 use Rattle.boxes.specs.Boxes.{FRONT, boxes}
-use Rattle.movie.specs.declared.entry.Spot.TheVariants.{In}
 use Rattle.movie.specs.Movie.{track}
 use Rattle.movie.specs.Stsds.{Stsd, stsds}
 use Rattle.movie.specs.Entries.{entries_of, entries_in, entries}
-use Rattle.movie.specs.Named.{list_in, spot_in, bytes_at}
+use Rattle.movie.specs.Named.{list_in, spot_in, bytes_at, In}
 use Rattle.movie.proofs.Counting.{length_stsd}
 use Rattle.movie.proofs.Stsds.{Each, each_stsd}
 use Rattle.movie.proofs.Stsds.Each.{none, more}
+use Rattle.movie.proofs.SameSpot.{same_track, same_nth}
 use Rattle.promise_kept.proofs.Split.{Split, split_from, bytes_past}
 
 module _ (xs : List ℕ) where
@@ -30,8 +30,8 @@ module _ (xs : List ℕ) where
     split_here : i < length (entries_of s) → In (s.track - 1) i ≡ In t n → Split (boxes (list_in (track xs t))) n (bytes_at i (entries_in (s ∷ l)))
     unfolding entries_of entries_in
     split_here k e =
-        let a : s.track - 1 ≡ t = cc in
-        let b : i ≡ n = cc in
+        let a = same_track e in
+        let b = same_nth e in
         let f = split_from s.track (boxes (drop FRONT s.body)) (s.start + FRONT) i (entries_in l) (omega (arith, length_stsd s)) in
         rw (← a, ← b, ← h) f
 

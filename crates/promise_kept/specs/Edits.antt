@@ -1,11 +1,11 @@
 -- The edits of the paper: what each means, and what its call comes to.
 use Rattle.std.specs.Prelude.{ℕ, List, ℤ}
 use Rattle.wire.specs.Numbers.{Bytes}
-use Rattle.rule.specs.declared.Answer.{Answer}
-use Rattle.rule.specs.Results.{Result, answer_in, left_in}
+use Rattle.rule.specs.Results.{ToWrite, answer_in, left_in}
 use Rattle.edit_move.specs.Moving.{move_of, move_result}
 use Rattle.edit_replace.specs.Replace.{replace_of, replace_result}
 use Rattle.edit_shift.specs.Shift.{shift_of, shift_result}
+use Rattle.rule.specs.Answers.{Answer}
 
 -- an edit, with what it is given
 pub data Edit : Type 0 where
@@ -26,7 +26,7 @@ meaning (replace i new) xs = replace_of xs i new
 meaning move xs = move_of xs
 
 -- what its call comes to: the promises of the three calls, word for word
-abbrev pub result : Edit → List ℕ → Result
+abbrev pub result : Edit → List ℕ → ToWrite
 result (shift z) xs = shift_result z xs
 result (replace i new) xs = replace_result xs i new
 result move xs = move_result xs

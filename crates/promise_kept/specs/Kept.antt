@@ -4,8 +4,7 @@ use Rattle.wire.specs.Numbers.{Bytes}
 use Rattle.boxes.specs.Boxes.{boxes}
 use Rattle.movie.specs.Movie.{tracks}
 use Rattle.release.specs.Releases.{release_of}
-use Rattle.judge.specs.declared.Judgement.TheVariants.{Accepted}
-use Rattle.judge.specs.Judgement.{judged}
+use Rattle.judge.specs.Judgement.{judged, Accepted}
 use Rattle.judge.specs.Acceptance.{editable}
 use Rattle.promise_kept.specs.Samples.{samples}
 use Rattle.promise_kept.specs.Follows.{AllFollow}

@@ -10,9 +10,8 @@ use Rattle.wire.proofs.Clauses.{is_le_lem}
 use Rattle.movie.specs.Movie.{tracks}
 use Rattle.movie.specs.Stsds.{stsds, standing}
 use Rattle.movie.specs.Entries.{entries}
-use Rattle.rule.specs.declared.Answer.TheVariants.{Done}
 use Rattle.rule.specs.Results.{asked, answer_in, left_in}
-use Rattle.rule.specs.Results.Result.{gives, refuses}
+use Rattle.rule.specs.Results.ToWrite.{gives, refuses}
 use Rattle.judge.specs.Acceptance.{Meets}
 use Rattle.judge.proofs.Calls.{result_done}
 use Rattle.sheet.specs.Reader.{sheet_of, sheet_result}
@@ -20,6 +19,7 @@ use Rattle.sheet_table.specs.Form.{steps}
 use Rattle.sheet_table.specs.Table.{own_entries, table, track_table, table_result}
 use Rattle.sheet_table.proofs.Tracks.{formed_steps, has_track_lem, no_track}
 use Rattle.promise_trips.proofs.Returned.{own_formed, own_unsheet, own_none, own_some, table_returns, standing_short}
+use Rattle.rule.specs.Answers.{Done}
 
 module _ (xs : List ℕ) (m : Meets xs) (v : Bytes xs) (t : ℕ) where
   own_steps : steps 0 (entries xs) ≡ true

@@ -23,9 +23,8 @@ use Rattle.entry_records.specs.Records.{read_of}
 use Rattle.entry_records.proofs.Reading.{written_reads}
 use Rattle.entry_records.proofs.Rewriting.{read_writes}
 use Rattle.entry_records.proofs.Wider.{read_wider}
-use Rattle.rule.specs.declared.Answer.TheVariants.{Done}
 use Rattle.rule.specs.Results.{answer_in, left_in}
-use Rattle.rule.specs.Results.Result.{gives, refuses}
+use Rattle.rule.specs.Results.ToWrite.{gives, refuses}
 use Rattle.judge.specs.Acceptance.{Meets}
 use Rattle.sheet.specs.Sheet.{SLOTS, edition_for, sheet}
 use Rattle.sheet.specs.Reader.{sheet_of, sheet_result}
@@ -37,6 +36,7 @@ use Rattle.entry_fields.proofs.Returning.{written_back, read_back}
 use Rattle.promise_trips.proofs.Track.{stsd_form, at_place}
 use Rattle.promise_trips.proofs.Returned.{own_formed, own_unsheet, standing_box, standing_plain}
 use Rattle.promise_trips.proofs.Answered.{no_table, own_table, sheet_meets, sheet_taken}
+use Rattle.rule.specs.Answers.{Done}
 
 -- ---- a file that meets the rules
 

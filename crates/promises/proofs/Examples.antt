@@ -4,7 +4,6 @@
 use mathlib.Core.Path.{◌≡◌, refl}
 use mathlib.Core.Bool.{true}
 use mathlib.Core.List.{[], ◌∷◌, map}
-use Rattle.rule.specs.declared.Answer.TheVariants.{Done}
 use Rattle.wire.specs.Clauses.{either, every, is_eq, is_le, is_lt, one_if}
 use Rattle.wire.specs.Numbers.{bytes, bytes_on, word}
 use Rattle.wire.specs.Sums.{all_to, sum_to}
@@ -68,6 +67,7 @@ use Rattle.promises.specs.Example.{kinds, numbers}
 use Rattle.promises.specs.Forms.{other_forms}
 use Rattle.promises.specs.Marked.{marked_cases, all_marked}
 use Rattle.promises.specs.Worked.{media_first, edits, answers, files, expected}
+use Rattle.rule.specs.Answers.{Done}
 
 pub examples : (numbers kinds ≡ 0 ∷ 0 ∷ 0 ∷ 0 ∷ 0 ∷ 0 ∷ 0 ∷ 0 ∷ [])
     × (numbers other_forms ≡ 0 ∷ 0 ∷ 0 ∷ 0 ∷ 2 ∷ [])

@@ -4,8 +4,7 @@ use mathlib.Core.Path.{◌≡◌}
 use mathlib.Core.List.{List}
 use lib.IntN.{ℤ}
 use Rattle.release.specs.declared.Release.{Release}
-use Rattle.rule.specs.declared.Answer.{Answer}
-use Rattle.rule.specs.Results.{Result, Exact}
+use Rattle.rule.specs.Results.{ToWrite, Exact}
 use Rattle.rule.proofs.Results.{one_answer}
 use Rattle.read_tracks.specs.Reads.{track_result, offsets_result}
 use Rattle.read_samples.specs.Reads.{samples_result}
@@ -18,12 +17,13 @@ use Rattle.entry_fields.specs.Numbers.{read_result, write_result}
 use Rattle.edit_shift.specs.Shift.{shift_result}
 use Rattle.edit_replace.specs.Replace.{replace_result}
 use Rattle.edit_move.specs.Moving.{move_result}
+use Rattle.rule.specs.Answers.{Answer}
 
 -- what a call that comes to g may answer and leave is one answer and one room
-abbrev pub One : Result → Type 0
+abbrev pub One : ToWrite → Type 0
 One g = (out : List ℕ) (r s : Answer) (a b : List ℕ) → Exact g out r a → Exact g out s b → (r ≡ s) × (a ≡ b)
 
-pub one : (g : Result) → One g
+pub one : (g : ToWrite) → One g
 one g out r s a b x y = one_answer g out x y
 
 module _ (file : List ℕ) where

@@ -1,12 +1,10 @@
 -- Demand 3, proved. Assumes nothing.
+use Rattle.std.specs.Prelude.{Err}
 use Prim.Native.Nat.{ℕ}
 use mathlib.Core.Path.{◌≡◌, refl, ap, ◌∙◌}
 use mathlib.Core.List.{List}
 use Rattle.wire.specs.Numbers.{Bytes}
-use Rattle.rule.specs.declared.Answer.{Answer}
-use Rattle.rule.specs.declared.Answer.TheVariants.{Done, Refused}
-use Rattle.judge.specs.declared.Judgement.TheVariants.{Accepted}
-use Rattle.judge.specs.Judgement.{judged}
+use Rattle.judge.specs.Judgement.{judged, Accepted}
 use Rattle.promise_kept.specs.Kept.{Kept}
 use Rattle.promise_kept.specs.Edits.{Given, meaning, left}
 use Rattle.promise_kept.proofs.Keeping.{kept_refl, kept_then}
@@ -14,6 +12,7 @@ use Rattle.promise_kept.proofs.Done.{done_keeps, done_left}
 use Rattle.promise_differs.proofs.Done.{done_differs}
 use Rattle.promises.specs.Runs.{Lent, answer_of, go_on, goes_on, run, AllGiven, none, more}
 use Rattle.promises.specs.Demand.{Edited, Step, EveryStep, Demand}
+use Rattle.rule.specs.Answers.{Answer, Done, Refused}
 
 -- ---- one edit
 
@@ -36,7 +35,7 @@ module _ (l : Lent) (xs : List ℕ) where
       where
         go : (a : Answer) → answer_of l xs ≡ a → Step a l.edit xs (goes_on l xs)
         go (Done n) d = rw (next_means d) ((done_left l.edit xs l.out d).0, edited d)
-        go (Refused n p) d = goes d
+        go (Err e) d = goes d
 
     -- done or refused, it keeps an accepted file
     next_keeps : judged xs ≡ Accepted → Kept xs (goes_on l xs)
@@ -44,7 +43,7 @@ module _ (l : Lent) (xs : List ℕ) where
       where
         go : (a : Answer) → answer_of l xs ≡ a → Kept xs (goes_on l xs)
         go (Done n) d = rw (next_means d) (edited d).kept
-        go (Refused n p) d = rw (goes d) (kept_refl xs w m)
+        go (Err e) d = rw (goes d) (kept_refl xs w m)
 
 -- ---- any run
 

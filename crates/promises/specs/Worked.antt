@@ -2,10 +2,10 @@
 use Rattle.std.specs.Prelude.{ℕ, List, [], ◌∷◌, ◌++◌, map, pos}
 use Rattle.codes.specs.Codes.{D263, BITR, S263, VIDE}
 use Rattle.boxes.specs.Box.{Box, plain_box, write}
-use Rattle.rule.specs.declared.Answer.{Answer}
 use Rattle.promise_kept.specs.Edits.{Edit, shift, replace, move}
 use Rattle.promises.specs.Example.{zeros, ftyp_box, moov_box, mdat_box, file_at, visual}
 use Rattle.promises.specs.Runs.{Lent, answer_of, goes_on}
+use Rattle.rule.specs.Answers.{Answer}
 
 -- a record of 15 bytes, and one of 31
 abbrev pub small : Box

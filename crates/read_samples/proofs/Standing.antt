@@ -7,13 +7,10 @@ use lib.ListN.{length}
 use Rattle.wire.specs.Tests.{pick}
 use Rattle.layout.specs.Slots.{slot_in}
 use Rattle.layout.specs.declared.track.Track.{Track}
-use Rattle.rule.specs.declared.Answer.TheVariants as answer
-use Rattle.rule.specs.declared.Answer.TheVariants.{Done}
-use Rattle.judge.specs.Judgement.{judged}
+use Rattle.judge.specs.Judgement.{judged, Accepted}
 use Rattle.judge.specs.Calls.{answer_on}
 use Rattle.judge.proofs.Calls.{answer_accepted}
 use Rattle.judge.proofs.Exact.{accepted_meets}
-use Rattle.judge.specs.declared.Judgement.TheVariants.{Accepted}
 use Rattle.read_tracks.specs.Reads.{is_track}
 use Rattle.read_tracks.specs.Tracks.{Numbered}
 use Rattle.read_tracks.proofs.Reading.{laid_offsets}
@@ -25,6 +22,7 @@ use Rattle.sample_walk.proofs.Walks.{start_before}
 use Rattle.read_samples.specs.declared.stand.Stand.{Stand}
 use Rattle.read_samples.specs.Stands.{table_samples, StandsIn, Starts, Onward}
 use Rattle.read_samples.proofs.Tables.{numbered_walked, laid_runs, laid_sizes}
+use Rattle.rule.specs.Answers.{Done, Refused}
 
 -- ---- a step, over the tables as they are read
 
@@ -50,7 +48,7 @@ module _ {xs : List ℕ} {at : Stand} (r : StandsIn xs at) {a b c : List ℕ} (e
 -- ---- the start, or 20
 
 pub stand_none : (xs : List ℕ) (t : ℕ) → judged xs ≡ Accepted → is_track xs t ≡ false
-    → answer.Refused 20 0 ≡ answer_on xs (pick (is_track xs t) (Done 0) (answer.Refused 20 0))
+    → Refused 20 0 ≡ answer_on xs (pick (is_track xs t) (Done 0) (Refused 20 0))
 stand_none xs t j h = answer_accepted xs refl _ j (rw h)
 
 module _ (xs : List ℕ) (t : ℕ) (j : judged xs ≡ Accepted) {k : Track} (n : Numbered xs t k) {w : SampleWalk} (s : w ≡ sample_start) where

@@ -2,7 +2,7 @@
 use Rattle.std.specs.Prelude.{ℕ, List, [], ◌∷◌}
 use Rattle.codes.specs.Codes.{STSC, STSZ, STCO}
 use Rattle.movie.specs.Movie.{sample_table}
-use Rattle.rule.specs.Results.{Result}
+use Rattle.rule.specs.Results.{ToWrite}
 use Rattle.judge.specs.Calls.{result_on}
 use Rattle.read_tracks.specs.Reads.{is_track, track_body}
 use Rattle.sample_walk.specs.declared.walk.Sample.{Sample}
@@ -18,5 +18,5 @@ places_of [] = []
 places_of (s ∷ l) = s.place ∷ s.bytes ∷ places_of l
 
 -- 20, 25
-unfoldable pub samples_result : List ℕ → ℕ → Result
+unfoldable pub samples_result : List ℕ → ℕ → ToWrite
 samples_result xs t = result_on xs ((20, is_track xs t) ∷ []) (places_of (track_samples (track_body xs t)))

@@ -1,21 +1,16 @@
 -- "A sample walk holds the lent file and its place in it, and gives the next sample's bytes or the end."
-use Rattle.std.specs.Prelude.{ℕ, ◌+◌, ◌≡◌, true, List, [], ◌∷◌, length, drop}
+use Rattle.std.specs.Prelude.{ℕ, ◌+◌, ◌≡◌, true, List, [], ◌∷◌, length, drop, Option, Some, None, Result, Ok, Err}
 use Rattle.wire.specs.Tests.{pick}
 use Rattle.layout.specs.Slots.{slot_in, Lies}
-use Rattle.rule.specs.declared.Answer.TheVariants as answer
-use Rattle.rule.specs.declared.Answer.TheVariants.{Done}
-use Rattle.judge.specs.Judgement.{judged}
+use Rattle.rule.specs.declared.Refusal.{Refusal}
+use Rattle.rule.specs.Answers.{Done, Refused}
+use Rattle.judge.specs.Judgement.{judged, Accepted}
 use Rattle.judge.specs.Calls.{answer_on}
-use Rattle.judge.specs.declared.Judgement.TheVariants.{Accepted}
 use Rattle.read_tracks.specs.Reads.{is_track, track_body}
 use Rattle.sample_walk.specs.declared.walk.Sample.{Sample}
 use Rattle.sample_walk.specs.Samples.{samples_at}
 use Rattle.sample_walk.specs.Walks.{Sampled, Before}
 use Rattle.read_samples.specs.declared.stand.Stand.{Stand}
-use Rattle.read_samples.specs.declared.stand.Stood.{Stood}
-use Rattle.read_samples.specs.declared.stand.Stood.TheVariants.{At, Refused}
-use Rattle.read_samples.specs.declared.stand.Next.{Next}
-use Rattle.read_samples.specs.declared.stand.Next.TheVariants.{Found, End}
 use Rattle.read_samples.specs.Reads.{track_samples}
 
 -- the samples that it walks over, in the file xs
@@ -40,9 +35,9 @@ pub record Starts (xs : List ℕ) (t : ℕ) (at : Stand) : Type 0 where
   pub samples : table_samples xs at ≡ track_samples (track_body xs t)
 
 -- or 1 to 10, or 20
-unfoldable pub StoodAs : List ℕ → ℕ → Stood → Type 0
-StoodAs xs t (At at) = Starts xs t at
-StoodAs xs t (Refused n p) = answer.Refused n p ≡ answer_on xs (pick (is_track xs t) (Done 0) (answer.Refused 20 0))
+unfoldable pub StoodAs : List ℕ → ℕ → Result Stand Refusal → Type 0
+StoodAs xs t (Ok at) = Starts xs t at
+StoodAs xs t (Err e) = Err e ≡ answer_on xs (pick (is_track xs t) (Done 0) (Refused 20 0))
 
 -- ---- a step
 
@@ -54,11 +49,11 @@ pub record Onward (xs : List ℕ) (at : Stand) (s : Sample) (next : Stand) : Typ
   pub ready : StandsIn xs next
 
 -- and the end past the last
-unfoldable pub NextAs : List ℕ → Stand → Next → Type 0
-NextAs xs at (Found s next) = Onward xs at s next
-NextAs xs at End = length (table_samples xs at) ≡ at.walk.number
+unfoldable pub NextAs : List ℕ → Stand → Option (Sample × Stand) → Type 0
+NextAs xs at (Some (s, next)) = Onward xs at s next
+NextAs xs at None = length (table_samples xs at) ≡ at.walk.number
 
 -- what a walk gives step by step, up to the end
 pub data Turns (xs : List ℕ) : Stand → List Sample → Type 0 where
-  ended : {at : Stand} → NextAs xs at End → Turns xs at []
-  given : {at : Stand} {s : Sample} {l : List Sample} (next : Stand) → NextAs xs at (Found s next) → Turns xs next l → Turns xs at (s ∷ l)
+  ended : {at : Stand} → NextAs xs at None → Turns xs at []
+  given : {at : Stand} {s : Sample} {l : List Sample} (next : Stand) → NextAs xs at (Some (s, next)) → Turns xs next l → Turns xs at (s ∷ l)

@@ -4,7 +4,7 @@ ghost use Rattle.mdat.specs.Samples.{sample_bytes};
 ghost use Rattle.read_samples.specs.Stands.{StandsIn, NextAs};
 
 use crate::stand;
-use crate::stand::{Next, Stand};
+use crate::stand::Stand;
 use sample_walk::walk::Sample;
 
 // A file, and where a walk by sample stands in it.
@@ -28,8 +28,8 @@ pub fn number<'a>(s: Samples<'a>) -> usize
     s.at.walk.number
 }
 
-// The next sample and where the walk stands after it, or the end.
-pub fn next<'a>(s: Samples<'a>) -> Next
+// The next sample and where the walk stands after it.
+pub fn next<'a>(s: Samples<'a>) -> Option<(Sample, Stand)>
     requires { StandsIn s.file.now s.at }
     ensures { NextAs s.entry.file.now s.entry.at result }
 {

@@ -7,17 +7,15 @@ pub mod stand;
 ghost use Rattle.std.specs.Prelude.{[], ◌∷◌, ◌+◌, ◌*◌, ◌≤◌, length};
 ghost use Rattle.wire.specs.Writing.{Wrote, Put};
 ghost use Rattle.rule.specs.Results.{asked, Exact};
-ghost use Rattle.rule.specs.Results.Result.{gives};
+ghost use Rattle.rule.specs.Results.ToWrite.{gives};
 ghost use Rattle.judge.specs.Acceptance.{Meets};
 ghost use Rattle.read_tracks.specs.Reads.{is_track, track_body};
 ghost use Rattle.sample_walk.specs.Samples.{samples_at};
 ghost use Rattle.sample_walk.specs.Walks.{Sampled};
 ghost use Rattle.read_samples.specs.Reads.{track_samples, places_of, samples_result};
 
-use judge::Judgement;
 use layout::gather;
-use read_tracks::NumberedTrack;
-use rule::Answer;
+use rule::{Answer, refusals};
 use sample_tables::size;
 use sample_walk::walk::{Sample, SampleWalk};
 
@@ -50,32 +48,28 @@ fn samples_in(file: &[u8], track: usize, out: &mut [u64]) -> Answer
     requires { Meets file.now }
     ensures { Exact (asked ((20, is_track file.now track) ∷ []) (gives (places_of (track_samples (track_body file.now track))))) out.old result out.new }
 {
-    match read_tracks::numbered_track(file, track) {
-        NumberedTrack::At(k) => {
-            let stsc = k.stsc;
-            let stsz = k.stsz;
-            let stco = k.stco;
-            let sizes = gather::bytes(file, stsz);
-            if out.len() < 2 * size::samples(sizes) {
-                return Answer::Refused(25, 0);
-            }
-            Answer::Done(put(
-                gather::bytes(file, stsc),
-                sizes,
-                gather::bytes(file, stco),
-                out,
-            ))
-        }
-        NumberedTrack::Missing => Answer::Refused(20, 0),
+    let Some(k) = read_tracks::numbered_track(file, track) else {
+        return Err(refusals::NO_SUCH);
+    };
+    let stsc = k.stsc;
+    let stsz = k.stsz;
+    let stco = k.stco;
+    let sizes = gather::bytes(file, stsz);
+    if out.len() < 2 * size::samples(sizes) {
+        return Err(refusals::NO_ROOM);
     }
+    Ok(put(
+        gather::bytes(file, stsc),
+        sizes,
+        gather::bytes(file, stco),
+        out,
+    ))
 }
 
 // The place and the length of each sample of a track, in turn.
 pub fn samples(file: &[u8], track: usize, out: &mut [u64]) -> Answer
     ensures { Exact (samples_result file.now track) out.old result out.new }
 {
-    match judge::judge(file) {
-        Judgement::Accepted => samples_in(file, track, out),
-        Judgement::Refused(n, p) => Answer::Refused(n, p),
-    }
+    judge::judge(file)?;
+    samples_in(file, track, out)
 }

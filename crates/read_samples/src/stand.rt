@@ -1,14 +1,12 @@
 // The core of the walk that holds the file: plain numbers, and the file beside them.
 ghost use Rattle.std.specs.Prelude.{◌≡◌};
-ghost use Rattle.judge.specs.Judgement.{judged};
-ghost use Rattle.judge.specs.declared.Judgement.TheVariants.{Accepted};
+ghost use Rattle.judge.specs.Judgement.{judged, Accepted};
 ghost use Rattle.mdat.specs.Samples.{sample_bytes};
 ghost use Rattle.read_samples.specs.Stands.{StandsIn, NextAs, StoodAs};
 
-use judge::Judgement;
 use layout::gather;
 use layout::gather::Slot;
-use read_tracks::NumberedTrack;
+use rule::{Refusal, refusals};
 use sample_walk::walk::{Sample, SampleWalk};
 use wire::lend;
 
@@ -21,53 +19,35 @@ pub struct Stand {
     pub walk: SampleWalk,
 }
 
-// Before the first sample of a track, or a refusal.
-#[derive(Clone, Copy)]
-pub enum Stood {
-    At(Stand),
-    Refused(usize, usize),
-}
-
-// A sample, and where the walk stands after it.
-#[derive(Clone, Copy)]
-pub enum Next {
-    Found(Sample, Stand),
-    End,
-}
-
 // Of a file that is accepted.
-fn start_in(file: &[u8], track: usize) -> Stood
+fn start_in(file: &[u8], track: usize) -> Result<Stand, Refusal>
     requires { judged file.now ≡ Accepted }
     ensures { StoodAs file.now track result }
 {
-    match read_tracks::numbered_track(file, track) {
-        NumberedTrack::At(k) => {
-            let stsc = k.stsc;
-            let stsz = k.stsz;
-            let stco = k.stco;
-            Stood::At(Stand {
-                stsc,
-                stsz,
-                stco,
-                walk: SampleWalk::start(),
-            })
-        }
-        NumberedTrack::Missing => Stood::Refused(20, 0),
-    }
+    let Some(k) = read_tracks::numbered_track(file, track) else {
+        return Err(refusals::NO_SUCH);
+    };
+    let stsc = k.stsc;
+    let stsz = k.stsz;
+    let stco = k.stco;
+    Ok(Stand {
+        stsc,
+        stsz,
+        stco,
+        walk: SampleWalk::start(),
+    })
 }
 
 // Before the first sample of a track.
-pub fn start(file: &[u8], track: usize) -> Stood
+pub fn start(file: &[u8], track: usize) -> Result<Stand, Refusal>
     ensures { StoodAs file.now track result }
 {
-    match judge::judge(file) {
-        Judgement::Accepted => start_in(file, track),
-        Judgement::Refused(n, p) => Stood::Refused(n, p),
-    }
+    judge::judge(file)?;
+    start_in(file, track)
 }
 
-// The next sample, by a constant number of reads, or the end.
-pub fn next_at(file: &[u8], at: Stand) -> Next
+// The next sample, by a constant number of reads, and where the walk stands after it.
+pub fn next_at(file: &[u8], at: Stand) -> Option<(Sample, Stand)>
     requires { StandsIn file.now at }
     ensures { NextAs file.now at result }
 {
@@ -80,7 +60,7 @@ pub fn next_at(file: &[u8], at: Stand) -> Next
         gather::bytes(file, stsz),
         gather::bytes(file, stco),
     ) {
-        Some((sample, walk)) => Next::Found(
+        Some((sample, walk)) => Some((
             sample,
             Stand {
                 stsc,
@@ -88,8 +68,8 @@ pub fn next_at(file: &[u8], at: Stand) -> Next
                 stco,
                 walk,
             },
-        ),
-        None => Next::End,
+        )),
+        None => None,
     }
 }
 

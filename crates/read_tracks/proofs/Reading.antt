@@ -1,4 +1,5 @@
 -- Laws of reading a track. Assumes nothing.
+use Rattle.std.specs.Prelude.{Option, Some, None}
 use Prim.Native.Nat.{ℕ, zero, suc, ◌+◌, ◌-◌, ◌≤◌, ◌<◌}
 use native.Mathlib.Omega.{arith}
 use native.Mathlib.Numerals.{add-one}
@@ -29,8 +30,6 @@ use Rattle.judge.specs.Acceptance.{Meets}
 use Rattle.movie.specs.declared.MovieTicks.{MovieTicks}
 use Rattle.movie.specs.Movie.{tracks, track, sample_table, handler, scale, movie_ticks}
 use Rattle.read_tracks.specs.Tracks.{Readable, Numbered, NumberedAs}
-use Rattle.read_tracks.specs.declared.NumberedTrack.{NumberedTrack}
-use Rattle.read_tracks.specs.declared.NumberedTrack.TheVariants as numbered
 use Rattle.read_tracks.specs.Reads.{is_track, track_body, media_of, movie_of, said_by, numbers_of, offsets_to, offsets_of}
 use Rattle.read_tracks.specs.declared.said.Said.{Said}
 use Rattle.read_tracks.proofs.Accepted.{readable}
@@ -78,12 +77,12 @@ module _ (xs : List ℕ) (t : ℕ) where
   track_none e z = was_nay _ _ z e
 
   -- back from the answer
-  module _ (r : NumberedTrack) (a : NumberedAs xs t r) where
-    pub numbered_at : {k : Track} → r ≡ numbered.At k → Numbered xs t k
+  module _ (r : Option Track) (a : NumberedAs xs t r) where
+    pub numbered_at : {k : Track} → r ≡ Some k → Numbered xs t k
     unfolding NumberedAs
     numbered_at e = rw e at a
 
-    pub numbered_none : r ≡ numbered.Missing → is_track xs t ≡ false
+    pub numbered_none : r ≡ None → is_track xs t ≡ false
     unfolding NumberedAs
     numbered_none e = rw e at a
 

@@ -1,5 +1,5 @@
 -- "Other reads": how many tracks there are, what a track says, and where its chunks are. Tracks are numbered from 1.
-use Rattle.std.specs.Prelude.{ℕ, zero, suc, ◌-◌, Bool, List, [], ◌∷◌, ◌++◌}
+use Rattle.std.specs.Prelude.{ℕ, zero, suc, ◌-◌, Bool, List, [], ◌∷◌, ◌++◌, Result, Ok}
 use Rattle.wire.specs.Tests.{pick}
 use Rattle.wire.specs.Clauses.{is_le, every}
 use Rattle.codes.specs.Codes.{STTS, STCO}
@@ -8,16 +8,12 @@ use Rattle.movie.specs.Movie.{tracks, track, sample_table, handler, scale, movie
 use Rattle.sample_tables.specs.declared.time.MediaTicks.{MediaTicks}
 use Rattle.sample_tables.specs.Tables.{items, field}
 use Rattle.sample_tables.specs.Times.{media_ticks}
-use Rattle.rule.specs.declared.Answer.{Answer}
-use Rattle.rule.specs.declared.Answer.TheVariants.{Done}
-use Rattle.rule.specs.Results.{Result}
+use Rattle.rule.specs.declared.Refusal.{Refusal}
+use Rattle.rule.specs.Answers.{Answer, Done, Refused}
+use Rattle.rule.specs.Results.{ToWrite}
 use Rattle.judge.specs.Judgement.{judged}
 use Rattle.judge.specs.Calls.{when_accepted, answer_on, result_on}
 use Rattle.read_tracks.specs.declared.said.Said.{Said}
-use Rattle.read_tracks.specs.declared.MediaLength.{MediaLength}
-use Rattle.read_tracks.specs.declared.MediaLength.TheVariants as media
-use Rattle.read_tracks.specs.declared.MovieLength.{MovieLength}
-use Rattle.read_tracks.specs.declared.MovieLength.TheVariants as movie
 
 unfoldable pub tracks_answer : List ℕ → Answer
 tracks_answer xs = answer_on xs (Done (tracks xs))
@@ -38,11 +34,11 @@ media_of b = record { 0 = media_ticks (sample_table STTS b) }
 abbrev pub movie_of : List ℕ → MovieTicks
 movie_of b = record { 0 = movie_ticks b }
 
-unfoldable pub media_length : List ℕ → ℕ → MediaLength
-media_length xs t = when_accepted media.Refused (judged xs) (pick (is_track xs t) (media.Ticks (media_of (track_body xs t))) (media.Refused 20 0))
+unfoldable pub media_length : List ℕ → ℕ → Result MediaTicks Refusal
+media_length xs t = when_accepted Refused (judged xs) (pick (is_track xs t) (Ok (media_of (track_body xs t))) (Refused 20 0))
 
-unfoldable pub movie_length : List ℕ → ℕ → MovieLength
-movie_length xs t = when_accepted movie.Refused (judged xs) (pick (is_track xs t) (movie.Ticks (movie_of (track_body xs t))) (movie.Refused 20 0))
+unfoldable pub movie_length : List ℕ → ℕ → Result MovieTicks Refusal
+movie_length xs t = when_accepted Refused (judged xs) (pick (is_track xs t) (Ok (movie_of (track_body xs t))) (Refused 20 0))
 
 -- ---- what it says
 
@@ -55,7 +51,7 @@ unfoldable pub numbers_of : Said → List ℕ
 numbers_of s = s.handler ∷ s.media.0 ∷ s.scale ∷ s.movie.0 ∷ []
 
 -- 20, 25
-unfoldable pub track_result : List ℕ → ℕ → Result
+unfoldable pub track_result : List ℕ → ℕ → ToWrite
 track_result xs t = result_on xs ((20, is_track xs t) ∷ []) (numbers_of (said_by (track_body xs t)))
 
 -- ---- where its chunks are
@@ -70,5 +66,5 @@ unfoldable pub offsets_of : List ℕ → List ℕ
 offsets_of b = offsets_to (sample_table STCO b) (items (sample_table STCO b))
 
 -- 20, 25
-unfoldable pub offsets_result : List ℕ → ℕ → Result
+unfoldable pub offsets_result : List ℕ → ℕ → ToWrite
 offsets_result xs t = result_on xs ((20, is_track xs t) ∷ []) (offsets_of (track_body xs t))

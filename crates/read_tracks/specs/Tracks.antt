@@ -1,13 +1,11 @@
 -- A track of an accepted file: where it stands, and what its tables are, the facts that reading them goes by.
-use Rattle.std.specs.Prelude.{ℕ, ◌≤◌, ◌≡◌, true, false, List}
+use Rattle.std.specs.Prelude.{ℕ, ◌≤◌, ◌≡◌, true, false, List, Option, Some, None}
 use Rattle.codes.specs.Codes.{STTS, STCO}
 use Rattle.sample_tables.specs.Tables.{Table}
 use Rattle.sample_tables.specs.Times.{timed}
 use Rattle.movie.specs.Movie.{tracks, sample_table}
 use Rattle.layout.specs.Track.{Laid}
 use Rattle.layout.specs.declared.track.Track.{Track}
-use Rattle.read_tracks.specs.declared.NumberedTrack.{NumberedTrack}
-use Rattle.read_tracks.specs.declared.NumberedTrack.TheVariants.{At, Missing}
 use Rattle.read_tracks.specs.Reads.{is_track, track_body}
 
 -- of the track with payload b
@@ -23,6 +21,6 @@ pub record Numbered (xs : List ℕ) (t : ℕ) (k : Track) : Type 0 where
   pub last : t ≤ tracks xs
   pub laid : Laid xs (track_body xs t) k
 
-unfoldable pub NumberedAs : List ℕ → ℕ → NumberedTrack → Type 0
-NumberedAs xs t (At k) = Numbered xs t k
-NumberedAs xs t Missing = is_track xs t ≡ false
+unfoldable pub NumberedAs : List ℕ → ℕ → Option Track → Type 0
+NumberedAs xs t (Some k) = Numbered xs t k
+NumberedAs xs t None = is_track xs t ≡ false

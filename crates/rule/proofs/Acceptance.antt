@@ -7,9 +7,7 @@ use Rattle.wire.proofs.Tests.{through}
 use Rattle.boxes.specs.Box.{Box, head, size}
 use Rattle.boxes.specs.Boxes.{boxes, after}
 use Rattle.boxes.specs.Containers.{kind_in}
-use Rattle.rule.specs.declared.Verdict.{Verdict}
-use Rattle.rule.specs.declared.Verdict.TheVariants.{Fine}
-use Rattle.rule.specs.Verdict.{unless, is_fine}
+use Rattle.rule.specs.Verdict.{unless, is_fine, Verdict, Fine}
 use Rattle.rule.specs.Judge.{Judge, judge_list, judge_box, judge_in}
 use Rattle.rule.specs.Rule.{Rule, all_list, all_box, all_in, placed_by, with_each, Says}
 use Rattle.rule.proofs.Places.{fine_is, sooner_fine, unless_fine}

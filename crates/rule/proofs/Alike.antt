@@ -10,9 +10,7 @@ use Rattle.boxes.specs.Containers.{kind_in}
 use Rattle.boxes.proofs.Reading.{All, all_of}
 use Rattle.boxes.proofs.Reading.All.{none, some}
 use Rattle.boxes.proofs.Every.{all_map}
-use Rattle.rule.specs.declared.Verdict.{Verdict}
-use Rattle.rule.specs.declared.Verdict.TheVariants.{Fine}
-use Rattle.rule.specs.Verdict.{sooner, unless}
+use Rattle.rule.specs.Verdict.{sooner, unless, Verdict, Fine}
 use Rattle.rule.specs.Rule.{Rule, placed, placed_by}
 use Rattle.rule.proofs.Places.{sooner_none}
 use Rattle.rule.specs.Judge.{Judge, judge_list, judge_box, judge_in}

@@ -11,9 +11,7 @@ use Rattle.boxes.specs.Box.{Box, head, size}
 use Rattle.boxes.specs.Boxes.{boxes, total, after}
 use Rattle.boxes.specs.Containers.{kind_in}
 use Rattle.boxes.proofs.Placing.{total_is}
-use Rattle.rule.specs.declared.Verdict.{Verdict}
-use Rattle.rule.specs.declared.Verdict.TheVariants.{Fine, Bad}
-use Rattle.rule.specs.Verdict.{sooner, unless}
+use Rattle.rule.specs.Verdict.{sooner, unless, Verdict, Fine, Bad}
 use Rattle.rule.specs.Judge.{Judge, judge_list, judge_box, judge_in}
 use Rattle.rule.specs.Rule.{Rule, placed, placed_by}
 

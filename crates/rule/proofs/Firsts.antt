@@ -12,9 +12,7 @@ use Rattle.boxes.specs.Box.{Box, head, size}
 use Rattle.boxes.specs.Boxes.{boxes, after}
 use Rattle.boxes.specs.Containers.{kind_in}
 use Rattle.boxes.specs.Walk.{box_at, Ran, Over}
-use Rattle.rule.specs.declared.Verdict.{Verdict}
-use Rattle.rule.specs.declared.Verdict.TheVariants.{Fine, Bad}
-use Rattle.rule.specs.Verdict.{sooner, unless}
+use Rattle.rule.specs.Verdict.{sooner, unless, Verdict, Fine, Bad}
 use Rattle.rule.specs.Judge.{Judge, judge_list, judge_box, judge_in}
 use Rattle.rule.specs.Rule.{Rule, placed, placed_by}
 use Rattle.rule.proofs.Places.{sooner_then, sooner_turn, sooner_right, unless_yea, unless_nay}

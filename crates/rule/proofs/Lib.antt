@@ -8,3 +8,4 @@ pub mod Telling
 pub mod Alike
 pub mod Bounds
 pub mod Firsts
+pub mod SameRefusal

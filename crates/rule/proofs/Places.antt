@@ -4,9 +4,7 @@ use native.Mathlib.Omega.{arith}
 use mathlib.Core.Path.{◌≡◌, refl, ap}
 use mathlib.Core.Bool.{Bool, true, false}
 use Rattle.wire.specs.Tests.{pick}
-use Rattle.rule.specs.declared.Verdict.{Verdict}
-use Rattle.rule.specs.declared.Verdict.TheVariants.{Fine, Bad}
-use Rattle.rule.specs.Verdict.{sooner, unless, is_fine}
+use Rattle.rule.specs.Verdict.{sooner, unless, is_fine, Verdict, Fine, Bad}
 use Rattle.rule.specs.Rule.{Rule, placed, Says}
 
 pub fine_is : (v : Verdict) → is_fine v ≡ true → v ≡ Fine

@@ -12,10 +12,9 @@ use Rattle.wire.specs.Writing.{Wrote}
 use Rattle.wire.proofs.Tests.{lt_yea, lt_nay, lt_ways}
 use Rattle.wire.proofs.Clauses.{is_le_lem, not_le, fails, holds, done, was_yea, was_nay}
 use Rattle.boxes.specs.Containers.{LONGEST}
-use Rattle.rule.specs.declared.Answer.{Answer}
-use Rattle.rule.specs.declared.Answer.TheVariants.{Done, Refused}
-use Rattle.rule.specs.Results.{Result, asked, length_fine, in_limit, answer_in, left_in, Exact, told_in, Reports}
-use Rattle.rule.specs.Results.Result.{gives, refuses}
+use Rattle.rule.specs.Results.{ToWrite, asked, length_fine, in_limit, answer_in, left_in, Exact, told_in, Reports}
+use Rattle.rule.specs.Results.ToWrite.{gives, refuses}
+use Rattle.rule.specs.Answers.{Answer, Done, Refused}
 
 -- ---- what a call answers
 
@@ -40,7 +39,7 @@ exact_puts ns out h =
 
 -- ---- the tests before it, each told by code as 1 or 0
 
-module _ (n : ℕ) (t : Bool) (ts : List (ℕ × Bool)) (g : Result) (out : List ℕ) where
+module _ (n : ℕ) (t : Bool) (ts : List (ℕ × Bool)) (g : ToWrite) (out : List ℕ) where
   pub test_not : t ≡ false → Exact (asked ((n, t) ∷ ts) g) out (Refused n 0) out
   unfolding asked
   test_not e = rw e (exact_refuses n 0 out)
@@ -55,7 +54,7 @@ module _ (n : ℕ) (t : Bool) (ts : List (ℕ × Bool)) (g : Result) (out : List
   pub test_yea : {i : ℕ} → i ≡ one_if t → (i ≡ 0 → ⊥) → {r : Answer} {left : List ℕ} → Exact (asked ts g) out r left → Exact (asked ((n, t) ∷ ts) g) out r left
   test_yea e z x = test_so (was_yea t _ z e) x
 
-pub test_all : (g : Result) (out : List ℕ) {r : Answer} {left : List ℕ} → Exact g out r left → Exact (asked [] g) out r left
+pub test_all : (g : ToWrite) (out : List ℕ) {r : Answer} {left : List ℕ} → Exact g out r left → Exact (asked [] g) out r left
 unfolding asked
 test_all g out x = x
 
@@ -80,7 +79,7 @@ module _ (xs out : List ℕ) where
 
 -- ---- a call that reports
 
-module _ {g : Result} {numbers out : List ℕ} (room : List ℕ) where
+module _ {g : ToWrite} {numbers out : List ℕ} (room : List ℕ) where
   pub reports_refused : {n p : ℕ} → Exact g out (Refused n p) out → Reports g numbers out (Refused n p) out room room
   unfolding told_in
   reports_refused x = record { exact = x; report = rw (← x.answers) }
@@ -91,10 +90,10 @@ module _ {g : Result} {numbers out : List ℕ} (room : List ℕ) where
 
 -- ---- two results that the promise allows are equal
 
-pub one_answer : (g : Result) (out : List ℕ) {r s : Answer} {a b : List ℕ} → Exact g out r a → Exact g out s b → (r ≡ s) × (a ≡ b)
+pub one_answer : (g : ToWrite) (out : List ℕ) {r s : Answer} {a b : List ℕ} → Exact g out r a → Exact g out s b → (r ≡ s) × (a ≡ b)
 one_answer g out x y = (x.answers ∙ sym y.answers, x.leaves ∙ sym y.leaves)
 
-pub one_report : {g : Result} {numbers out room : List ℕ} {r s : Answer} {a b u v : List ℕ} → Reports g numbers out r a room u
+pub one_report : {g : ToWrite} {numbers out room : List ℕ} {r s : Answer} {a b u v : List ℕ} → Reports g numbers out r a room u
     → Reports g numbers out s b room v → (r ≡ s) × (a ≡ b) × (u ≡ v)
 one_report {g} {out = out} x y = let e = one_answer g out x.exact y.exact in (e.0, e.1, x.report ∙ sym y.report)
 
@@ -130,4 +129,4 @@ pub asked_gave : (ts : List (ℕ × Bool)) (xs out : List ℕ) (n : ℕ) → ans
     → (every (map (λ t. t.1) ts) ≡ true) × (take n (left_in (asked ts (gives xs)) out) ≡ xs)
 asked_gave ts xs out n e =
     let d = asked_done ts xs out n e in
-    (d.0, ap (λ (r : Result). take n (left_in r out)) d.1 ∙ (gives_done xs out n (rw d.1 at e)).taken)
+    (d.0, ap (λ (r : ToWrite). take n (left_in r out)) d.1 ∙ (gives_done xs out n (rw d.1 at e)).taken)

@@ -6,10 +6,10 @@ use mathlib.Core.List.{List, [], ◌∷◌, ◌++◌}
 use lib.ListN.{length}
 use Rattle.wire.specs.Writing.{Put}
 use Rattle.wire.proofs.Writing.{pen_front}
-use Rattle.rule.specs.declared.Answer.TheVariants.{Done, Refused}
 use Rattle.rule.specs.Results.{Exact}
-use Rattle.rule.specs.Results.Result.{gives}
+use Rattle.rule.specs.Results.ToWrite.{gives}
 use Rattle.rule.proofs.Results.{exact_short, exact_wrote}
+use Rattle.rule.specs.Answers.{Done, Refused}
 
 -- ---- it certainly has room
 

@@ -10,8 +10,7 @@ use Rattle.boxes.specs.Box.{Box}
 use Rattle.boxes.specs.Boxes.{boxes}
 use Rattle.boxes.specs.Walk.{box_at, Ran, Over}
 use Rattle.boxes.proofs.Seeking.{ran_next}
-use Rattle.rule.specs.declared.Verdict.{Verdict}
-use Rattle.rule.specs.Verdict.{sooner}
+use Rattle.rule.specs.Verdict.{sooner, Verdict}
 use Rattle.rule.specs.Judge.{judge_list}
 use Rattle.rule.proofs.Places.{sooner_then}
 

@@ -4,9 +4,7 @@ use Rattle.wire.specs.Tests.{if_eq}
 use Rattle.boxes.specs.Box.{Box, head, size}
 use Rattle.boxes.specs.Boxes.{boxes, after}
 use Rattle.boxes.specs.Containers.{kind_in}
-use Rattle.rule.specs.declared.Verdict.{Verdict}
-use Rattle.rule.specs.declared.Verdict.TheVariants.{Fine}
-use Rattle.rule.specs.Verdict.{sooner}
+use Rattle.rule.specs.Verdict.{sooner, Verdict, Fine}
 
 -- what a rule says of an opaque box (its container's kind, its code, its body, its place and its payload's), of a container or
 -- the file (its kind, what it holds, its place and its payload's), and of the bytes past the last whole box (and their place)

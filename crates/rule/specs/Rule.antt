@@ -4,8 +4,7 @@ use Rattle.wire.specs.Tests.{pick, if_eq}
 use Rattle.boxes.specs.Box.{Box}
 use Rattle.boxes.specs.Boxes.{boxes, after}
 use Rattle.boxes.specs.Containers.{kind_in}
-use Rattle.rule.specs.declared.Verdict.TheVariants.{Fine}
-use Rattle.rule.specs.Verdict.{sooner, unless, is_fine}
+use Rattle.rule.specs.Verdict.{sooner, unless, is_fine, Fine}
 use Rattle.rule.specs.Judge.{Judge, judge_list}
 
 pub record Rule : Type 0 where

@@ -1,8 +1,15 @@
 -- The verdict of one rule: it holds, or it is broken at a place.
-use Rattle.std.specs.Prelude.{ℕ, min, Bool, true, false}
+use Rattle.std.specs.Prelude.{ℕ, min, Bool, true, false, Result, Ok, Err}
 use Rattle.wire.specs.Tests.{pick}
-use Rattle.rule.specs.declared.Verdict.{Verdict}
-use Rattle.rule.specs.declared.Verdict.TheVariants.{Fine, Bad}
+
+abbrev pub Verdict : Type 0
+Verdict = Result (Unit {0}) ℕ
+
+pattern abbrev pub Fine : Verdict
+Fine = Ok tt
+
+pattern abbrev pub Bad : ℕ → Verdict
+Bad p = Err p
 
 -- "the first box in file order which breaks it": the lower of two places
 unfoldable pub sooner : Verdict → Verdict → Verdict

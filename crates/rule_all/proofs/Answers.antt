@@ -15,9 +15,7 @@ use Rattle.sample_tables.proofs.Tables.{form_is}
 use Rattle.sample_tables.proofs.Rules.{seven_is}
 use Rattle.mdat.specs.Rules.{Ready}
 use Rattle.release.specs.declared.Release.TheVariants.{Release6}
-use Rattle.rule.specs.declared.Verdict.{Verdict}
-use Rattle.rule.specs.declared.Verdict.TheVariants.{Fine, Bad}
-use Rattle.rule.specs.Verdict.{is_fine}
+use Rattle.rule.specs.Verdict.{is_fine, Verdict, Fine, Bad}
 use Rattle.rule_entries.specs.Ten.{entries_fine}
 use Rattle.rule_all.specs.Track.{heads_fine, lists_fine, forms_fine, tables_fine, around_in, AllFine}
 

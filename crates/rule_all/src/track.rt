@@ -112,8 +112,8 @@ fn entries_fine(file: &[u8], t: Track) -> usize
         Some(around),
         Release::Release6,
     ) {
-        Verdict::Fine => 1,
-        Verdict::Bad(_) => 0,
+        Ok(()) => 1,
+        Err(_) => 0,
     }
 }
 

@@ -25,9 +25,7 @@ use Rattle.release.specs.declared.Release.{Release}
 use Rattle.std.specs.Prelude.{Option}
 use Rattle.entry_rules.specs.declared.entry.Around.{Around}
 use Rattle.entry_rules.specs.Entries.{entry_rule}
-use Rattle.rule.specs.declared.Verdict.{Verdict}
-use Rattle.rule.specs.declared.Verdict.TheVariants.{Fine, Bad}
-use Rattle.rule.specs.Verdict.{sooner, unless}
+use Rattle.rule.specs.Verdict.{sooner, unless, Verdict, Fine, Bad}
 use Rattle.rule.specs.Judge.{judge_list}
 use Rattle.rule.proofs.Places.{sooner_none}
 use Rattle.rule.proofs.Traverse.{Found, found_none, found_over}

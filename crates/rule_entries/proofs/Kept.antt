@@ -20,8 +20,7 @@ use Rattle.movie.proofs.Kept.{kin_stsd, kin_scale, kin_handler, kin_references}
 use Rattle.release.specs.declared.Release.{Release}
 use Rattle.std.specs.Prelude.{Option}
 use Rattle.entry_rules.specs.declared.entry.Around.{Around}
-use Rattle.rule.specs.declared.Verdict.TheVariants.{Fine}
-use Rattle.rule.specs.Verdict.{is_fine}
+use Rattle.rule.specs.Verdict.{is_fine, Fine}
 use Rattle.rule.specs.Rule.{all_in, Says}
 use Rattle.rule.proofs.Acceptance.{list_fine}
 use Rattle.rule.proofs.Keeping.{keep, kept_at}

@@ -10,9 +10,7 @@ use Rattle.movie.specs.Stsds.{Stsd, stsds_from}
 use Rattle.release.specs.declared.Release.{Release}
 use Rattle.entry_rules.specs.declared.entry.Around.{Around}
 use Rattle.entry_rules.specs.Entries.{in_track, entry_rule}
-use Rattle.rule.specs.declared.Verdict.{Verdict}
-use Rattle.rule.specs.declared.Verdict.TheVariants.{Fine}
-use Rattle.rule.specs.Verdict.{sooner, unless}
+use Rattle.rule.specs.Verdict.{sooner, unless, Verdict, Fine}
 use Rattle.rule.specs.Judge.{Judge, judge_list}
 use Rattle.rule.specs.Rule.{Rule, all_list}
 

@@ -50,15 +50,15 @@ pub fn entries_from(list: &[u8], base: usize, around: Option<Around>, release: R
         match w.step(list) {
             Step::Found(b, next) => {
                 if !entry_meets(list, b, around, release) {
-                    return Verdict::Bad(base + b.at);
+                    return Err(base + b.at);
                 }
                 w = next;
             }
             Step::End => {
-                return Verdict::Fine;
+                return Ok(());
             }
             Step::Broken(_) => {
-                return Verdict::Fine;
+                return Ok(());
             }
         }
     }
@@ -85,7 +85,7 @@ fn box_entries(part: &[u8], b: BoxAt, base: usize, release: Release) -> Verdict
     ensures { result ≡ stsds_judged release (stsds_from 0 (box_at part.now b ∷ []) (base + b.at)) }
 {
     if b.code != codes::TRAK {
-        return Verdict::Fine;
+        return Ok(());
     }
     track_entries(walk::body(part, b), base + b.at + b.head, release)
 }
@@ -95,7 +95,7 @@ fn movie_entries(part: &[u8], base: usize, release: Release) -> Verdict
     requires { base + length part.now < 2 ^ 60 }
     ensures { result ≡ stsds_judged release (stsds_from 0 (boxes part.now) base) }
 {
-    let mut found = Verdict::Fine;
+    let mut found = Ok(());
     let mut w = Walk { at: 0 };
     loop {
         match w.step(part) {
@@ -119,7 +119,7 @@ pub fn ten_at(file: &[u8], k: usize, part: &[u8], base: usize) -> Verdict
     ensures { result ≡ ten_at (release_of (boxes file.now)) k part.now base }
 {
     if k != codes::MOOV {
-        return Verdict::Fine;
+        return Ok(());
     }
     movie_entries(part, base, release::of_file(file))
 }

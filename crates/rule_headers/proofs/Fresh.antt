@@ -13,9 +13,7 @@ use Rattle.wire.proofs.Sums.{all_none, all_more, all_fails}
 use Rattle.boxes.specs.Box.{Box}
 use Rattle.boxes.specs.Boxes.{boxes}
 use Rattle.boxes.specs.Seek.{count, nth, find, place_in, start_in}
-use Rattle.rule.specs.declared.Verdict.{Verdict}
-use Rattle.rule.specs.declared.Verdict.TheVariants.{Fine, Bad}
-use Rattle.rule.specs.Verdict.{sooner, unless, is_fine}
+use Rattle.rule.specs.Verdict.{sooner, unless, is_fine, Verdict, Fine, Bad}
 use Rattle.rule.proofs.Places.{sooner_fine, unless_fine, unless_yea, unless_nay}
 use Rattle.rule_headers.specs.Identities.{identity, fresh, tkhd_place, fresh_to, different}
 

@@ -14,8 +14,7 @@ use Rattle.boxes.specs.Seek.{count, find}
 use Rattle.boxes.specs.Containers.{kind_in, parent}
 use Rattle.boxes.specs.Kin.{Leaf, Kin}
 use Rattle.boxes.proofs.Kin.{kin_count, kin_find, kin_child}
-use Rattle.rule.specs.declared.Verdict.TheVariants.{Fine}
-use Rattle.rule.specs.Verdict.{is_fine}
+use Rattle.rule.specs.Verdict.{is_fine, Fine}
 use Rattle.rule.specs.Rule.{all_in, Says}
 use Rattle.rule.proofs.Keeping.{keep, kept_at}
 use Rattle.rule.proofs.Places.{unless_fine}

@@ -4,9 +4,7 @@ use Rattle.wire.specs.Tests.{if_eq}
 use Rattle.codes.specs.Codes.{MOOV, TRAK}
 use Rattle.boxes.specs.Boxes.{boxes}
 use Rattle.boxes.specs.Seek.{count}
-use Rattle.rule.specs.declared.Verdict.{Verdict}
-use Rattle.rule.specs.declared.Verdict.TheVariants.{Fine}
-use Rattle.rule.specs.Verdict.{unless}
+use Rattle.rule.specs.Verdict.{unless, Verdict, Fine}
 use Rattle.rule.specs.Judge.{Judge}
 use Rattle.rule.specs.Rule.{Rule}
 use Rattle.rule_headers.specs.Forms.{form}

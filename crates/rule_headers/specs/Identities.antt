@@ -7,9 +7,7 @@ use Rattle.codes.specs.Codes.{TRAK, TKHD}
 use Rattle.boxes.specs.Box.{Box}
 use Rattle.boxes.specs.Boxes.{boxes}
 use Rattle.boxes.specs.Seek.{count, nth, find, place_in, start_in}
-use Rattle.rule.specs.declared.Verdict.{Verdict}
-use Rattle.rule.specs.declared.Verdict.TheVariants.{Fine}
-use Rattle.rule.specs.Verdict.{sooner, unless}
+use Rattle.rule.specs.Verdict.{sooner, unless, Verdict, Fine}
 
 -- the ID of track i, from 0, of the boxes of a `moov`
 unfoldable pub identity : List Box → ℕ → ℕ

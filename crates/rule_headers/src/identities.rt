@@ -49,9 +49,9 @@ fn unless_fresh(moov: &[u8], base: usize, i: usize) -> Verdict
     ensures { result ≡ unless (fresh_of (boxes moov.now) i i) (tkhd_place (boxes moov.now) base i) }
 {
     if fresh(moov, i) == 0 {
-        return Verdict::Bad(tkhd_place(moov, base, i));
+        return Err(tkhd_place(moov, base, i));
     }
-    Verdict::Fine
+    Ok(())
 }
 
 // The first `tkhd` in file order whose ID an earlier one has.
@@ -60,7 +60,7 @@ fn first_again(moov: &[u8], base: usize) -> Verdict
     ensures { result ≡ fresh_to (boxes moov.now) base (count TRAK (boxes moov.now)) }
 {
     let n = seek::count(moov, codes::TRAK);
-    let mut found = Verdict::Fine;
+    let mut found = Ok(());
     let mut i = 0;
     while i < n {
         found = rule::sooner(found, unless_fresh(moov, base, i));
@@ -77,5 +77,5 @@ pub fn tracks_in(k: usize, part: &[u8], base: usize) -> Verdict
     if k == codes::MOOV {
         return first_again(part, base);
     }
-    Verdict::Fine
+    Ok(())
 }

@@ -18,8 +18,7 @@ use Rattle.boxes.proofs.Meaning.{meant_or}
 use Rattle.movie.specs.Movie.{stored_count}
 use Rattle.movie.specs.Stsds.{Stsd, stsds_from}
 use Rattle.movie.proofs.Boxed.{stsds_hit, stsds_miss}
-use Rattle.rule.specs.declared.Verdict.TheVariants.{Fine, Bad}
-use Rattle.rule.specs.Verdict.{is_fine}
+use Rattle.rule.specs.Verdict.{is_fine, Fine, Bad}
 use Rattle.rule.specs.Rule.{Says}
 use Rattle.rule.proofs.Places.{unless_fine}
 use Rattle.rule.proofs.Acceptance.{list_fine}

@@ -19,9 +19,8 @@ use Rattle.movie.specs.Ways.{to_stsd, follow, place_along}
 use Rattle.movie.specs.Movie.{stored_count}
 use Rattle.movie.specs.Stsds.{stsds_from}
 use Rattle.movie.proofs.Boxed.{track_code, stsds_hit, other_code, stsds_miss}
-use Rattle.rule.specs.declared.Verdict.{Verdict}
-use Rattle.rule.specs.declared.Verdict.TheVariants.{Fine, Bad}
 use Rattle.rule_lists.specs.Five.{passing}
+use Rattle.rule.specs.Verdict.{Verdict, Fine, Bad}
 
 -- ---- one box of `moov`
 

@@ -8,9 +8,7 @@ use Rattle.boxes.specs.Boxes.{FRONT, boxes, after}
 use Rattle.boxes.specs.Seek.{ANY, count, all_plain, plain_tiles}
 use Rattle.movie.specs.Movie.{stored_count}
 use Rattle.movie.specs.Stsds.{Stsd, stsds_from}
-use Rattle.rule.specs.declared.Verdict.{Verdict}
-use Rattle.rule.specs.declared.Verdict.TheVariants.{Fine, Bad}
-use Rattle.rule.specs.Verdict.{unless}
+use Rattle.rule.specs.Verdict.{unless, Verdict, Fine, Bad}
 use Rattle.rule.specs.Judge.{Judge}
 use Rattle.rule.specs.Rule.{Rule}
 

@@ -7,9 +7,7 @@ use Rattle.codes.specs.Codes.{DINF, DREF, URL}
 use Rattle.boxes.specs.Box.{Box}
 use Rattle.boxes.specs.Boxes.{boxes, FRONT}
 use Rattle.boxes.specs.Seek.{ANY, count, plain_tiles}
-use Rattle.rule.specs.declared.Verdict.{Verdict}
-use Rattle.rule.specs.declared.Verdict.TheVariants.{Fine}
-use Rattle.rule.specs.Verdict.{unless}
+use Rattle.rule.specs.Verdict.{unless, Verdict, Fine}
 use Rattle.rule.specs.Judge.{Judge, judge_list}
 use Rattle.rule.specs.Rule.{Rule, all_list}
 use Rattle.rule_lists.specs.Five.{list_form}

@@ -7,8 +7,8 @@ ghost use Rattle.boxes.specs.Walk.{payload};
 ghost use Rattle.movie.specs.Ways.{to_stsd, follow, place_along};
 ghost use Rattle.movie.specs.Movie.{stored_count};
 ghost use Rattle.movie.specs.Stsds.{stsds_from};
-ghost use Rattle.rule.specs.declared.Verdict.TheVariants.{Bad};
 ghost use Rattle.rule_lists.specs.Five.{MOST, passing, most_in};
+ghost use Rattle.rule.specs.Verdict.{Bad};
 
 use boxes::walk;
 use boxes::walk::{BoxAt, Step, Walk};
@@ -34,7 +34,7 @@ fn stsd_at(part: &[u8], b: BoxAt, base: usize) -> Verdict
     ensures { result ≡ Bad (base + b.at + b.head + place_along to_stsd (payload part.now b)) }
 {
     let start = base + b.at + b.head;
-    Verdict::Bad(start + movie::stsd_place(walk::body(part, b)))
+    Err(start + movie::stsd_place(walk::body(part, b)))
 }
 
 // Rule 5 of a `moov` whose payload starts at place base: broken at the `stsd` that passes the most.
@@ -55,10 +55,10 @@ fn over_most(part: &[u8], base: usize) -> Verdict
                 w = next;
             }
             Step::End => {
-                return Verdict::Fine;
+                return Ok(());
             }
             Step::Broken(_) => {
-                return Verdict::Fine;
+                return Ok(());
             }
         }
     }
@@ -70,7 +70,7 @@ pub fn most_in(k: usize, part: &[u8], base: usize) -> Verdict
     ensures { result ≡ most_in k part.now base }
 {
     if k != codes::MOOV {
-        return Verdict::Fine;
+        return Ok(());
     }
     over_most(part, base)
 }

@@ -36,15 +36,15 @@ fn urls_from(part: &[u8], base: usize) -> Verdict
         match w.step(part) {
             Step::Found(b, next) => {
                 if is_url(b.code, walk::body(part, b)) == 0 {
-                    return Verdict::Bad(base + b.at);
+                    return Err(base + b.at);
                 }
                 w = next;
             }
             Step::End => {
-                return Verdict::Fine;
+                return Ok(());
             }
             Step::Broken(_) => {
-                return Verdict::Fine;
+                return Ok(());
             }
         }
     }
@@ -95,10 +95,10 @@ pub fn urls_in(k: usize, c: usize, body: &[u8], q: usize) -> Verdict
     ensures { result ≡ urls_in k c body.now q }
 {
     if k != codes::DINF {
-        return Verdict::Fine;
+        return Ok(());
     }
     if c != codes::DREF {
-        return Verdict::Fine;
+        return Ok(());
     }
     urls_from(lend::rest(body, walk::FRONT), q + walk::FRONT)
 }

@@ -10,7 +10,6 @@ ghost use Rattle.rule_shape.specs.TwentyThree.{barred};
 ghost use Rattle.rule_shape.specs.Two.{may_have};
 
 use boxes::containers::FILE;
-use boxes::seek::Seen;
 use boxes::walk::{Form, Step, Walk};
 use boxes::{seek, walk};
 
@@ -96,8 +95,8 @@ fn more_than(n: usize, part: &[u8], c: usize) -> usize
     ensures { (result ≡ 0 → count c (boxes part.now) ≤ n) × ((result ≡ 0 → ⊥) → n < count c (boxes part.now)) }
 {
     match seek::nth(part, c, n) {
-        Seen::At(_) => 1,
-        Seen::Missing => 0,
+        Some(_) => 1,
+        None => 0,
     }
 }
 

@@ -10,12 +10,12 @@ use Rattle.boxes.specs.Boxes.{boxes}
 use Rattle.boxes.specs.Seek.{find, place_in}
 use Rattle.sample_tables.proofs.Rules.{seven_is}
 use Rattle.mdat.specs.Rules.{chunks_lie, Ready}
-use Rattle.rule.specs.declared.Verdict.TheVariants.{Fine, Bad}
 use Rattle.rule.proofs.Places.{unless_yea, unless_nay}
 use Rattle.rule_tracks.specs.Seven.{seven_holds}
 use Rattle.rule_tracks.specs.Eight.{eight_holds}
 use Rattle.rule_tracks.specs.Asked.{six_holds, seven_asked, eight_asked, eight_asked_at}
 use Rattle.rule_tracks.proofs.Answers.{six_is}
+use Rattle.rule.specs.Verdict.{Fine, Bad}
 
 module _ (m : List Box) (s : six_holds m ≡ true) where
   asked_is : seven_asked m ≡ seven_holds m

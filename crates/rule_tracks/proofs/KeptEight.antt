@@ -17,8 +17,7 @@ use Rattle.mdat.specs.Payloads.{mdats}
 use Rattle.mdat.specs.Relocate.{Relocated}
 use Rattle.mdat.proofs.Keeping.{eight_kept}
 use Rattle.mdat.proofs.Staying.{relocated_none}
-use Rattle.rule.specs.declared.Verdict.TheVariants.{Fine}
-use Rattle.rule.specs.Verdict.{is_fine}
+use Rattle.rule.specs.Verdict.{is_fine, Fine}
 use Rattle.rule.specs.Rule.{all_in, Says}
 use Rattle.rule.proofs.Keeping.{keep, kept_at}
 use Rattle.rule.proofs.Places.{unless_fine}

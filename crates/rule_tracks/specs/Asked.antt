@@ -9,9 +9,7 @@ use Rattle.boxes.specs.Boxes.{boxes}
 use Rattle.boxes.specs.Seek.{find, place_in}
 use Rattle.sample_tables.specs.Tables.{table_form}
 use Rattle.sample_tables.specs.Sizes.{sizes_form}
-use Rattle.rule.specs.declared.Verdict.{Verdict}
-use Rattle.rule.specs.declared.Verdict.TheVariants.{Fine}
-use Rattle.rule.specs.Verdict.{unless}
+use Rattle.rule.specs.Verdict.{unless, Verdict, Fine}
 use Rattle.rule.specs.Judge.{Judge}
 use Rattle.rule.specs.Rule.{placed}
 use Rattle.rule_tracks.specs.Seven.{seven_holds}

@@ -104,9 +104,9 @@ pub fn eight_at(file: &[u8], k: usize, part: &[u8], base: usize) -> Verdict
 {
     if k == codes::STBL {
         if !eight_holds(file, part) {
-            return Verdict::Bad(base + seek::place(part, codes::STCO, 0));
+            return Err(base + seek::place(part, codes::STCO, 0));
         }
-        return Verdict::Fine;
+        return Ok(());
     }
-    Verdict::Fine
+    Ok(())
 }

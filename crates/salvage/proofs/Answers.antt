@@ -7,7 +7,6 @@ use mathlib.Core.List.{List}
 use lib.ListN.{length, drop, length-drop}
 use Rattle.wire.proofs.Clauses.{not_le}
 use Rattle.boxes.specs.Containers.{LONGEST}
-use Rattle.rule.specs.declared.Answer.TheVariants.{Refused}
 use Rattle.rule.specs.Results.{length_fine}
 use Rattle.rule.proofs.Results.{test_not, test_so, reports_refused, length_fine_lem}
 use Rattle.frames.specs.declared.codec.Codec.{Codec}
@@ -20,6 +19,7 @@ use Rattle.salvage.specs.Salvage.{kept_frames, salvage_result, Salvages}
 use Rattle.salvage.specs.Found.{Found}
 use Rattle.salvage.proofs.Keeping.{kept_most, kept_inside}
 use Rattle.salvage.proofs.Fronts.{start_of, such, payload_is}
+use Rattle.rule.specs.Answers.{Refused}
 
 module _ (k : Codec) (xs out room : List ℕ) where
   pub no_file : length_fine xs ≡ false → Salvages k xs out (Refused 1 0) out room room

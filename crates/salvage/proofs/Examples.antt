@@ -15,14 +15,14 @@ use Rattle.frames.specs.declared.codec.Codec.TheVariants.{Amr, Wideband}
 use Rattle.frames.specs.Codecs.{data_bytes}
 use Rattle.frames.specs.Frames.{type_of, frame_size, good, frames_to, joined}
 use Rattle.frames.specs.Modes.{seen, type_bit, mode_bit, mode_set}
-use Rattle.rule.specs.declared.Answer.TheVariants.{Done}
 use Rattle.rule.specs.Results.{asked, answer_in}
-use Rattle.rule.specs.Results.Result.{refuses}
+use Rattle.rule.specs.Results.ToWrite.{refuses}
 use Rattle.from_amr.specs.Fields.{fields}
 use Rattle.from_amr.specs.Boxes.{ftyp, mvhd, tkhd, mdhd, hdlr, smhd, dref, stsd, one_for, sizes_of, stsz}
 use Rattle.from_amr.specs.File.{start, file_of}
 use Rattle.salvage.specs.Unfinished.{endless, unfinished}
 use Rattle.salvage.specs.Salvage.{payload_of, kept_frames, dropped, report_of, salvage_result}
+use Rattle.rule.specs.Answers.{Done}
 
 -- an empty `ftyp`, an `mdat` with a size field, and a payload
 abbrev died : ℕ → List ℕ → List ℕ

@@ -13,10 +13,8 @@ use Rattle.wire.proofs.Numbers.{word_drop}
 use Rattle.wire.proofs.Writing.{pen_front}
 use Rattle.boxes.specs.Boxes.{HEAD}
 use Rattle.boxes.specs.Containers.{LONGEST}
-use Rattle.rule.specs.declared.Answer.{Answer}
-use Rattle.rule.specs.declared.Answer.TheVariants.{Done, Refused}
 use Rattle.rule.specs.Results.{asked, in_limit, Exact}
-use Rattle.rule.specs.Results.Result.{gives}
+use Rattle.rule.specs.Results.ToWrite.{gives}
 use Rattle.rule.proofs.Results.{exact_short, exact_wrote, test_not, test_so, test_all, reports_refused, reports_done}
 use Rattle.frames.specs.declared.codec.Codec.{Codec}
 use Rattle.frames.specs.declared.run.Run.{Run}
@@ -29,6 +27,7 @@ use Rattle.salvage.specs.Salvage.{payload_of, kept_frames, kept, dropped, first_
 use Rattle.salvage.specs.Found.{Found}
 use Rattle.salvage.proofs.Keeping.{kept_dropped, kept_again}
 use Rattle.salvage.proofs.Fronts.{payload_is}
+use Rattle.rule.specs.Answers.{Answer, Done, Refused}
 
 -- ---- the refusals, and what is written
 

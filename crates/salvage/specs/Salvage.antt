@@ -2,14 +2,14 @@
 use Rattle.std.specs.Prelude.{ℕ, ◌-◌, List, [], ◌∷◌, length, drop}
 use Rattle.wire.specs.Clauses.{is_le}
 use Rattle.boxes.specs.Boxes.{HEAD}
-use Rattle.rule.specs.declared.Answer.{Answer}
-use Rattle.rule.specs.Results.{Result, asked, length_fine, in_limit, Reports}
-use Rattle.rule.specs.Results.Result.{gives}
+use Rattle.rule.specs.Results.{ToWrite, asked, length_fine, in_limit, Reports}
+use Rattle.rule.specs.Results.ToWrite.{gives}
 use Rattle.frames.specs.declared.codec.Codec.{Codec}
 use Rattle.frames.specs.Frames.{frames_to, joined}
 use Rattle.from_amr.specs.File.{file_of}
 use Rattle.from_amr.specs.Dump.{MOST_FRAMES}
 use Rattle.salvage.specs.Unfinished.{size_field, behind_ftyp, unfinished}
+use Rattle.rule.specs.Answers.{Answer}
 
 -- the payload of the `mdat`
 unfoldable pub payload_of : List ℕ → List ℕ
@@ -39,7 +39,7 @@ abbrev pub salvaged : Codec → List ℕ → List ℕ
 salvaged k xs = file_of k (kept_frames k xs)
 
 -- "1 as before, then 60 not such a file, 61 no frame, then 24, 25": the last of either room, that of the report having so many numbers
-unfoldable pub salvage_result : Codec → List ℕ → (numbers : ℕ) → Result
+unfoldable pub salvage_result : Codec → List ℕ → (numbers : ℕ) → ToWrite
 salvage_result k xs numbers =
     asked
     ((1, length_fine xs)

@@ -16,7 +16,7 @@ use frames::codec::Codec;
 use frames::run;
 use frames::run::Run;
 use from_amr::MOST_FRAMES;
-use rule::Answer;
+use rule::{Answer, refusals};
 use wire::number;
 
 // Whether an `mdat` stands at the front whose end isn't there: 1 or 0.
@@ -81,19 +81,19 @@ fn save(
 {
     let n = from_amr::file::start(run.count) + run.bytes;
     if LONGEST < n {
-        return Answer::Refused(24, 0);
+        return Err(refusals::TOO_LONG);
     }
     if report.len() < 4 {
-        return Answer::Refused(25, 0);
+        return Err(refusals::NO_ROOM);
     }
     if out.len() < n {
-        return Answer::Refused(25, 0);
+        return Err(refusals::NO_ROOM);
     }
     let end = start + run.bytes;
     from_amr::file::put(out, codec, &file[start..end], run);
     let size = number::word32(file, start - HEAD);
     put_report(report, size, run.count, file.len() - end, end);
-    Answer::Done(n)
+    Ok(n)
 }
 
 // The file of the frames that are whole and good from the payload's start on, and what was changed.
@@ -101,18 +101,18 @@ pub fn salvage(file: &[u8], codec: Codec, out: &mut [u8], report: &mut [u64]) ->
     ensures { Salvages codec file.now out.old result out.new report.old report.new }
 {
     if file.len() < 8 {
-        return Answer::Refused(1, 0);
+        return Err(refusals::LENGTH);
     }
     if LONGEST < file.len() {
-        return Answer::Refused(1, 0);
+        return Err(refusals::LENGTH);
     }
     let start = payload_at(file);
     if start == 0 {
-        return Answer::Refused(60, 0);
+        return Err(refusals::NOT_CUT_OFF);
     }
     let run = run::read(codec, &file[start..], MOST_FRAMES);
     if run.count == 0 {
-        return Answer::Refused(61, 0);
+        return Err(refusals::NO_FRAME);
     }
     save(file, codec, start, run, out, report)
 }

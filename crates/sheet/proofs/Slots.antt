@@ -1,4 +1,5 @@
 -- The slot of one entry, as it is written. Assumes nothing.
+use Rattle.std.specs.Prelude.{Option, Some, None}
 use Prim.Native.Nat.{ℕ, ◌+◌, ◌-◌, ◌*◌, ◌/◌, ◌%◌, ◌<◌}
 use native.Mathlib.Omega.{arith}
 use mathlib.Core.Path.{◌≡◌}
@@ -10,8 +11,6 @@ use Rattle.wire.specs.Writing.{Put}
 use Rattle.wire.proofs.Writing.{pen_none, pen_is}
 use Rattle.wire.proofs.Tests.{eq_any}
 use Rattle.movie.specs.declared.entry.EntryAt.{EntryAt}
-use Rattle.movie.specs.declared.entry.Named.{Named}
-use Rattle.movie.specs.declared.entry.Named.TheVariants.{At, Missing}
 use Rattle.movie.specs.Entries.{Entry, entries}
 use Rattle.movie.specs.Named.{entry_as, NamedAs}
 use Rattle.movie.proofs.Asking.{named_at, named_none}
@@ -54,11 +53,11 @@ part_is xs p n = let e : p + n - p ≡ n = omega arith in rw e
 
 -- ---- the entries one by one
 
-module _ (xs : List ℕ) (i : ℕ) (r : Named) (s : NamedAs xs i r) where
-  pub one_at : (e : EntryAt) → r ≡ At e → take 1 (drop i (entries xs)) ≡ entry_as xs e ∷ []
+module _ (xs : List ℕ) (i : ℕ) (r : Option EntryAt) (s : NamedAs xs i r) where
+  pub one_at : (e : EntryAt) → r ≡ Some e → take 1 (drop i (entries xs)) ≡ entry_as xs e ∷ []
   one_at e f = rw (named_at xs i r s e f).is
 
-  pub one_none : r ≡ Missing → take 1 (drop i (entries xs)) ≡ []
+  pub one_none : r ≡ None → take 1 (drop i (entries xs)) ≡ []
   one_none f = let z : drop i (entries xs) ≡ [] = drop_of_length-le (entries xs) {i = i} (named_none xs i r s f) in rw z
 
 module _ {es : List Entry} {e : Entry} (f : es ≡ e ∷ []) {out after : List ℕ} {at r : ℕ} where

@@ -7,7 +7,7 @@ ghost use Rattle.std.specs.Prelude.{◌≡◌, [], ◌∷◌, ◌+◌, ◌-◌, 
 ghost use Rattle.wire.specs.Numbers.{bytes};
 ghost use Rattle.wire.specs.Writing.{Put};
 ghost use Rattle.rule.specs.Results.{Exact};
-ghost use Rattle.rule.specs.Results.Result.{gives};
+ghost use Rattle.rule.specs.Results.ToWrite.{gives};
 ghost use Rattle.movie.specs.Entries.{entries};
 ghost use Rattle.layout.specs.Every.{TracksAt};
 ghost use Rattle.layout.specs.Entries.{ListsAt};
@@ -18,12 +18,11 @@ ghost use Rattle.sheet.specs.Reader.{sheet_of, sheet_result};
 
 use crate::edition::{SLOT, SLOTS};
 use entry_heads::kind;
-use judge::Judgement;
 use layout::entries::Lists;
 use layout::every::Tracks;
 use layout::{entries, gather};
-use movie::entry::{EntryAt, Named};
-use rule::Answer;
+use movie::entry::EntryAt;
+use rule::{Answer, refusals};
 use wire::{number, pen};
 
 // Writes the last four bytes of a number.
@@ -82,8 +81,8 @@ fn put_slot_at(out: &mut [u8], at: usize, file: &[u8], l: Lists, i: usize) -> us
     ensures { Put (slots_text (take 1 (drop i (entries file.now)))) out.old at result out.new × (result ≤ at + 12) }
 {
     match entries::entry(file, l, i) {
-        Named::At(e) => put_slot_of(out, at, file, e),
-        Named::Missing => at,
+        Some(e) => put_slot_of(out, at, file, e),
+        None => at,
     }
 }
 
@@ -149,19 +148,15 @@ fn sheet_of(file: &[u8], e: Tracks, out: &mut [u8]) -> Answer
     let mut none = [0u8; 1];
     let span = put_bodies(&mut none, edition::bodies_at(n), file, l);
     if out.len() < span {
-        return Answer::Refused(25, 0);
+        return Err(refusals::NO_ROOM);
     }
-    Answer::Done(put_sheet(out, file, l, n))
+    Ok(put_sheet(out, file, l, n))
 }
 
 // The sheet of a file, with its length.
 pub fn sheet(file: &[u8], out: &mut [u8]) -> Answer
     ensures { Exact (sheet_result file.now) out.old result out.new }
 {
-    let j = judge::judge_tracks(file);
-    let answer = j.answer;
-    match answer {
-        Judgement::Accepted => sheet_of(file, j.tracks, out),
-        Judgement::Refused(n, p) => Answer::Refused(n, p),
-    }
+    let tracks = judge::judge_tracks(file)?;
+    sheet_of(file, tracks, out)
 }

@@ -14,16 +14,15 @@ use Rattle.wire.proofs.Numbers.{length_bytes_lem}
 use Rattle.wire.proofs.Writing.{pen_then, pen_front}
 use Rattle.boxes.specs.Containers.{LONGEST}
 use Rattle.movie.specs.Entries.{Entry}
-use Rattle.rule.specs.declared.Answer.{Answer}
-use Rattle.rule.specs.declared.Answer.TheVariants.{Done, Refused}
 use Rattle.rule.specs.Results.{asked, in_limit, Exact}
-use Rattle.rule.specs.Results.Result.{gives}
+use Rattle.rule.specs.Results.ToWrite.{gives}
 use Rattle.rule.proofs.Results.{exact_short, exact_wrote, test_not, test_so, test_nay, test_yea, over_limit, in_limit_lem}
 use Rattle.sheet.specs.Sheet.{bodies}
 use Rattle.sheet_table.specs.Form.{read, unsheet, steps, formed}
 use Rattle.sheet_table.specs.Table.{own_entries, table, track_table, table_result}
 use Rattle.sheet_table.proofs.Opening.{Opened, opened}
 use Rattle.sheet_table.proofs.Tracks.{formed_steps, has_track_lem, no_track}
+use Rattle.rule.specs.Answers.{Answer, Done, Refused}
 
 -- ---- the table
 

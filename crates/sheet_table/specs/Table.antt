@@ -5,8 +5,8 @@ use Rattle.wire.specs.Clauses.{is_le, every}
 use Rattle.wire.specs.Numbers.{bytes}
 use Rattle.codes.specs.Codes.{STSD}
 use Rattle.movie.specs.Entries.{Entry}
-use Rattle.rule.specs.Results.{Result, asked, in_limit}
-use Rattle.rule.specs.Results.Result.{gives}
+use Rattle.rule.specs.Results.{ToWrite, asked, in_limit}
+use Rattle.rule.specs.Results.ToWrite.{gives}
 use Rattle.sheet.specs.Sheet.{bodies}
 use Rattle.sheet_table.specs.Form.{unsheet, formed}
 
@@ -32,7 +32,7 @@ unfoldable pub track_table : List ℕ → ℕ → List ℕ
 track_table xs t = table (own_entries t (unsheet xs))
 
 -- "30, then 20 (track 0 or above the sheet's highest), then 24, then 25"
-unfoldable pub table_result : List ℕ → ℕ → Result
+unfoldable pub table_result : List ℕ → ℕ → ToWrite
 table_result xs t =
     asked
     ((30, formed xs)

@@ -5,13 +5,13 @@ ghost use Rattle.std.specs.Prelude.{◌≡◌, [], ◌∷◌, ◌+◌, ◌^◌, 
 ghost use Rattle.wire.specs.Tests.{if_eq};
 ghost use Rattle.wire.specs.Writing.{Put};
 ghost use Rattle.rule.specs.Results.{asked, in_limit, Exact};
-ghost use Rattle.rule.specs.Results.Result.{gives};
+ghost use Rattle.rule.specs.Results.ToWrite.{gives};
 ghost use Rattle.sheet.specs.Sheet.{bodies as bodies_text};
 ghost use Rattle.sheet_table.specs.Form.{read};
 ghost use Rattle.sheet_table.specs.Table.{own_entries, table as table_text, table_result};
 
 use boxes::containers;
-use rule::Answer;
+use rule::{Answer, refusals};
 use sheet::edition;
 use wire::{lend, number, pen, test};
 
@@ -106,12 +106,12 @@ fn write_own(
     let mut none = [0u8; 1];
     let span = put_own(&mut none, 0, slots, bodies, n, track);
     if containers::LONGEST < 16 + span {
-        return Answer::Refused(24, 0);
+        return Err(refusals::TOO_LONG);
     }
     if out.len() < 16 + span {
-        return Answer::Refused(25, 0);
+        return Err(refusals::NO_ROOM);
     }
-    Answer::Done(put_table(out, slots, bodies, n, track, own, span))
+    Ok(put_table(out, slots, bodies, n, track, own, span))
 }
 
 // The `stsd` box of a track of a sheet.
@@ -119,14 +119,14 @@ pub fn table(sheet: &[u8], track: usize, out: &mut [u8]) -> Answer
     ensures { Exact (table_result sheet.now track) out.old result out.new }
 {
     if form::formed(sheet) == 0 {
-        return Answer::Refused(30, 0);
+        return Err(refusals::BAD_SHEET);
     }
     let n = number::byte(sheet, 1);
     let slots = lend::rest(sheet, edition::FRONT);
     let bodies = slots::bodies(sheet, n);
     let own = count_own(slots, bodies, n, track);
     if own == 0 {
-        return Answer::Refused(20, 0);
+        return Err(refusals::NO_SUCH);
     }
     write_own(slots, bodies, n, track, own, out)
 }

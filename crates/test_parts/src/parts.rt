@@ -40,8 +40,8 @@ fn walk(rt: HostRuntime, part: &[u8]) {
 
 fn torn(part: &[u8]) -> usize {
     match seek::ends(part) {
-        Tiling::Whole => part.len(),
-        Tiling::Torn(p) => p,
+        Ok(()) => part.len(),
+        Err(p) => p,
     }
 }
 

@@ -1,4 +1,5 @@
 -- The refusals of the newer of two have small numbers. Assumes nothing.
+use Rattle.std.specs.Prelude.{Err}
 use Prim.Native.Nat.{ℕ, zero, suc, ◌-◌, ◌≤◌}
 use native.Mathlib.Omega.{arith}
 use mathlib.Core.Bool.{Bool, true, false}
@@ -11,14 +12,10 @@ use Rattle.clocks.specs.declared.Order.{Order}
 use Rattle.clocks.specs.declared.Order.TheVariants.{Earlier, Same, Later}
 use Rattle.clocks.specs.Clocks.{zone_fine}
 use Rattle.movie.specs.Entries.{Entry, entries}
-use Rattle.judge.specs.declared.Judgement.{Judgement}
-use Rattle.judge.specs.declared.Judgement.TheVariants as judgement
-use Rattle.judge.specs.Judgement.{judged_number, judged}
+use Rattle.judge.specs.Judgement.{judged_number, judged, Judgement, Accepted}
 use Rattle.judge.specs.Calls.{when_accepted}
 use Rattle.judge.proofs.Places.{number_most}
-use Rattle.newer.specs.declared.Outcome.{Outcome}
-use Rattle.newer.specs.declared.Outcome.TheVariants.{Refused}
-use Rattle.newer.specs.Newer.{order_of, among, entry_in, entry_of, in_zones, newest_of}
+use Rattle.newer.specs.Newer.{order_of, among, entry_in, entry_of, in_zones, newest_of, Outcome, RefusedIn}
 use Rattle.threegp.specs.Answers.{Told}
 
 among_told : (o : Order) (file i : ℕ) (es : List Entry) → Told (among o file i es)
@@ -40,10 +37,10 @@ pick_told : (t : Bool) (a b : Outcome) → Told a → Told b → Told (pick t a 
 pick_told true a b p q = p
 pick_told false a b p q = q
 
-when_told : (file : ℕ) → file ≤ 2 → (j : Judgement) → judged_number j ≤ 10 → (o : Outcome) → Told o → Told (when_accepted (Refused file) j o)
+when_told : (file : ℕ) → file ≤ 2 → (j : Judgement) → judged_number j ≤ 10 → (o : Outcome) → Told o → Told (when_accepted (RefusedIn file) j o)
 unfolding when_accepted
-when_told file h judgement.Accepted k o p = p
-when_told file h (judgement.Refused n q) k o p = (h, omega arith)
+when_told file h Accepted k o p = p
+when_told file h (Err e) k o p = (h, omega arith)
 
 pub newest_told : (xs : List ℕ) (y : ℤ) (ys : List ℕ) (z : ℤ) (i : ℕ) → Told (newest_of xs y ys z i)
 unfolding newest_of in_zones

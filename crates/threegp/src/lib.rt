@@ -14,8 +14,7 @@ ghost use Rattle.sheet_table.specs.Table.{table_result};
 ghost use Rattle.brands.specs.Calls.{brand_answer};
 ghost use Rattle.listing.specs.Listing.{listing_result};
 ghost use Rattle.outline.specs.Outline.{outline_result};
-ghost use Rattle.newer.specs.declared.Outcome.TheVariants.{Found};
-ghost use Rattle.newer.specs.Newer.{newest_of};
+ghost use Rattle.newer.specs.Newer.{Found, newest_of};
 ghost use Rattle.entry_fields.specs.Numbers.{read_result, write_result};
 ghost use Rattle.edit_shift.specs.Shift.{shift_result};
 ghost use Rattle.edit_replace.specs.Replace.{replace_result};
@@ -24,11 +23,10 @@ ghost use Rattle.from_amr.specs.Dump.{from_amr};
 ghost use Rattle.salvage.specs.Salvage.{report_of, salvage_result};
 ghost use Rattle.threegp.specs.Answers.{pair as pair_of, packed, judge_answer, ForC, ReportsForC, newer_result, Told};
 
-use frames::codec::Codec;
-use judge::Judgement;
-use newer::{Outcome, Part};
+use frames::codec;
+use newer::{FileRefusal, Part};
 use release::Release;
-use rule::Answer;
+use rule::{Answer, Refusal, refusals};
 
 fn pair(n: usize, v: usize) -> u64
     ensures { result ≡ pair_of n v }
@@ -41,8 +39,8 @@ fn pack(answer: Answer) -> u64
     ensures { result ≡ packed answer }
 {
     match answer {
-        Answer::Done(n) => pair(0, n),
-        Answer::Refused(n, p) => pair(n, p),
+        Ok(n) => pair(0, n),
+        Err(e) => pair(e.number, e.place),
     }
 }
 
@@ -51,8 +49,8 @@ pub fn threegp_judge(file: &[u8]) -> u64
     ensures { result ≡ judge_answer (judged file.now) }
 {
     match judge::judge(file) {
-        Judgement::Accepted => pair(0, 0),
-        Judgement::Refused(n, p) => pair(n, p),
+        Ok(()) => pair(0, 0),
+        Err(refusal) => pair(refusal.number, refusal.place),
     }
 }
 
@@ -181,27 +179,26 @@ fn put_part(out: &mut [u64], f: Part) -> Answer
     ensures { Exact (newer_result (Found f)) out.old result out.new }
 {
     if out.len() < 4 {
-        return Answer::Refused(25, 0);
+        return Err(refusals::NO_ROOM);
     }
     let order = f.order;
     out[0] = usize::from(order) as u64;
     out[1] = f.file as u64;
     out[2] = f.place as u64;
     out[3] = f.span as u64;
-    Answer::Done(4)
+    Ok(4)
 }
 
-fn put_outcome(out: &mut [u64], outcome: Outcome) -> Answer
+fn put_outcome(out: &mut [u64], outcome: Result<Part, FileRefusal>) -> Answer
     requires { Told outcome }
     ensures { Exact (newer_result outcome) out.old result out.new }
 {
     match outcome {
-        Outcome::Found(f) => put_part(out, f),
-        Outcome::Refused {
-            file,
-            number,
-            place,
-        } => Answer::Refused(256 * file + number, place),
+        Ok(f) => put_part(out, f),
+        Err(e) => Err(Refusal {
+            number: 256 * e.file + e.refusal.number,
+            place: e.refusal.place,
+        }),
     }
 }
 

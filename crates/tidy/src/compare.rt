@@ -1,6 +1,6 @@
 // The word `newer`: which of two files is newer.
 use clocks::Order;
-use newer::Outcome as Newest;
+use newer::FileRefusal;
 use std::fmt;
 use std::fmt::{Display, Write};
 use tidy_files::{input, time};
@@ -71,25 +71,21 @@ fn say(rt: HostRuntime, order: Order, first: Clocked<'_>, second: Clocked<'_>) -
 }
 
 // A refusal, and which file it is about.
-fn refuse(rt: HostRuntime, file: usize, number: usize, place: usize) -> Failure {
-    match file {
+fn refuse(rt: HostRuntime, why: FileRefusal) -> Failure {
+    match why.file {
         1 => tell::say(rt, b"first file "),
         2 => tell::say(rt, b"second file "),
         _ => {}
     }
-    tell::refused(rt, number, place)
+    tell::refused(rt, why.refusal)
 }
 
 // Every accepted file has an entry 1.
 fn compare(rt: HostRuntime, first: Clocked<'_>, second: Clocked<'_>) -> Outcome {
-    match newer::newest(first.file, first.minutes, second.file, second.minutes, 1) {
-        Newest::Found(part) => say(rt, part.order, first, second),
-        Newest::Refused {
-            file,
-            number,
-            place,
-        } => Err(refuse(rt, file, number, place)),
-    }
+    let part = newer::newest(first.file, first.minutes, second.file, second.minutes, 1).map_err(
+        |why| refuse(rt, why),
+    )?;
+    say(rt, part.order, first, second)
 }
 
 // The first file is read.

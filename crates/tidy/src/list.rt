@@ -1,6 +1,4 @@
 // The words `list` and `outline`: the listing of a file, and its boxes.
-use judge::Judgement;
-use rule::Answer;
 use tidy_files::input;
 use tidy_words::tell;
 use tidy_words::tell::{Failure, Outcome, To};
@@ -11,10 +9,7 @@ const LONGEST: usize = 65536;
 
 // A refused file has a listing too.
 fn judged(rt: HostRuntime, file: &[u8]) -> Outcome {
-    match judge::judge(file) {
-        Judgement::Accepted => Ok(()),
-        Judgement::Refused(number, place) => Err(tell::refused(rt, number, place)),
-    }
+    judge::judge(file).map_err(|refusal| tell::refused(rt, refusal))
 }
 
 fn show(rt: HostRuntime, text: &[u8], file: &[u8]) -> Outcome {
@@ -32,10 +27,8 @@ pub fn run(rt: HostRuntime, file: &[u8]) -> Outcome {
         return too_long(rt);
     }
     let mut text = [0u8; listing::ROOM];
-    match listing::listing(file, &mut text) {
-        Answer::Done(n) => show(rt, lend::front(&text, n), file),
-        Answer::Refused(number, place) => Err(tell::refused(rt, number, place)),
-    }
+    let n = listing::listing(file, &mut text).map_err(|refusal| tell::refused(rt, refusal))?;
+    show(rt, lend::front(&text, n), file)
 }
 
 // A file isn't judged for its outline. The text has at most 8 bytes for each of the file's, and 13 more (`outline_room`), so the room suffices.
@@ -44,8 +37,6 @@ pub fn outline(rt: HostRuntime, file: &[u8]) -> Outcome {
         return too_long(rt);
     }
     let mut text = input::room();
-    match outline::outline(file, &mut text) {
-        Answer::Done(n) => tell::print(rt, To::Output, lend::front(&text, n)),
-        Answer::Refused(number, place) => Err(tell::refused(rt, number, place)),
-    }
+    let n = outline::outline(file, &mut text).map_err(|refusal| tell::refused(rt, refusal))?;
+    tell::print(rt, To::Output, lend::front(&text, n))
 }

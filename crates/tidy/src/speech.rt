@@ -1,5 +1,4 @@
 // The word `modes`: the first sample of a track whose frames aren't as its description says.
-use rule::Answer;
 use tidy_words::tell;
 use tidy_words::tell::{Failure, Outcome, To};
 
@@ -25,9 +24,9 @@ fn fails(rt: HostRuntime, number: u64, why: u64) -> Outcome {
 
 pub fn run(rt: HostRuntime, file: &[u8], track: usize) -> Outcome {
     let mut found = [0u64; 2];
-    match modes::modes(file, track, &mut found) {
-        Answer::Done(0) => tell::print(rt, To::Output, b"every sample passes\n"),
-        Answer::Done(_) => fails(rt, found[0], found[1]),
-        Answer::Refused(number, place) => Err(tell::refused(rt, number, place)),
+    let n = modes::modes(file, track, &mut found).map_err(|refusal| tell::refused(rt, refusal))?;
+    if n == 0 {
+        return tell::print(rt, To::Output, b"every sample passes\n");
     }
+    fails(rt, found[0], found[1])
 }

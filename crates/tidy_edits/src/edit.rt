@@ -47,9 +47,9 @@ impl Edit {
 
     pub fn run(self, rt: HostRuntime, file: &[u8], to: &[u8]) -> Outcome {
         let mut room = input::room();
-        match self.apply(file, &mut room) {
-            Answer::Done(n) => self.write(rt, file, lend::front(&room, n), to),
-            Answer::Refused(number, place) => Err(tell::refused(rt, number, place)),
-        }
+        let n = self
+            .apply(file, &mut room)
+            .map_err(|refusal| tell::refused(rt, refusal))?;
+        self.write(rt, file, lend::front(&room, n), to)
     }
 }

@@ -1,6 +1,5 @@
 // The word `salvage`: a file of what a recorder that died left.
 use frames::codec::Codec;
-use rule::Answer;
 use std::fmt;
 use std::fmt::{Display, Write};
 use tidy_files::input;
@@ -61,8 +60,8 @@ fn write(rt: HostRuntime, bytes: &[u8], report: [u64; 4], name: &[u8]) -> Outcom
 pub fn run(rt: HostRuntime, codec: Codec, file: &[u8], to: &[u8]) -> Outcome {
     let mut room = input::room();
     let mut report = [0; 4];
-    match salvage::salvage(file, codec, &mut room, &mut report) {
-        Answer::Done(n) => write(rt, lend::front(&room, n), report, to),
-        Answer::Refused(number, place) => Err(tell::refused(rt, number, place)),
-    }
+    let n = salvage::salvage(file, codec, &mut room, &mut report).map_err(|refusal| tell::refused(
+        rt, refusal,
+    ))?;
+    write(rt, lend::front(&room, n), report, to)
 }

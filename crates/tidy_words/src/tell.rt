@@ -1,5 +1,6 @@
 // What is said on standard output and standard error, and how it went.
 use crate::line;
+use rule::Refusal;
 use std::fmt::Display;
 use std::io::Error;
 use std::process::ExitCode;
@@ -37,9 +38,9 @@ pub fn say(rt: HostRuntime, words: &[u8]) {
 }
 
 // A refusal of the library, in words.
-pub fn refused(rt: HostRuntime, number: usize, place: usize) -> Failure {
+pub fn refused(rt: HostRuntime, refusal: Refusal) -> Failure {
     let mut line = [0u8; 512];
-    let n = refusal_words::put_refusal(&mut line, 0, number, place);
+    let n = refusal_words::put_refusal(&mut line, 0, refusal.number, refusal.place);
     say(rt, lend::front(&line, n));
     Failure::Refused
 }

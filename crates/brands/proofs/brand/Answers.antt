@@ -1,19 +1,18 @@
 -- The judgement, and then the brand of an accepted file.
-use Rattle.judge.proofs.Calls.{met, answer_accepted, answer_refused}
+use Rattle.judge.proofs.Calls.{met, answer_accepted, answer_passed}
 use Rattle.brands.specs.Calls.{brand_answer}
-use Rattle.rule.specs.declared.Answer.TheVariants.{Done}
-use mathlib.Core.Path.{ap}
+use mathlib.Core.Path.{ap, refl}
 use Rattle.brands.proofs.brand.Goals as goal
+use Rattle.rule.specs.Answers.{Done}
 
 pub brand_of-requires : goal.brand_of-requires
 unfolding brand_answer
-brand_of-requires c = let j = c.judge_tracks-j.ensures in
-    (met _ j.answer c.in-Accepted.is, j.tracks c.in-Accepted.is)
+brand_of-requires c = let a = c.in_ok-tracks.ensures in (met _ refl a.0, a.1)
 
-pub returns-in-Accepted : goal.returns-in-Accepted
+pub returns : goal.returns
 unfolding brand_answer
-returns-in-Accepted c = answer_accepted _ c.judge_tracks-j.ensures.answer _ c.in-Accepted.is (ap Done c.brand_of.ensures)
+returns c = answer_accepted _ refl _ c.in_ok-tracks.ensures.0 (ap Done c.brand_of.ensures)
 
-pub returns-in-Refused : goal.returns-in-Refused
+pub returns-in_err-tracks : goal.returns-in_err-tracks
 unfolding brand_answer
-returns-in-Refused c = answer_refused _ c.judge_tracks-j.ensures.answer _ c.in-Refused.is
+returns-in_err-tracks c = answer_passed _ refl _ _ c.in_err-tracks.ensures c.from_residual.ensures.1

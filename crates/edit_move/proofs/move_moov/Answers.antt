@@ -1,16 +1,16 @@
 -- The judgement, and then the move of an accepted file.
-use Rattle.judge.proofs.Calls.{met, result_accepted, result_refused}
+use Rattle.judge.proofs.Calls.{met, result_accepted, result_passed}
 use Rattle.edit_move.specs.Moving.{move_result}
 use Rattle.edit_move.proofs.move_moov.Goals as goal
 
 pub move_accepted-requires : goal.move_accepted-requires
 unfolding move_result
-move_accepted-requires c = met _ c.judge.ensures c.in-Accepted.is
+move_accepted-requires c = met _ c.judge.ensures c.in_ok-judge.was
 
-pub returns-in-Accepted : goal.returns-in-Accepted
+pub returns : goal.returns
 unfolding move_result
-returns-in-Accepted c = result_accepted _ c.judge.ensures _ _ _ c.in-Accepted.is c.move_accepted.ensures
+returns c = result_accepted _ c.judge.ensures _ _ _ c.in_ok-judge.was c.move_accepted.ensures
 
-pub returns-in-Refused : goal.returns-in-Refused
+pub returns-in_err-judge : goal.returns-in_err-judge
 unfolding move_result
-returns-in-Refused c = result_refused _ c.judge.ensures _ _ _ c.in-Refused.is
+returns-in_err-judge c = result_passed _ c.judge.ensures _ _ _ _ c.in_err-judge.was c.from_residual.ensures.1

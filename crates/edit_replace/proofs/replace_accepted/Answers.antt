@@ -6,7 +6,7 @@ use native.Mathlib.Omega.{arith}
 use Rattle.edit_replace.proofs.replace_accepted.Goals as goal
 
 pub replace_in-requires : goal.replace_in-requires
-replace_in-requires c = (c.requires, cut_as c.args.file.now MOOV 0 _ c.nth.ensures _ c.in-At.is)
+replace_in-requires c = (c.requires, cut_as c.args.file.now MOOV 0 _ c.nth.ensures _ c.in-Some.is)
 
-pub returns-in-Missing : goal.returns-in-Missing
-returns-in-Missing c = absurd (omega (arith, none_as c.args.file.now MOOV 0 _ c.nth.ensures c.in-Missing.is, one_moov _ c.requires))
+pub returns-in_default : goal.returns-in_default
+returns-in_default c = absurd (omega (arith, none_as c.args.file.now MOOV 0 _ c.nth.ensures c.in_default.is, one_moov _ c.requires))

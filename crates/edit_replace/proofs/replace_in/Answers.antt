@@ -9,10 +9,10 @@ pub returns-then-i-eq0 : goal.returns-then-i-eq0
 returns-then-i-eq0 c = none_exact _ _ _ c.requires.1 (kind_zero _ _ (omega arith)) _
 
 pub replace_entry-requires : goal.replace_entry-requires
-replace_entry-requires c = (c.requires.0, within _ c.args.i c.args.new.now c.requires.1 (found_at _ _ _ (rw c.body.ensures at c.find.ensures) _ c.in-At.is))
+replace_entry-requires c = (c.requires.0, within _ c.args.i c.args.new.now c.requires.1 (found_at _ _ _ (rw c.body.ensures at c.find.ensures) _ c.in-Some.is))
 
-pub returns-in-At : goal.returns-in-At
-returns-in-At c = place_exact _ c.args.i _ c.requires.1 (found_at _ _ _ (rw c.body.ensures at c.find.ensures) _ c.in-At.is) (λ i. (c.type_inv.file i).fits) c.requires.0 (omega arith) c.replace_entry.ensures
+pub returns : goal.returns
+returns c = place_exact _ c.args.i _ c.requires.1 (found_at _ _ _ (rw c.body.ensures at c.find.ensures) _ c.in-Some.is) (λ i. (c.type_inv.file i).fits) c.requires.0 (omega arith) c.replace_entry.ensures
 
-pub returns-in-Nowhere : goal.returns-in-Nowhere
-returns-in-Nowhere c = nowhere_exact _ c.args.i _ c.requires.1 _ (rw c.body.ensures at c.find.ensures) c.in-Nowhere.is _
+pub returns-in_default : goal.returns-in_default
+returns-in_default c = nowhere_exact _ c.args.i _ c.requires.1 _ (rw c.body.ensures at c.find.ensures) c.in_default.is _

@@ -2,9 +2,9 @@
 use Rattle.esds.proofs.Reading.{opened_gives, opened_refuses}
 use Rattle.esds.proofs.read.Goals as goal
 
-pub returns-in-Found : goal.returns-in-Found
-returns-in-Found c =
-    opened_gives c.open.ensures _ _ c.in-Found.is c.put.ensures
+pub returns : goal.returns
+returns c =
+    opened_gives c.open.ensures _ _ c.in_ok-e.was c.put.ensures
 
-pub returns-in-Refused : goal.returns-in-Refused
-returns-in-Refused c = opened_refuses c.open.ensures _ _ _ c.in-Refused.is
+pub returns-in_err-e : goal.returns-in_err-e
+returns-in_err-e c = opened_refuses c.open.ensures _ _ c.in_err-e.was c.from_residual.ensures.1

@@ -7,8 +7,8 @@ use Rattle.judge.proofs.editable.Goals as goal
 pub returns-then-edits_hold-ne0 : goal.returns-then-edits_hold-ne0
 returns-then-edits_hold-ne0 c = yea _ (sym (c.edits_hold.ensures.holds c.if-edits_hold-ne0.true))
 
-pub returns-in-Fine : goal.returns-in-Fine
-returns-in-Fine c = editable_yea _ c.first.ensures c.in-Fine.is
+pub returns-in-Ok : goal.returns-in-Ok
+returns-in-Ok c = editable_yea _ c.first.ensures c.in-Ok.is
 
-pub returns-in-Bad : goal.returns-in-Bad
-returns-in-Bad c = editable_nay _ c.first.ensures c.in-Bad.is
+pub returns-in-Err : goal.returns-in-Err
+returns-in-Err c = editable_nay _ c.first.ensures c.in-Err.is

@@ -8,41 +8,41 @@ use Rattle.modes.proofs.modes_in.Goals as goal
 
 pub bytes-requires : goal.bytes-requires
 bytes-requires c =
-    (numbered_at _ _ _ c.numbered_track.ensures c.in-At.is).laid.stsd.lies
+    (numbered_at _ _ _ c.numbered_track.ensures c.in-Some.is).laid.stsd.lies
 
 pub returns-then-only-eq0 : goal.returns-then-only-eq0
 returns-then-only-eq0 c =
-    let n = numbered_at _ _ _ c.numbered_track.ensures c.in-At.is in
+    let n = numbered_at _ _ _ c.numbered_track.ensures c.in-Some.is in
     let l = laid_list n.laid c.bytes.ensures c.rest-list.ensures in
     test_so _ _ _ _ _ n.there (test_nay _ _ _ _ _ (found_only _ l c.only.ensures) c.if-only-eq0.true)
 
-pub bytes-requires-in-At : goal.bytes-requires-in-At
-bytes-requires-in-At c =
-    (numbered_at _ _ _ c.numbered_track.ensures c.in-At.is).laid.stsc.lies
+pub bytes-requires-2 : goal.bytes-requires-2
+bytes-requires-2 c =
+    (numbered_at _ _ _ c.numbered_track.ensures c.in-Some.is).laid.stsc.lies
 
-pub bytes-requires-in-At-2 : goal.bytes-requires-in-At-2
-bytes-requires-in-At-2 c =
-    (numbered_at _ _ _ c.numbered_track.ensures c.in-At.is).laid.stsz.lies
+pub bytes-requires-3 : goal.bytes-requires-3
+bytes-requires-3 c =
+    (numbered_at _ _ _ c.numbered_track.ensures c.in-Some.is).laid.stsz.lies
 
-pub bytes-requires-in-At-3 : goal.bytes-requires-in-At-3
-bytes-requires-in-At-3 c =
-    (numbered_at _ _ _ c.numbered_track.ensures c.in-At.is).laid.stco.lies
+pub bytes-requires-4 : goal.bytes-requires-4
+bytes-requires-4 c =
+    (numbered_at _ _ _ c.numbered_track.ensures c.in-Some.is).laid.stco.lies
 
 pub first_failing-f-requires : goal.first_failing-f-requires
 first_failing-f-requires c =
-    let n = numbered_at _ _ _ c.numbered_track.ensures c.in-At.is in
+    let n = numbered_at _ _ _ c.numbered_track.ensures c.in-Some.is in
     let l = n.laid in
-    found_walked _ (laid_runs l c.bytes-in-At.ensures) (laid_sizes l c.bytes-in-At-2.ensures) (laid_offsets l c.bytes-in-At-3.ensures)
+    found_walked _ (laid_runs l c.bytes-2.ensures) (laid_sizes l c.bytes-3.ensures) (laid_offsets l c.bytes-4.ensures)
     (numbered_walked _ _ c.requires n)
 
-pub returns-else-only-eq0 : goal.returns-else-only-eq0
-returns-else-only-eq0 c =
-    let n = numbered_at _ _ _ c.numbered_track.ensures c.in-At.is in
+pub returns : goal.returns
+returns c =
+    let n = numbered_at _ _ _ c.numbered_track.ensures c.in-Some.is in
     let l = n.laid in
     let i = laid_list l c.bytes.ensures c.rest-list.ensures in
     test_so _ _ _ _ _ n.there (test_yea _ _ _ _ _ (found_only _ i c.only.ensures) c.if-only-eq0.false (test_all _ _
-    (found_failing _ i _ (laid_runs l c.bytes-in-At.ensures) (laid_sizes l c.bytes-in-At-2.ensures) (laid_offsets l c.bytes-in-At-3.ensures)
+    (found_failing _ i _ (laid_runs l c.bytes-2.ensures) (laid_sizes l c.bytes-3.ensures) (laid_offsets l c.bytes-4.ensures)
     c.first_failing-f.ensures c.put.ensures)))
 
-pub returns-in-Missing : goal.returns-in-Missing
-returns-in-Missing c = test_not _ _ _ _ _ (numbered_none _ _ _ c.numbered_track.ensures c.in-Missing.is)
+pub returns-in_default : goal.returns-in_default
+returns-in_default c = test_not _ _ _ _ _ (numbered_none _ _ _ c.numbered_track.ensures c.in_default.is)

@@ -1,5 +1,4 @@
 -- 22, or the order by the two zones.
-use mathlib.Core.Path.{◌∙◌}
 use mir.Syntax.{w64}
 use mir.ValLaws.{to_z-of_z}
 use Rattle.clocks.proofs.Signed.{zone_found}
@@ -22,10 +21,10 @@ pub returns-in-None-zone_of : goal.returns-in-None-zone_of
 returns-in-None-zone_of c =
     let b = to_z-of_z w64 c.args.y c.ranges.y in
     let d = to_z-of_z w64 c.args.z c.ranges.z in
-    c.refused.ensures ∙ zone_second _ c.args.y _ c.args.z _ (rw d at c.zone_of-in-Some.ensures) c.in-None-zone_of.is
+    zone_second _ c.args.y _ c.args.z _ (rw d at c.zone_of-in-Some.ensures) c.in-None-zone_of.is
 
 pub returns-in-None : goal.returns-in-None
 returns-in-None c =
     let b = to_z-of_z w64 c.args.y c.ranges.y in
     let d = to_z-of_z w64 c.args.z c.ranges.z in
-    c.refused-in-None.ensures ∙ zone_first _ c.args.y _ c.args.z _ (rw b at c.zone_of.ensures) c.in-None.is
+    zone_first _ c.args.y _ c.args.z _ (rw b at c.zone_of.ensures) c.in-None.is

@@ -1,6 +1,6 @@
 -- The track that is named, and its media ticks.
+use Rattle.std.specs.Prelude.{Ok}
 use mathlib.Core.Path.{ap, refl}
-use Rattle.read_tracks.specs.declared.MediaLength.TheVariants.{Ticks}
 use Rattle.read_tracks.specs.declared.said.Said.{Said}
 use Rattle.read_tracks.proofs.Reading.{track_first, track_four, track_readable, pick_nay, pick_yea}
 use Rattle.read_tracks.proofs.media_in.Goals as goal
@@ -17,4 +17,4 @@ read-said-requires c = let p = c.requires in
     (p.1, track_four _ _ t c.if-is_track-eq0.false p.0, track_readable _ _ t c.if-is_track-eq0.false p.0 refl)
 
 pub returns : goal.returns
-returns c = pick_yea _ _ _ c.is_track.ensures c.if-is_track-eq0.false (ap (λ (s : Said). Ticks s.media) c.read-said.ensures)
+returns c = pick_yea _ _ _ c.is_track.ensures c.if-is_track-eq0.false (ap (λ (s : Said). Ok s.media) c.read-said.ensures)

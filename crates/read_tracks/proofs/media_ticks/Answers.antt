@@ -1,17 +1,17 @@
 -- The judgement, and then the media ticks of the track.
-use Rattle.judge.proofs.Calls.{met, when_accepted_lem, when_refused}
+use mathlib.Core.Path.{refl}
+use Rattle.judge.proofs.Calls.{met, when_accepted_lem, when_passed}
 use Rattle.read_tracks.specs.Reads.{media_length}
 use Rattle.read_tracks.proofs.media_ticks.Goals as goal
 
 pub media_in-requires : goal.media_in-requires
 unfolding media_length
-media_in-requires c = let j = c.judge_tracks-j.ensures in
-    (met _ j.answer c.in-Accepted.is, j.tracks c.in-Accepted.is)
+media_in-requires c = let a = c.in_ok-tracks.ensures in (met _ refl a.0, a.1)
 
-pub returns-in-Accepted : goal.returns-in-Accepted
+pub returns : goal.returns
 unfolding media_length
-returns-in-Accepted c = when_accepted_lem _ c.judge_tracks-j.ensures.answer _ _ c.in-Accepted.is c.media_in.ensures
+returns c = when_accepted_lem _ refl _ _ c.in_ok-tracks.ensures.0 c.media_in.ensures
 
-pub returns-in-Refused : goal.returns-in-Refused
+pub returns-in_err-tracks : goal.returns-in_err-tracks
 unfolding media_length
-returns-in-Refused c = when_refused _ c.judge_tracks-j.ensures.answer _ _ c.in-Refused.is
+returns-in_err-tracks c = when_passed _ refl _ _ c.in_err-tracks.ensures c.from_residual.ensures.1

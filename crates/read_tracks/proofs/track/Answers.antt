@@ -1,18 +1,17 @@
 -- The track call: the judgement, and then what an accepted file gives.
-use Rattle.judge.proofs.Calls.{met, result_accepted, result_refused}
+use mathlib.Core.Path.{refl}
+use Rattle.judge.proofs.Calls.{met, result_accepted, result_passed}
 use Rattle.read_tracks.specs.Reads.{track_result}
 use Rattle.read_tracks.proofs.track.Goals as goal
 
 pub track_in-requires : goal.track_in-requires
 unfolding track_result
-track_in-requires c = let j = c.judge_tracks-j.ensures in
-    let a = c.in-Accepted.is in
-    (met _ j.answer a, j.tracks a)
+track_in-requires c = let a = c.in_ok-tracks.ensures in (met _ refl a.0, a.1)
 
-pub returns-in-Accepted : goal.returns-in-Accepted
+pub returns : goal.returns
 unfolding track_result
-returns-in-Accepted c = result_accepted _ c.judge_tracks-j.ensures.answer _ _ _ c.in-Accepted.is c.track_in.ensures
+returns c = result_accepted _ refl _ _ _ c.in_ok-tracks.ensures.0 c.track_in.ensures
 
-pub returns-in-Refused : goal.returns-in-Refused
+pub returns-in_err-tracks : goal.returns-in_err-tracks
 unfolding track_result
-returns-in-Refused c = result_refused _ c.judge_tracks-j.ensures.answer _ _ _ c.in-Refused.is
+returns-in_err-tracks c = result_passed _ refl _ _ _ _ c.in_err-tracks.ensures c.from_residual.ensures.1

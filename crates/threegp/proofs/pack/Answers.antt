@@ -2,8 +2,8 @@ use mathlib.Core.Path.{sym, ap, ◌∙◌}
 use Rattle.threegp.specs.Answers.{packed}
 use Rattle.threegp.proofs.pack.Goals as goal
 
-pub returns-in-Done : goal.returns-in-Done
-returns-in-Done c = c.pair.ensures ∙ ap packed (sym c.in-Done.is)
+pub returns-in-Ok : goal.returns-in-Ok
+returns-in-Ok c = c.pair.ensures ∙ ap packed (sym c.in-Ok.is)
 
-pub returns-in-Refused : goal.returns-in-Refused
-returns-in-Refused c = c.pair-in-Refused.ensures ∙ ap packed (sym c.in-Refused.is)
+pub returns-in-Err : goal.returns-in-Err
+returns-in-Err c = c.pair-in-Err.ensures ∙ ap packed (sym c.in-Err.is)

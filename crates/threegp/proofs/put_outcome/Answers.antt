@@ -5,13 +5,13 @@ use Rattle.threegp.proofs.Packing.{outcome_found, outcome_refused, outcome_told}
 use Rattle.threegp.proofs.put_outcome.Goals as goal
 
 pub overflow_mul-result : goal.overflow_mul-result
-overflow_mul-result c = let t = outcome_told _ [] c.in-Refused.is c.requires in omega arith
+overflow_mul-result c = let t = outcome_told _ [] c.in-Err.is c.requires in omega arith
 
 pub overflow_add-result : goal.overflow_add-result
-overflow_add-result c = let t = outcome_told _ [] c.in-Refused.is c.requires in omega arith
+overflow_add-result c = let t = outcome_told _ [] c.in-Err.is c.requires in omega arith
 
-pub returns-in-Found : goal.returns-in-Found
-returns-in-Found c = outcome_found _ _ _ c.in-Found.is c.put_part.ensures
+pub returns-in-Ok : goal.returns-in-Ok
+returns-in-Ok c = outcome_found _ _ _ c.in-Ok.is c.put_part.ensures
 
-pub returns-in-Refused : goal.returns-in-Refused
-returns-in-Refused c = outcome_refused _ _ c.in-Refused.is
+pub returns-in-Err : goal.returns-in-Err
+returns-in-Err c = outcome_refused _ _ c.in-Err.is

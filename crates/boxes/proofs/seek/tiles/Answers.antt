@@ -3,8 +3,8 @@ use Rattle.boxes.proofs.Placing.{was_whole, was_torn}
 use Rattle.wire.proofs.Clauses.{yea, nay}
 use Rattle.boxes.proofs.seek.tiles.Goals as goal
 
-pub returns-in-Whole : goal.returns-in-Whole
-returns-in-Whole c = yea _ (was_whole _ c.ends.ensures c.in-Whole.is)
+pub returns-in-Ok : goal.returns-in-Ok
+returns-in-Ok c = yea _ (was_whole _ c.ends.ensures c.in-Ok.is)
 
-pub returns-in-Torn : goal.returns-in-Torn
-returns-in-Torn c = nay _ (was_torn _ c.ends.ensures _ c.in-Torn.is)
+pub returns-in-Err : goal.returns-in-Err
+returns-in-Err c = nay _ (was_torn _ c.ends.ensures _ c.in-Err.is)

@@ -31,13 +31,13 @@ pub put_box-returns : goal.put_box-returns
 put_box-returns t c = pen_box c.args.b.form c.args.b.code c.requires.1 c.put_way-r.ensures refl c.put_header.ensures
 
 pub put_turn-put_around-requires : goal.put_turn-put_around-requires
-put_turn-put_around-requires t c = let a = c.args in let s = cut_as a.src.now a.t.code a.t.nth _ c.nth.ensures _ c.in-At.is in (omega arith, (omega arith, s.head, s.least, s.inside, omega arith))
+put_turn-put_around-requires t c = let a = c.args in let s = cut_as a.src.now a.t.code a.t.nth _ c.nth.ensures _ c.in-Some.is in (omega arith, (omega arith, s.head, s.least, s.inside, omega arith))
 
-pub put_turn-returns-in-At : goal.put_turn-returns-in-At
-put_turn-returns-in-At t c = let a = c.args in let s = cut_as a.src.now a.t.code a.t.nth _ c.nth.ensures _ c.in-At.is in pen_is (nth_at _ _ _ _ s) c.put_around.ensures
+pub put_turn-returns-in-Some : goal.put_turn-returns-in-Some
+put_turn-returns-in-Some t c = let a = c.args in let s = cut_as a.src.now a.t.code a.t.nth _ c.nth.ensures _ c.in-Some.is in pen_is (nth_at _ _ _ _ s) c.put_around.ensures
 
-pub put_turn-returns-in-Missing : goal.put_turn-returns-in-Missing
-put_turn-returns-in-Missing t c = let a = c.args in pen_is (nth_missing _ _ _ _ (λ i. (c.type_inv.src i).fits) (none_as a.src.now a.t.code a.t.nth _ c.nth.ensures c.in-Missing.is)) c.put_part.ensures
+pub put_turn-returns-in-None : goal.put_turn-returns-in-None
+put_turn-returns-in-None t c = let a = c.args in pen_is (nth_missing _ _ _ _ (λ i. (c.type_inv.src i).fits) (none_as a.src.now a.t.code a.t.nth _ c.nth.ensures c.in-None.is)) c.put_part.ensures
 
 pub put_way-returns-then-way-i-lt3 : goal.put_way-returns-then-way-i-lt3
 put_way-returns-then-way-i-lt3 t c = let a = c.args in pen_is (way_end a.way.now a.i _ _ (omega arith)) c.put_tail.ensures

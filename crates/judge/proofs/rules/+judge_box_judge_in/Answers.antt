@@ -31,19 +31,19 @@ judge_in-loop-b-init t c = judge_start _ _ _ _ _ _ c.if-depth-eq0.false c.node_b
 pub judge_in-judge_box-requires : goal.judge_in-judge_box-requires
 judge_in-judge_box-requires t c = let s = ran _ _ _ _ _ c.step.ensures c.in-Found.is in (omega arith, (s.head, s.least, omega arith, omega arith, omega arith))
 
-pub judge_in-loop-b-smaller-in-Fine : goal.judge_in-loop-b-smaller-in-Fine
-judge_in-loop-b-smaller-in-Fine t c = let s = ran _ _ _ _ _ c.step.ensures c.in-Found.is in omega arith
+pub judge_in-loop-b-smaller-in-Ok : goal.judge_in-loop-b-smaller-in-Ok
+judge_in-loop-b-smaller-in-Ok t c = let s = ran _ _ _ _ _ c.step.ensures c.in-Found.is in omega arith
 
-pub judge_in-loop-b-preserved-in-Fine : goal.judge_in-loop-b-preserved-in-Fine
-judge_in-loop-b-preserved-in-Fine t c = found_more _ _ _ _ c.loop-b.invariant (ran _ _ _ _ _ c.step.ensures c.in-Found.is) c.judge_box.ensures
-    (sym (sooner_none _) ∙ ap (sooner _) (sym c.in-Fine.is))
+pub judge_in-loop-b-preserved-in-Ok : goal.judge_in-loop-b-preserved-in-Ok
+judge_in-loop-b-preserved-in-Ok t c = found_more _ _ _ _ c.loop-b.invariant (ran _ _ _ _ _ c.step.ensures c.in-Found.is) c.judge_box.ensures
+    (sym (sooner_none _) ∙ ap (sooner _) (sym c.in-Ok.is))
 
 pub judge_in-loop-b-smaller : goal.judge_in-loop-b-smaller
 judge_in-loop-b-smaller t c = let s = ran _ _ _ _ _ c.step.ensures c.in-Found.is in omega arith
 
 pub judge_in-loop-b-preserved : goal.judge_in-loop-b-preserved
 judge_in-loop-b-preserved t c = found_more _ _ _ _ c.loop-b.invariant (ran _ _ _ _ _ c.step.ensures c.in-Found.is) c.judge_box.ensures
-    (c.sooner-found.ensures ∙ ap (sooner _) (sym c.in-Bad.is))
+    (c.sooner-found.ensures ∙ ap (sooner _) (sym c.in-Err.is))
 
 pub judge_in-returns-in-End : goal.judge_in-returns-in-End
 judge_in-returns-in-End t c = end_passed _ c.loop-b.invariant (ended _ _ _ c.step.ensures c.in-End.is).0

@@ -3,10 +3,10 @@ use Prim.Native.Nat.{◌+◌, ◌-◌, ◌*◌}
 use Rattle.boxes.specs.Boxes.{boxes}
 use Rattle.judge.specs.Asked.{rule_by}
 use Rattle.rule.proofs.Traverse.{Found}
-use Rattle.rule.specs.declared.Verdict.TheVariants.{Fine}
 use Rattle.rule.specs.Judge.{judge_box, judge_in}
 use lib.ListN.{length}
 use Rattle.judge.proofs.rules.+judge_box_judge_in.Given as goal
+use Rattle.rule.specs.Verdict.{Fine}
 
 abbrev pub decreases-judge_box : goal.decreases-judge_box
 decreases-judge_box l = 2 * l.depth

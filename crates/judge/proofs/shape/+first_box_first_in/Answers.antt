@@ -7,12 +7,12 @@ use Rattle.judge.proofs.Shapes.{first_broken, box_unformed, box_formed, first_un
 use Rattle.judge.specs.Asked.{first_by, as_number}
 use Rattle.rule.proofs.Places.{sooner_none, unless_yea}
 use Rattle.rule.proofs.Traverse.{found_more}
-use Rattle.rule.specs.declared.Verdict.TheVariants.{Fine}
 use Rattle.wire.proofs.Clauses.{was_yea, was_nay}
 use lib.ListN.{length-take, length-drop}
 use mathlib.Core.Path.{refl, sym, ap, ◌∙◌}
 use native.Mathlib.Omega.{arith}
 use Rattle.judge.proofs.shape.+first_box_first_in.Goals as goal
+use Rattle.rule.specs.Verdict.{Fine}
 
 pub first_box-returns-then-formed-eq0 : goal.first_box-returns-then-formed-eq0
 first_box-returns-then-formed-eq0 t c = let a = c.args in

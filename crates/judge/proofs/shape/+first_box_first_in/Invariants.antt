@@ -3,11 +3,11 @@ use Prim.Native.Nat.{◌+◌, ◌-◌, ◌*◌}
 use Rattle.boxes.specs.Boxes.{after}
 use Rattle.judge.specs.Asked.{first_by, form_first}
 use Rattle.rule.proofs.Traverse.{Found}
-use Rattle.rule.specs.declared.Verdict.TheVariants.{Fine}
 use Rattle.rule.specs.Judge.{judge_in}
 use lib.ListN.{length, drop}
 use mathlib.Core.Path.{◌≡◌}
 use Rattle.judge.proofs.shape.+first_box_first_in.Given as goal
+use Rattle.rule.specs.Verdict.{Fine}
 
 abbrev pub decreases-first_box : goal.decreases-first_box
 decreases-first_box l = 2 * l.depth

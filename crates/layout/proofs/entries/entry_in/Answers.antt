@@ -10,9 +10,9 @@ use Rattle.layout.proofs.entries.entry_in.Goals as goal
 pub overflow_add-result : goal.overflow_add-result
 overflow_add-result c = omega (arith, c.requires.2)
 
-pub overflow_add-result-in-At : goal.overflow_add-result-in-At
-overflow_add-result-in-At c = let p = c.requires in
-    let s = cut_as _ _ _ _ c.nth.ensures _ c.in-At.is in
+pub overflow_add-result-in-Some : goal.overflow_add-result-in-Some
+overflow_add-result-in-Some c = let p = c.requires in
+    let s = cut_as _ _ _ _ c.nth.ensures _ c.in-Some.is in
     omega (
       arith,
       s.inside,
@@ -24,11 +24,11 @@ overflow_add-result-in-At c = let p = c.requires in
       p.3,
     )
 
-pub returns-in-At : goal.returns-in-At
-returns-in-At c = let p = c.requires in
+pub returns-in-Some : goal.returns-in-Some
+returns-in-Some c = let p = c.requires in
     placed_at _ _ _ refl (c.bytes.ensures ∙ p.0.is) _
-    c.nth.ensures _ c.in-At.is (p.0.place (omega arith))
+    c.nth.ensures _ c.in-Some.is (p.0.place (omega arith))
 
-pub returns-in-Missing : goal.returns-in-Missing
-returns-in-Missing c = let p = c.requires in
-    placed_none _ _ _ refl (c.bytes.ensures ∙ p.0.is) _ c.nth.ensures c.in-Missing.is
+pub returns-in-None : goal.returns-in-None
+returns-in-None c = let p = c.requires in
+    placed_none _ _ _ refl (c.bytes.ensures ∙ p.0.is) _ c.nth.ensures c.in-None.is

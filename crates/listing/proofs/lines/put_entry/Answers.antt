@@ -8,10 +8,10 @@ pub entry-requires : goal.entry-requires
 entry-requires c = let p = c.requires in (p.1, few_tracks p.0, p.0.most)
 
 pub put_found-requires : goal.put_found-requires
-put_found-requires c = ((named_at _ _ _ c.entry.ensures _ c.in-At.is).inside, omega arith)
+put_found-requires c = ((named_at _ _ _ c.entry.ensures _ c.in-Some.is).inside, omega arith)
 
-pub returns-in-At : goal.returns-in-At
-returns-in-At c = (entry_found _ _ c.entry.ensures _ c.in-At.is c.put_found.ensures.0, omega arith)
+pub returns-in-Some : goal.returns-in-Some
+returns-in-Some c = (entry_found _ _ c.entry.ensures _ c.in-Some.is c.put_found.ensures.0, omega arith)
 
-pub returns-in-Missing : goal.returns-in-Missing
-returns-in-Missing c = (entry_missing _ _ c.entry.ensures c.in-Missing.is, omega arith)
+pub returns-in-None : goal.returns-in-None
+returns-in-None c = (entry_missing _ _ c.entry.ensures c.in-None.is, omega arith)

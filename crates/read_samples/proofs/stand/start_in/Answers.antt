@@ -9,12 +9,12 @@ pub numbered_track-requires : goal.numbered_track-requires
 unfolding StoodAs
 numbered_track-requires c = accepted_meets _ c.requires
 
-pub returns-in-At : goal.returns-in-At
+pub returns : goal.returns
 unfolding StoodAs
-returns-in-At c =
-    stand_starts _ _ c.requires (numbered_at _ _ _ c.numbered_track.ensures c.in-At.is) c.start.ensures
+returns c =
+    stand_starts _ _ c.requires (numbered_at _ _ _ c.numbered_track.ensures c.in-Some.is) c.start.ensures
 
-pub returns-in-Missing : goal.returns-in-Missing
+pub returns-in_default : goal.returns-in_default
 unfolding StoodAs
-returns-in-Missing c =
-    stand_none _ _ c.requires (numbered_none _ _ _ c.numbered_track.ensures c.in-Missing.is)
+returns-in_default c =
+    stand_none _ _ c.requires (numbered_none _ _ _ c.numbered_track.ensures c.in_default.is)

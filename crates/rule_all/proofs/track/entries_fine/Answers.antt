@@ -9,8 +9,8 @@ pub entries_from-requires : goal.entries_from-requires
 entries_from-requires c = rw (c.rest.ensures, length-drop, c.bytes-4.ensures, length-take, length-drop) (omega
     (arith, c.requires.0.stsd.inside, c.requires.1))
 
-pub returns-in-Fine : goal.returns-in-Fine
-returns-in-Fine c = fine_yea _ (rw (c.rest.ensures, c.bytes-4.ensures, c.word32-3.ensures.0, c.bytes-3.ensures, c.word32-2.ensures.0, c.bytes-2.ensures, c.word32.ensures.0, c.bytes.ensures) at c.entries_from.ensures) (entries_fine_lem _ _ _ 0) c.in-Fine.is
+pub returns-in-Ok : goal.returns-in-Ok
+returns-in-Ok c = fine_yea _ (rw (c.rest.ensures, c.bytes-4.ensures, c.word32-3.ensures.0, c.bytes-3.ensures, c.word32-2.ensures.0, c.bytes-2.ensures, c.word32.ensures.0, c.bytes.ensures) at c.entries_from.ensures) (entries_fine_lem _ _ _ 0) c.in-Ok.is
 
-pub returns-in-Bad : goal.returns-in-Bad
-returns-in-Bad c = bad_nay _ (rw (c.rest.ensures, c.bytes-4.ensures, c.word32-3.ensures.0, c.bytes-3.ensures, c.word32-2.ensures.0, c.bytes-2.ensures, c.word32.ensures.0, c.bytes.ensures) at c.entries_from.ensures) (entries_fine_lem _ _ _ 0) _ c.in-Bad.is
+pub returns-in-Err : goal.returns-in-Err
+returns-in-Err c = bad_nay _ (rw (c.rest.ensures, c.bytes-4.ensures, c.word32-3.ensures.0, c.bytes-3.ensures, c.word32-2.ensures.0, c.bytes-2.ensures, c.word32.ensures.0, c.bytes.ensures) at c.entries_from.ensures) (entries_fine_lem _ _ _ 0) _ c.in-Err.is

@@ -3,8 +3,7 @@ use Rattle.boxes.specs.Box.{Box}
 use Rattle.rule_lists.specs.Nine.{is_url, url_at}
 use Rattle.rule.proofs.Traverse.{found_none}
 use Rattle.rule.proofs.Firsts.{listed_more, listed_bad, listed_over}
-use Rattle.rule.specs.Verdict.{sooner}
-use Rattle.rule.specs.declared.Verdict.TheVariants.{Fine}
+use Rattle.rule.specs.Verdict.{sooner, Fine}
 use Rattle.wire.proofs.Clauses.{was_yea, was_nay}
 use mathlib.Core.Bool.{Bool}
 use native.Mathlib.Omega.{arith}
