@@ -14,16 +14,8 @@ pub struct Fall {
 fn leap_days(y: usize) -> usize
     ensures { (result ≡ leap_days y) × (result ≤ 1) }
 {
-    if y % 4 == 0 {
-        if y % 100 == 0 {
-            if y % 400 == 0 {
-                return 1;
-            }
-            return 0;
-        }
-        return 1;
-    }
-    0
+    let leap = y % 4 == 0 && (y % 100 != 0 || y % 400 == 0);
+    usize::from(leap)
 }
 
 // The days of a month, which is counted from 1.
@@ -41,6 +33,7 @@ pub fn fall_in_years(n: usize) -> Fall
     requires { n < 2 ^ 32 }
     ensures { FallsIn year_span n result × (result.span ≤ n) }
 {
+    // No range: how many years it takes is what the loop finds out.
     let mut i = 0;
     let mut since = n;
     let mut days = 366;
@@ -51,7 +44,7 @@ pub fn fall_in_years(n: usize) -> Fall
     }
     Fall {
         span: i,
-        since: since,
+        since,
     }
 }
 
@@ -70,6 +63,6 @@ pub fn fall_in_months(y: usize, n: usize) -> Fall
     }
     Fall {
         span: m,
-        since: since,
+        since,
     }
 }

@@ -31,7 +31,7 @@ pub fn date_of(t: u32) -> Date
     let year = 1904 + y.span;
     let m = calendar::fall_in_months(year, y.since);
     Date {
-        year: year,
+        year,
         month: m.span,
         day: 1 + m.since,
         hour: seconds / 3600,

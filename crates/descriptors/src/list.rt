@@ -6,6 +6,7 @@ ghost use Rattle.descriptors.specs.Trees.{tree};
 ghost use Rattle.descriptors.specs.Reading.{part_after, met as met_of, read_on};
 
 use crate::{descriptor, part};
+use wire::lend;
 
 // Of what was read so far: whether all fit; and the last part, OTHER where one came that isn't wanted there.
 #[derive(Clone, Copy, Debug, PartialEq, Eq)]
@@ -42,17 +43,17 @@ pub fn read(bytes: &[u8], k: usize, before: Reading) -> Reading
     ensures { result ≡ read_on before (tree k bytes.now) }
 {
     let mut r = before;
-    let mut at = 0;
-    while at < bytes.len() {
-        match descriptor::read(&bytes[at..]) {
+    let mut rest = bytes;
+    while !rest.is_empty() {
+        match descriptor::read(rest) {
             Some(d) => {
                 let j = part::part_in(k, d.tag);
-                let from = at + d.head;
-                let to = at + d.span;
-                let contents = &bytes[from..to];
+                let from = d.head;
+                let to = d.span;
+                let contents = &rest[from..to];
                 r = met(r, j, part::own(j, contents));
                 r = read(part::held(j, contents), j, r);
-                at = to;
+                rest = lend::rest(rest, to);
             }
             None => {
                 return Reading {

@@ -1,55 +1,39 @@
--- The descriptors before a place are read, each with those that it holds: what it holds has fewer bytes.
-use Prim.Native.Nat.{ℕ, ◌-◌, ◌≤◌}
+-- The descriptors before the rest are read, each with those that it holds: what it holds has fewer bytes.
+use Rattle.std.proofs.Common.{rules}
 use native.Mathlib.Omega.{arith}
-use mathlib.Core.Path.{◌≡◌, refl, sym, ◌∙◌}
-use mathlib.Core.List.{List}
-use lib.ListN.{length, take, drop}
-use Rattle.wire.proofs.Lists.{tail_is}
-use Rattle.descriptors.specs.declared.descriptor.Descriptor.{Descriptor}
-use Rattle.std.specs.Prelude.{Option, Some}
-use Rattle.descriptors.specs.Trees.{front_of}
-use Rattle.descriptors.proofs.Readings.{Stands, stands, within_less, read_more, read_loose, read_all}
+use mathlib.Core.Path.{refl, sym, ap, ◌∙◌}
+use lib.ListN.{length, length-drop}
+use Rattle.descriptors.proofs.Fronts.{ends}
+use Rattle.descriptors.proofs.Trees.{contents_less}
+use Rattle.descriptors.proofs.Readings.{read_more, read_loose, read_all}
 use Rattle.descriptors.proofs.list.+read.Goals as goal
 
--- a descriptor that is found stands at the place
-standing : (xs : List ℕ) (at : ℕ) {f : Option Descriptor} {d : Descriptor} → at ≤ length xs → f ≡ front_of (take (length xs - at) (drop at xs)) → f ≡ Some d → Stands xs at d
-standing xs at h e g = stands xs at (tail_is xs at h) e g
-
-pub loop-at-init : goal.loop-at-init
-loop-at-init t c = (omega arith, refl)
-
-pub overflow_add-from : goal.overflow_add-from
-overflow_add-from t c = let s = standing c.args.bytes.now c.loop-at.at c.loop-at.invariant.0 c.read.ensures c.in-Some.is in omega (arith, s.last, s.inside)
-
-pub overflow_add-to : goal.overflow_add-to
-overflow_add-to t c = let s = standing c.args.bytes.now c.loop-at.at c.loop-at.invariant.0 c.read.ensures c.in-Some.is in omega (arith, s.last)
+pub loop-rest-init : goal.loop-rest-init
+loop-rest-init t c = (omega arith, refl)
 
 pub slice_bounds-contents-count : goal.slice_bounds-contents-count
-slice_bounds-contents-count t c = let s = standing c.args.bytes.now c.loop-at.at c.loop-at.invariant.0 c.read.ensures c.in-Some.is in omega (arith, s.inside)
+slice_bounds-contents-count t c = let s = ends c.loop-rest.rest.now c.in-Some.d (sym c.read.ensures ∙ c.in-Some.is) in omega (arith, s.inside)
 
 pub slice_bounds-contents-start : goal.slice_bounds-contents-start
-slice_bounds-contents-start t c = let s = standing c.args.bytes.now c.loop-at.at c.loop-at.invariant.0 c.read.ensures c.in-Some.is in omega (arith, s.inside)
+slice_bounds-contents-start t c = let s = ends c.loop-rest.rest.now c.in-Some.d (sym c.read.ensures ∙ c.in-Some.is) in omega (arith, s.inside, s.last)
 
 pub slice_bounds-contents-end : goal.slice_bounds-contents-end
-slice_bounds-contents-end t c = let s = standing c.args.bytes.now c.loop-at.at c.loop-at.invariant.0 c.read.ensures c.in-Some.is in omega (arith, s.last)
+slice_bounds-contents-end t c = let s = ends c.loop-rest.rest.now c.in-Some.d (sym c.read.ensures ∙ c.in-Some.is) in omega (arith, s.last)
 
 pub read-r-requires : goal.read-r-requires
-read-r-requires t c = let s = standing c.args.bytes.now c.loop-at.at c.loop-at.invariant.0 c.read.ensures c.in-Some.is in (omega (arith, within_less s, c.held.ensures.1, c.decreases), tt)
+read-r-requires t c = let s = ends c.loop-rest.rest.now c.in-Some.d (sym c.read.ensures ∙ c.in-Some.is) in (omega (arith, contents_less s, c.held.ensures.1, c.loop-rest.invariant.0, c.decreases), tt)
 
-pub loop-at-smaller : goal.loop-at-smaller
-loop-at-smaller t c = let s = standing c.args.bytes.now c.loop-at.at c.loop-at.invariant.0 c.read.ensures c.in-Some.is in omega (arith, s.last, s.inside, s.least)
+pub loop-rest-smaller : goal.loop-rest-smaller
+loop-rest-smaller t c = let s = ends c.loop-rest.rest.now c.in-Some.d (sym c.read.ensures ∙ c.in-Some.is) in omega (arith, ap length c.rest-rest.ensures, length-drop c.in-Some.d.span c.loop-rest.rest.now, s.least, s.inside, s.last)
 
-pub loop-at-preserved : goal.loop-at-preserved
-loop-at-preserved t c =
-    let s = standing c.args.bytes.now c.loop-at.at c.loop-at.invariant.0 c.read.ensures c.in-Some.is in (
-      s.last,
-      c.loop-at.invariant.1 ∙ read_more c.args.k c.args.bytes.now c.loop-at.at c.loop-at.r s c.part_in-j.ensures refl c.own.ensures c.met-r.ensures c.held.ensures.0 c.read-r.ensures,
-    )
+pub loop-rest-preserved : goal.loop-rest-preserved
+loop-rest-preserved t c =
+    let i = c.loop-rest.invariant in
+    let e = read_more c.args.k c.loop-rest.rest.now c.loop-rest.r (sym c.read.ensures ∙ c.in-Some.is) c.part_in-j.ensures c.own.ensures c.met-r.ensures c.held.ensures.0 c.read-r.ensures in
+    rw c.rest-rest.ensures (omega (arith, i.0, length-drop c.in-Some.d.span c.loop-rest.rest.now), i.1 ∙ e)
 
 pub returns-in-None : goal.returns-in-None
-returns-in-None t c =
-    let l = c.loop-at in
-    read_loose _ c.args.bytes.now l.at l.r l.invariant.0 (omega arith) (tail_is _ _ l.invariant.0) c.read.ensures c.in-None.is ∙ sym l.invariant.1
+returns-in-None t c = read_loose _ c.loop-rest.rest.now c.loop-rest.r (search rules) (sym c.read.ensures ∙ c.in-None.is) ∙ sym c.loop-rest.invariant.1
 
 pub returns : goal.returns
-returns t c = let l = c.loop-at in read_all _ c.args.bytes.now l.at l.r (omega arith) ∙ sym l.invariant.1
+returns t c = read_all _ c.loop-rest.rest.now c.loop-rest.r (search rules) ∙ sym c.loop-rest.invariant.1
