@@ -1,7 +1,6 @@
 // The walk over the boxes of a part, and what counting and finding say of it.
 use crate::print;
 use boxes::seek;
-use boxes::seek::Tiling;
 use boxes::walk::{BoxAt, Step, Walk};
 
 // The code that is counted and found.
