@@ -42,10 +42,7 @@ pub fn fall_in_years(n: usize) -> Fall
         i += 1;
         days = 365 + leap_days(1904 + i);
     }
-    Fall {
-        span: i,
-        since,
-    }
+    Fall { span: i, since }
 }
 
 // The month in which day n since the start of year y falls.
@@ -61,8 +58,5 @@ pub fn fall_in_months(y: usize, n: usize) -> Fall
         m += 1;
         days = month_days(y, m);
     }
-    Fall {
-        span: m,
-        since,
-    }
+    Fall { span: m, since }
 }

@@ -76,7 +76,13 @@ fn past(b: BoxAt) -> usize
 }
 
 // Looks for so many bytes from a place on in the boxes from a start on, at most so many of them; each is taken for a plain one first.
-fn search(file: &[u8], from: usize, most: usize, offset: usize, bytes: usize) -> Result<Payload, Missed>
+fn search(
+    file: &[u8],
+    from: usize,
+    most: usize,
+    offset: usize,
+    bytes: usize,
+) -> Result<Payload, Missed>
     requires { Start file.now offset from }
     ensures { TestedAs file.now (lies (boxes file.now) 0 offset bytes) (most ≤ length file.now) result }
 {
@@ -122,7 +128,13 @@ fn most(file: &[u8], index: &[u32]) -> usize
 }
 
 // Whether so many bytes from a place on lie inside the payload of one `mdat` of the file: first the last payload, then what is near.
-pub fn find(file: &[u8], index: &[u32], last: Payload, offset: usize, bytes: usize) -> Result<Payload, Missed>
+pub fn find(
+    file: &[u8],
+    index: &[u32],
+    last: Payload,
+    offset: usize,
+    bytes: usize,
+) -> Result<Payload, Missed>
     requires { Media file.now last × Index file.now index.now }
     ensures { TestedAs file.now (lies (boxes file.now) 0 offset bytes) (length index.now ≡ 0) result }
 {

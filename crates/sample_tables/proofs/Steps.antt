@@ -32,8 +32,10 @@ module _ (stsc stco : List ℕ) where
       → entry ≡ description stsc w.run
       → run ≡ run_of stsc (w.chunk + 1)
       → w.chunk < items stco
-      → Some (record { nth = w.chunk; offset = offset; first = w.sample; samples = samples; description = entry },
-      record { chunk = w.chunk + 1; run = run; sample = w.sample + samples })
+      → Some (
+        record { nth = w.chunk; offset = offset; first = w.sample; samples = samples; description = entry },
+        record { chunk = w.chunk + 1; run = run; sample = w.sample + samples },
+      )
       ≡ step_of stsc stco w.chunk
   unfolding step_of chunk_at walk_at samples_in description_of
   step_found w e s o d r h =

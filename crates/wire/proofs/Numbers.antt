@@ -1,7 +1,8 @@
 -- Laws of big-endian numbers, over every width. Assumes nothing.
 use Prim.Native.Nat.{ℕ, zero, suc, ◌+◌, ◌-◌, ◌*◌, ◌/◌, ◌%◌, ◌^◌, ◌≤◌, ◌<◌}
 use native.Mathlib.Omega.{arith}
-use native.Mathlib.Nat.{add-mul, mul_assoc, mul-le-mul_left, mul-le-mul_right, one-le-pow, pow-suc, pow-succ', div-one, zero-add, div-div-eq-div-mul, mul-add-div_right, div-eq_of_lt}
+use native.Mathlib.Numerals.{add-one}
+use native.Mathlib.Nat.{add-mul, mul_assoc, mul-le-mul_left, mul-le-mul_right, one-le-pow, pow-suc, pow-le-pow_right, pow-succ', div-one, zero-add, div-div-eq-div-mul, mul-add-div_right, div-eq_of_lt}
 use mathlib.Core.Path.{◌≡◌, refl, sym, ap, ◌∙◌}
 use mathlib.Core.Bool.{Bool, true, false}
 use mathlib.Core.List.{List, [], ◌∷◌, ◌++◌, append-nil}
@@ -137,6 +138,17 @@ word_join v w xs at h =
     let l : length (take w (drop (at + v) xs)) ≡ w = length-take-le w (drop (at + v) xs) (rw length-drop (omega arith)) in
     rw (word_in v xs at (omega arith), word_in w xs (at + v) (omega arith), word_in (v + w) xs at h, take-add v w (drop at xs), drop-drop v at xs, number_append, number_front (number_on 0 (take v (drop at xs))) (take w (drop (at + v) xs)), l)
 
+-- one byte more behind a number of w bytes: it has w + 1, and fits 64 bits where these are at most 8
+module _ {n b : ℕ} (w : ℕ) (h : n < 256 ^ w) (k : b < 256) where
+  pub word_grown : n * 256 + b < 256 ^ (w + 1)
+  word_grown = rw (add-one, pow-suc) (omega arith)
+
+  pub word_room : w < 8 → n * 256 + b < 2 ^ 64
+  word_room l = let m : 256 ^ (w + 1) ≤ 256 ^ 8 = pow-le-pow_right {n = 256} (omega arith) {i = w + 1} {j = 8} (omega arith) in omega (arith, word_grown)
+
+pub word_next : (xs : List ℕ) (at w : ℕ) {n b : ℕ} → n ≡ word w xs at → b ≡ get_or xs (at + w) 0 → at + (w + 1) ≤ length xs → n * 256 + b ≡ word (w + 1) xs at
+word_next xs at w p q h = rw (p, q, ← word_byte xs (at + w)) (word_join w 1 xs at h)
+
 -- the bytes of a number are all 0 where it is 0
 all_zero : (xs : List ℕ) → list_all (λ b. eqb b 0) xs ≡ is_eq (number_on 0 xs) 0
 unfolding is_eq
@@ -212,20 +224,3 @@ word_take w n xs at h k =
 -- a word of a part that begins with ys, at a place in ys
 pub word_front : (n : ℕ) (xs ys : List ℕ) → take n xs ≡ ys → length ys ≡ n → (w at : ℕ) → at + w ≤ n → word w xs at ≡ word w ys at
 word_front n xs ys e l w at h = sym (word_take w n xs at h (omega (arith, length-take n xs, ap length e))) ∙ ap (λ (zs : List ℕ). word w zs at) e
-
--- the widths of the format, as code puts them together
-pub word16_is : (xs : List ℕ) (at : ℕ) {a b : ℕ} → a ≡ get_or xs at 0 → b ≡ get_or xs (at + 1) 0 → at + 2 ≤ length xs → a * 256 + b ≡ word 2 xs at
-word16_is xs at p q h = rw (p, q, ← word_byte xs at, ← word_byte xs (at + 1)) (word_join 1 1 xs at h)
-
-pub word24_is : (xs : List ℕ) (at : ℕ) {a b : ℕ} → a ≡ word 2 xs at → b ≡ get_or xs (at + 2) 0 → at + 3 ≤ length xs → a * 256 + b ≡ word 3 xs at
-word24_is xs at p q h = rw (p, q, ← word_byte xs (at + 2)) (word_join 2 1 xs at h)
-
-pub word32_is : (xs : List ℕ) (at : ℕ) {a b : ℕ} → a ≡ word 2 xs at → b ≡ word 2 xs (at + 2) → at + 4 ≤ length xs → a * 65536 + b ≡ word 4 xs at
-word32_is xs at p q h = rw (p, q) (word_join 2 2 xs at h)
-
-pub word64_is : (xs : List ℕ) (at : ℕ) {a b : ℕ} → a ≡ word 4 xs at → b ≡ word 4 xs (at + 4) → at + 8 ≤ length xs → a * 4294967296 + b ≡ word 8 xs at
-word64_is xs at p q h = rw (p, q) (word_join 4 4 xs at h)
-
-pub bytes16_is : (n : ℕ) → n / 256 % 256 ∷ n % 256 ∷ [] ≡ bytes 2 n
-unfolding bytes bytes_on
-bytes16_is n = refl

@@ -1,15 +1,13 @@
 -- Laws of writing. Assumes nothing.
-use Prim.Native.Nat.{ℕ, ◌+◌, ◌/◌, ◌%◌, ◌^◌, ◌≤◌, ◌<◌}
+use Prim.Native.Nat.{ℕ, ◌+◌, ◌≤◌, ◌<◌}
 use native.Mathlib.Omega.{arith}
 use native.Mathlib.Nat.{add_assoc}
 use native.Mathlib.Numerals.{add-one}
 use mathlib.Core.Path.{◌≡◌, refl, sym, ap, ◌∙◌}
 use mathlib.Core.List.{List, [], ◌∷◌, ◌++◌, append_assoc}
 use lib.ListN.{length, take, drop, set, length-append, length-take, length-drop, take-append-drop}
-use lib.Seq.{take-append-le, take-take, take_at, drop_at, drop-drop, length-take-le, set_split, sets-eq}
-use Rattle.wire.specs.Numbers.{bytes}
+use lib.Seq.{take-append-le, take-take, take_at, drop_at, drop-drop, length-take-le, set_split}
 use Rattle.wire.specs.Writing.{put, Wrote, Put}
-use Rattle.wire.proofs.Numbers.{length_bytes_lem, bytes16_is, bytes_join}
 
 -- ---- put
 
@@ -52,22 +50,6 @@ put_before out at xs ys h =
     let t : take at (take (at + length xs) out ++ (ys ++ drop (at + length xs + length ys) out)) ≡ take at out = take-append-le at (take (at + length xs) out) (ys ++ drop (at + length xs + length ys) out) (omega arith) ∙ take-take at (at + length xs) out (omega arith) in
     let d : drop (at + length xs) (take (at + length xs) out ++ (ys ++ drop (at + length xs + length ys) out)) ≡ ys ++ drop (at + length xs + length ys) out = drop_at (take (at + length xs) out) _ (at + length xs) l in
     rw (t, d, length-append, ← add_assoc) (simp append_assoc)
-
--- a buffer's place filled byte by byte
-pub put_pair : (out : List ℕ) (at a b : ℕ) → at + 2 ≤ length out → set (set out at a) (at + 1) b ≡ put out at (a ∷ b ∷ [])
-unfolding put
-put_pair out at a b h = rw add-one (sets-eq (a ∷ b ∷ []) out at h ∙ append_assoc (take at out) (a ∷ b ∷ []) (drop (at + 2) out))
-
-pub put16_is : (out : List ℕ) (at n : ℕ) {after : List ℕ} → after ≡ put out at (n / 256 % 256 ∷ n % 256 ∷ []) → after ≡ put out at (bytes 2 n)
-put16_is out at n e = rw (bytes16_is n) at e
-
--- the bytes of a number, its upper half first
-pub halves_put : (w : ℕ) (out : List ℕ) (at n : ℕ) {mid after : List ℕ} → mid ≡ put out at (bytes w (n / 256 ^ w)) → after ≡ put mid (at + w) (bytes w n) → at + (w + w) ≤ length out
-    → after ≡ put out at (bytes (w + w) n)
-halves_put w out at n p q h =
-    let l = length_bytes_lem w (n / 256 ^ w) in
-    let m = length_bytes_lem w n in
-    q ∙ rw (p, ← bytes_join w w n) (rw l at (put_put out at (bytes w (n / 256 ^ w)) (bytes w n) (omega arith)))
 
 -- ---- to the front
 

@@ -21,12 +21,35 @@ pub fn byte(part: &[u8], at: usize) -> usize
     0
 }
 
+// The number in the W bytes at a place inside.
+pub fn word_in<const W: usize>(part: &[u8], at: usize) -> usize
+    requires { (W ≤ 8) × (at + W ≤ length part.now) }
+    ensures { (result ≡ word W part.now at) × (result < 256 ^ W) }
+{
+    let mut n = 0;
+    for i in 0..W {
+        n = n * 256 + wide(part[at + i]);
+    }
+    n
+}
+
+// The number in the W bytes at any place, 0 where they don't all lie inside.
+pub fn word<const W: usize>(part: &[u8], at: usize) -> usize
+    requires { W ≤ 8 }
+    ensures { (result ≡ word W part.now at) × (result < 256 ^ W) }
+{
+    if at <= part.len() && W <= part.len() - at {
+        return word_in::<W>(part, at);
+    }
+    0
+}
+
 // The 16-bit number at a place inside.
 pub fn word16_in(part: &[u8], at: usize) -> usize
     requires { at + 2 ≤ length part.now }
     ensures { (result ≡ word 2 part.now at) × (result < 2 ^ 16) }
 {
-    wide(part[at]) * 256 + wide(part[at + 1])
+    word_in::<2>(part, at)
 }
 
 // The 32-bit number at a place inside.
@@ -34,7 +57,7 @@ pub fn word32_in(part: &[u8], at: usize) -> usize
     requires { at + 4 ≤ length part.now }
     ensures { (result ≡ word 4 part.now at) × (result < 2 ^ 32) }
 {
-    word16_in(part, at) * 65536 + word16_in(part, at + 2)
+    word_in::<4>(part, at)
 }
 
 // The 64-bit number at a place inside.
@@ -42,46 +65,28 @@ pub fn word64_in(part: &[u8], at: usize) -> usize
     requires { at + 8 ≤ length part.now }
     ensures { result ≡ word 8 part.now at }
 {
-    word32_in(part, at) * 4294967296 + word32_in(part, at + 4)
+    word_in::<8>(part, at)
 }
 
 // The 16-bit number at any place, 0 where it doesn't lie inside.
 pub fn word16(part: &[u8], at: usize) -> usize
     ensures { (result ≡ word 2 part.now at) × (result < 2 ^ 16) }
 {
-    if at < part.len() {
-        if 2 <= part.len() - at {
-            return word16_in(part, at);
-        }
-        return 0;
-    }
-    0
+    word::<2>(part, at)
 }
 
 // The 24-bit number at any place, 0 where it doesn't lie inside.
 pub fn word24(part: &[u8], at: usize) -> usize
     ensures { (result ≡ word 3 part.now at) × (result < 2 ^ 24) }
 {
-    if at < part.len() {
-        if 3 <= part.len() - at {
-            return word16_in(part, at) * 256 + byte(part, at + 2);
-        }
-        return 0;
-    }
-    0
+    word::<3>(part, at)
 }
 
 // The 32-bit number at any place, 0 where it doesn't lie inside.
 pub fn word32(part: &[u8], at: usize) -> usize
     ensures { (result ≡ word 4 part.now at) × (result < 2 ^ 32) }
 {
-    if at < part.len() {
-        if 4 <= part.len() - at {
-            return word32_in(part, at);
-        }
-        return 0;
-    }
-    0
+    word::<4>(part, at)
 }
 
 // Whether every byte of a part is 0.
@@ -104,12 +109,16 @@ pub fn zeros(part: &[u8], at: usize, n: usize) -> bool
     all_zero(&part[at..at + n])
 }
 
-fn put_pair(out: &mut [u8], at: usize, high: u8, low: u8)
-    requires { at + 2 ≤ length out.old }
-    ensures { out.new ≡ put out.old at (high ∷ low ∷ []) }
+// Puts the last W bytes of a number at a place.
+pub fn put<const W: usize>(out: &mut [u8], at: usize, n: usize)
+    requires { at + W ≤ length out.old }
+    ensures { out.new ≡ put out.old at (bytes W n) }
 {
-    out[at] = high;
-    out[at + 1] = low;
+    let mut m = n;
+    for i in (0..W).rev() {
+        out[at + i] = (m % 256) as u8;
+        m /= 256;
+    }
 }
 
 // Puts the last 16 bits of a number at a place.
@@ -117,7 +126,7 @@ pub fn put16(out: &mut [u8], at: usize, n: usize)
     requires { at + 2 ≤ length out.old }
     ensures { out.new ≡ put out.old at (bytes 2 n) }
 {
-    put_pair(out, at, (n / 256 % 256) as u8, (n % 256) as u8);
+    put::<2>(out, at, n);
 }
 
 // Puts the last 32 bits of a number at a place.
@@ -125,8 +134,7 @@ pub fn put32(out: &mut [u8], at: usize, n: usize)
     requires { at + 4 ≤ length out.old }
     ensures { out.new ≡ put out.old at (bytes 4 n) }
 {
-    put16(out, at, n / 65536);
-    put16(out, at + 2, n);
+    put::<4>(out, at, n);
 }
 
 // Puts a number of 64 bits at a place.
@@ -134,6 +142,5 @@ pub fn put64(out: &mut [u8], at: usize, n: usize)
     requires { at + 8 ≤ length out.old }
     ensures { out.new ≡ put out.old at (bytes 8 n) }
 {
-    put32(out, at, n / 4294967296);
-    put32(out, at + 4, n);
+    put::<8>(out, at, n);
 }

@@ -26,9 +26,9 @@ pub returns-in_err-last : goal.returns-in_err-last
 returns-in_err-last c = let p = c.requires in let l = c.loop-k in
     let f : c.from_residual.result ≡ Err c.in_err-last.field-0.0 = search rules in
     rw f (looked_on c.find.ensures _ (λ e. chunks_fail _ _ _ _ _ l.k (omega (arith, p.1.within)) (
-      chunk_is p.0 p.1 l.k (omega arith) (omega arith) l.invariant.2 c.per_chunk-per.ensures.0 _ c.bytes_in-bytes.ensures.0
-      c.offset_at.ensures.0
-      ∙ e)) c.in_err-last.was)
+    chunk_is p.0 p.1 l.k (omega arith) (omega arith) l.invariant.2 c.per_chunk-per.ensures.0 _ c.bytes_in-bytes.ensures.0
+    c.offset_at.ensures.0
+    ∙ e)) c.in_err-last.was)
 
 pub overflow_add-first : goal.overflow_add-first
 overflow_add-first c = let p = c.requires in let l = c.loop-k in

@@ -37,10 +37,10 @@ returns-then-offset-at-2 c = let s = ran _ _ _ _ _ c.step.ensures c.in-Found-ste
 pub loop-i-preserved : goal.loop-i-preserved
 loop-i-preserved c =
     elim c.match-plain_step.branch [
-      in-Found+else-offset-at w ↦
+      | in-Found+else-offset-at w ↦
           let s = (plain_ran _ _ _ _ _ c.plain_step.ensures w.in-Found.is).0 in
           rw w.at-is (start_past c.loop-i.invariant.0 s w.past-at.ensures (omega (arith, w.if-offset-at.false)), omega (arith, w.past-at.ensures), omega arith)
-    | in-Broken+in-Found-step+else-offset-at-2 w ↦
+      | in-Broken+in-Found-step+else-offset-at-2 w ↦
           let s = ran _ _ _ _ _ w.step.ensures w.in-Found-step.is in
           rw w.at-is (start_past c.loop-i.invariant.0 s w.past-at-in-Found-step.ensures (omega (arith, w.if-offset-at-2.false)), omega (arith, w.past-at-in-Found-step.ensures), omega arith)
     ]
