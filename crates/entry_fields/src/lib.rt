@@ -8,8 +8,7 @@ use entry_records::field::Record;
 use entry_records::record;
 use entry_records::record::WriteError;
 use release::Release;
-use rule::refusals;
-use rule::Answer;
+use rule::{Answer, refusals};
 
 mod numbers;
 

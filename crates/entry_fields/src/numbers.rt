@@ -10,8 +10,7 @@ ghost use Rattle.entry_fields.specs.Numbers.{amr_of, h263_of, picture_of, record
 
 use entry_heads::kind;
 use entry_records::field::{Amr, H263, Rates, Record};
-use rule::refusals;
-use rule::Answer;
+use rule::{Answer, refusals};
 
 // The eight fields of a `samr` or `sawb`.
 pub fn put_amr(f: Amr, out: &mut [u64]) -> Answer

@@ -20,8 +20,7 @@ use descriptors::list::Reading;
 use descriptors::{list, part};
 use entry_heads::{head, kind};
 use movie::entry;
-use rule::refusals;
-use rule::{Answer, Refusal};
+use rule::{Answer, Refusal, refusals};
 use value::{Esds, Values};
 use wire::{lend, number};
 
