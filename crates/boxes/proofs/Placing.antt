@@ -6,6 +6,7 @@ use mathlib.Core.Bool.{Bool, true, false}
 use mathlib.Core.List.{List, [], ◌∷◌}
 use lib.ListN.{length}
 use lib.Seq.{length-take-le}
+use Rattle.std.specs.Result.{is_ok}
 use Rattle.wire.proofs.Clauses.{eq_is}
 use Rattle.wire.specs.Tests.{pick}
 use Rattle.wire.specs.Numbers.{Bytes}
@@ -79,21 +80,13 @@ module _ (c n : ℕ) (xs : List ℕ) (v : Bytes xs) where
 
 -- how a part ends, as a test
 module _ (xs : List ℕ) {t : Tiling} (e : t ≡ tiling_of xs) where
-  pub was_whole : t ≡ Whole → true ≡ tiles xs
+  pub was_tiled : is_ok t ≡ tiles xs
   unfolding tiling_of
-  was_whole w = go (tiles xs) (sym w ∙ e)
+  was_tiled = rw e (go (tiles xs) (length xs - length (after xs)))
     where
-      go : (b : Bool) → Whole ≡ pick b Whole (Torn (length xs - length (after xs))) → true ≡ b
-      go true q = refl
-      go false q = let z : ◌≡◌ {A = ℕ} 0 1 = cc in absurd (omega arith)
-
-  pub was_torn : (p : ℕ) → t ≡ Torn p → false ≡ tiles xs
-  unfolding tiling_of
-  was_torn p w = go (tiles xs) (sym w ∙ e)
-    where
-      go : (b : Bool) → Torn p ≡ pick b Whole (Torn (length xs - length (after xs))) → false ≡ b
-      go true q = let z : ◌≡◌ {A = ℕ} 0 1 = cc in absurd (omega arith)
-      go false q = refl
+      go : (b : Bool) (p : ℕ) → is_ok (pick b Whole (Torn p)) ≡ b
+      go true p = refl
+      go false p = refl
 
 -- where the tiling ends
 module _ (xs : List ℕ) {t : Tiling} (e : t ≡ tiling_of xs) where

@@ -14,7 +14,7 @@ use Rattle.boxes.specs.declared.walk.BoxAt.{BoxAt}
 use Rattle.boxes.specs.Box.{Box, size, header, write}
 use Rattle.boxes.specs.Boxes.{boxes, after}
 use Rattle.boxes.specs.Walk.{payload, box_at, Ran, Over}
-use Rattle.boxes.specs.Seek.{tiling_of, meant, count, Cut, Passed, Tiling, Whole, Torn}
+use Rattle.boxes.specs.Seek.{tiling_of, meant, count, Cut, Passed, Whole, Torn}
 use Rattle.boxes.proofs.Whole.{length_header}
 use Rattle.boxes.proofs.Reading.{write_boxes, write_cons, write_append}
 use Rattle.boxes.proofs.Meaning.{meant_most}

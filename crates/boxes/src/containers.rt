@@ -1,4 +1,6 @@
 // The containers, and only on the paths of the format.
+#![tactic(auto, unfolding(crate::specs::Containers::parent, crate::specs::Containers::kind_in, wire::specs::Tests::if_eq))]
+
 ghost use Rattle.std.specs.Prelude.{◌≡◌};
 ghost use Rattle.boxes.specs.Containers.{parent as parent_of, kind_in};
 
@@ -15,25 +17,14 @@ pub const LONGEST: usize = 1048576;
 pub fn parent(c: usize) -> usize
     ensures { result ≡ parent_of c }
 {
-    if c == codes::MOOV {
-        return FILE;
+    match c {
+        codes::MOOV => FILE,
+        codes::TRAK => codes::MOOV,
+        codes::MDIA => codes::TRAK,
+        codes::MINF => codes::MDIA,
+        codes::STBL | codes::DINF => codes::MINF,
+        _ => 0,
     }
-    if c == codes::TRAK {
-        return codes::MOOV;
-    }
-    if c == codes::MDIA {
-        return codes::TRAK;
-    }
-    if c == codes::MINF {
-        return codes::MDIA;
-    }
-    if c == codes::STBL {
-        return codes::MINF;
-    }
-    if c == codes::DINF {
-        return codes::MINF;
-    }
-    0
 }
 
 // The kind of a box of a code that stands in a container of kind k.

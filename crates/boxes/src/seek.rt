@@ -1,7 +1,6 @@
 // Counting and finding boxes by their code.
 ghost use Rattle.std.specs.Prelude.{◌≡◌, ◌+◌, ◌≤◌, ◌<◌, length};
 ghost use Rattle.wire.specs.Tests.{pick};
-ghost use Rattle.wire.specs.Clauses.{one_if};
 ghost use Rattle.boxes.specs.Boxes.{boxes, total, tiles as tiles_of};
 ghost use Rattle.boxes.specs.Seek.{tiling_of, meant as meant_by, count as count_of, nth as nth_in, place_in, start_in, SeenAs, plain_tiles};
 
@@ -31,26 +30,19 @@ pub fn ends(part: &[u8]) -> Result<(), usize>
     }
 }
 
-// Whether boxes tile a part: 1 or 0.
-pub fn tiles(part: &[u8]) -> usize
-    ensures { result ≡ one_if (tiles_of part.now) }
+// Whether boxes tile a part.
+pub fn tiles(part: &[u8]) -> bool
+    ensures { result ≡ tiles_of part.now }
 {
-    match ends(part) {
-        Ok(()) => 1,
-        Err(_) => 0,
-    }
+    ends(part).is_ok()
 }
 
+// How many of one box of code d are meant, 1 or 0: a number, since all that ask add it up.
+#[tactic(auto, unfolding(crate::specs::Seek::meant, wire::specs::Tests::if_eq))]
 fn meant(c: usize, d: usize) -> usize
     ensures { (result ≡ meant_by c d) × (result ≤ 1) }
 {
-    if c == ANY {
-        return 1;
-    }
-    if d == c {
-        return 1;
-    }
-    0
+    usize::from(c == ANY || d == c)
 }
 
 // How many boxes have a code.

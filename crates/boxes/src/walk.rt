@@ -1,6 +1,5 @@
 // The walk over the boxes of a part, by value.
 ghost use Rattle.std.specs.Prelude.{◌≡◌, ◌+◌, ◌≤◌, length, drop};
-ghost use Rattle.wire.specs.Clauses.{one_if};
 ghost use Rattle.boxes.specs.Box.{is_plain, is_open};
 ghost use Rattle.boxes.specs.Walk.{said_by, step_at, plainly, payload};
 
@@ -15,43 +14,35 @@ pub const WIDE_HEAD: usize = 16;
 pub const FRONT: usize = 8;
 
 // How a header says the size of its box: in its size field; in eight bytes more, after a 1; or by a 0 that it reaches to the end.
-#[derive(Clone, Copy)]
+#[derive(Clone, Copy, Debug, PartialEq, Eq)]
 pub enum Form {
     Plain,
     Wide,
     Open,
 }
 
-// Whether a header is plain: 1 or 0.
-pub fn is_plain(form: Form) -> usize
-    ensures { result ≡ one_if (is_plain form) }
+// Whether a header is plain.
+pub fn is_plain(form: Form) -> bool
+    ensures { result ≡ is_plain form }
 {
-    match form {
-        Form::Plain => 1,
-        Form::Wide => 0,
-        Form::Open => 0,
-    }
+    matches!(form, Form::Plain)
 }
 
-// Whether a box is open: 1 or 0.
-pub fn is_open(form: Form) -> usize
-    ensures { result ≡ one_if (is_open form) }
+// Whether a box is open.
+pub fn is_open(form: Form) -> bool
+    ensures { result ≡ is_open form }
 {
-    match form {
-        Form::Plain => 0,
-        Form::Wide => 0,
-        Form::Open => 1,
-    }
+    matches!(form, Form::Open)
 }
 
 // The place that a walk has come to.
-#[derive(Clone, Copy)]
+#[derive(Clone, Copy, Debug, PartialEq, Eq)]
 pub struct Walk {
     pub at: usize,
 }
 
 // A box in a part: where it starts, its header's form and length, how long all of it is, and its code.
-#[derive(Clone, Copy)]
+#[derive(Clone, Copy, Debug, PartialEq, Eq)]
 pub struct BoxAt {
     pub at: usize,
     pub form: Form,
@@ -60,7 +51,7 @@ pub struct BoxAt {
     pub code: usize,
 }
 
-#[derive(Clone, Copy)]
+#[derive(Clone, Copy, Debug, PartialEq, Eq)]
 pub enum Step {
     Found(BoxAt, Walk),
     End,
@@ -68,7 +59,7 @@ pub enum Step {
 }
 
 // What a header says: its form and length, and how long all of its box is.
-#[derive(Clone, Copy)]
+#[derive(Clone, Copy, Debug, PartialEq, Eq)]
 struct Says {
     form: Form,
     head: usize,

@@ -54,11 +54,10 @@ fn reword_all(table: &mut [u8], by: By)
     requires { Small by }
     ensures { table.new ≡ each_word (moved_by by) table.old }
 {
-    let mut at = 0;
-    while 4 <= table.len() - at {
+    for i in 0..table.len() / 4 {
+        let at = 4 * i;
         let w = moved(by, number::word32_in(table, at));
         number::put32(table, at, w);
-        at = at + 4;
     }
 }
 

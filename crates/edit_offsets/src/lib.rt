@@ -45,7 +45,7 @@ pub fn close(out: &mut [u8], b: BoxAt)
     ensures { out.new ≡ closed_at b out.old }
 {
     let form = b.form;
-    if walk::is_open(form) != 0 {
+    if walk::is_open(form) {
         number::put32(out, b.at, b.span);
     }
 }

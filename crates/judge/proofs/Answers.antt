@@ -2,24 +2,16 @@
 use Prim.Native.Nat.{ℕ, zero, suc, ◌+◌, ◌-◌}
 use native.Mathlib.Omega.{arith}
 use mathlib.Core.Path.{◌≡◌, refl, sym, ◌∙◌}
-use mathlib.Core.Bool.{Bool, true, false}
 use mathlib.Core.List.{List}
-use Rattle.wire.specs.Clauses.{one_if}
 use Rattle.wire.proofs.Tests.{eq_yea, eq_nay}
 use Rattle.boxes.specs.Box.{Box, head}
 use Rattle.boxes.specs.Boxes.{after}
 use Rattle.boxes.specs.Walk.{Over}
 use Rattle.boxes.specs.Containers.{kind_in}
-use Rattle.rule.specs.Verdict.{unless, Verdict, Fine, Bad}
+use Rattle.rule.specs.Verdict.{Verdict, Fine}
 use Rattle.rule.specs.Judge.{Judge, judge_box, judge_in}
 use Rattle.rule.proofs.Places.{sooner_none}
 use Rattle.rule.proofs.Traverse.{Found, found_none, found_over}
-use Rattle.judge.specs.Asked.{unless_answer}
-
-pub unless_is : (t : Bool) (p : ℕ) {r : ℕ} {v : Verdict} → r ≡ one_if t → v ≡ unless_answer r p → v ≡ unless t p
-unfolding unless_answer unless one_if
-unless_is true p e q = q ∙ rw e (sym (eq_nay 1 0 (Bad p) Fine Fine (λ z. omega arith) refl))
-unless_is false p e q = q ∙ rw e (sym (eq_yea 0 0 (Bad p) Fine (Bad p) refl refl))
 
 -- ---- a box
 

@@ -1,8 +1,7 @@
 -- What a call on a file comes to, once it knows the judgement; and what is known of one that is done. Assumes nothing.
-use Rattle.std.specs.Prelude.{Result, Ok, Err}
+use Rattle.std.specs.Prelude.{Result, Err}
 use Rattle.std.specs.Result.{IsErrAnd}
 use Prim.Native.Nat.{ℕ}
-use native.Mathlib.Omega.{arith}
 use mathlib.Core.Path.{◌≡◌, refl, sym, ◌∙◌}
 use mathlib.Core.Bool.{Bool, true}
 use mathlib.Core.List.{List, map}
@@ -12,9 +11,7 @@ use Rattle.rule.specs.Results.ToWrite.{gives, refuses}
 use Rattle.rule.specs.declared.Refusal.{Refusal}
 use Rattle.rule.proofs.SameRefusal.{passed_on}
 use Rattle.rule.proofs.Results.{Gave, exact_refuses, refused_not, gives_done, asked_done}
-use Rattle.layout.specs.declared.every.Tracks.{Tracks}
 use Rattle.judge.specs.Judgement.{judged, Judgement, Accepted}
-use Rattle.judge.specs.Tracks.{WithTracks}
 use Rattle.judge.specs.Calls.{when_accepted, answer_on, result_on}
 use Rattle.judge.specs.Acceptance.{Meets}
 use Rattle.judge.proofs.Exact.{accepted_meets}

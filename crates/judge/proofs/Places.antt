@@ -24,7 +24,6 @@ use Rattle.judge.proofs.Order.{too_long}
 use Rattle.judge.proofs.Bounded.{five_bounded, nine_bounded, ten_bounded}
 use Rattle.judge.proofs.Refusals.{refused_breaks}
 use Rattle.rule.specs.Verdict.{Verdict, Fine, Bad}
-use Rattle.rule.specs.Answers.{Refused}
 
 -- judges that are bounded, one by one
 data AllBounded : List Judge → Type 0 where

@@ -76,7 +76,3 @@ judge_by n l = if_lt n 4 (first_by n) (rule_by n l)
 -- what rule n says of a file
 unfoldable pub verdict_of : ℕ → List ℕ → Verdict
 verdict_of n xs = verdict_by (judge_by n (boxes xs)) xs
-
--- broken at a place where an answer is 0
-unfoldable pub unless_answer : ℕ → ℕ → Verdict
-unless_answer r p = if_eq r 0 (Bad p) Fine

@@ -5,7 +5,6 @@ mod rules;
 mod shape;
 
 ghost use Rattle.std.specs.Prelude.{◌≡◌, ◌+◌, ◌≤◌, length};
-ghost use Rattle.wire.specs.Clauses.{one_if};
 ghost use Rattle.boxes.specs.Containers.{LONGEST};
 ghost use Rattle.rule_all.specs.All.{SureBefore};
 ghost use Rattle.judge.specs.Acceptance.{editable};
@@ -80,16 +79,10 @@ pub fn judge_tracks(file: &[u8]) -> Result<Tracks, Refusal>
     Ok(tracks)
 }
 
-// Whether an edit takes a file, which refusal 23 asks: 1 or 0. Each container is walked once first.
-pub fn editable(file: &[u8]) -> usize
+// Whether an edit takes a file, which refusal 23 asks. Each container is walked once first.
+pub fn editable(file: &[u8]) -> bool
     requires { length file.now ≤ LONGEST }
-    ensures { result ≡ one_if (editable file.now) }
+    ensures { result ≡ editable file.now }
 {
-    if rule_all::edit::edits_hold(file) != 0 {
-        return 1;
-    }
-    match shape::first(23, file) {
-        Ok(()) => 1,
-        Err(_) => 0,
-    }
+    rule_all::edit::edits_hold(file) || shape::first(23, file).is_ok()
 }

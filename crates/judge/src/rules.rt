@@ -3,64 +3,54 @@ ghost use Rattle.std.specs.Prelude.{◌≡◌, ◌+◌, ◌-◌, ◌^◌, ◌≤
 ghost use Rattle.boxes.specs.Box.{head_of};
 ghost use Rattle.boxes.specs.Boxes.{boxes};
 ghost use Rattle.boxes.specs.Walk.{box_at};
+ghost use Rattle.rule.specs.Verdict.{unless};
 ghost use Rattle.rule.specs.Judge.{judge_box, judge_in};
-ghost use Rattle.judge.specs.Asked.{unless_answer, leaf_by, node_by, rule_by};
+ghost use Rattle.judge.specs.Asked.{leaf_by, node_by, rule_by};
 
 use boxes::walk::{BoxAt, Step, Walk};
 use boxes::{containers, walk};
 use rule::Verdict;
 
-// Broken at a place where an answer is 0.
-fn unless(answer: usize, place: usize) -> Verdict
-    ensures { result ≡ unless_answer answer place }
+// Broken at a place unless a test holds.
+#[tactic(auto, unfolding(rule::specs::Verdict::unless))]
+fn unless(holds: bool, place: usize) -> Verdict
+    ensures { result ≡ unless holds place }
 {
-    if answer == 0 {
+    if !holds {
         return Err(place);
     }
     Ok(())
 }
 
 // What rule n says of an opaque box of code c in a container of kind k.
+#[tactic(auto, unfolding(crate::specs::Asked::leaf_by, wire::specs::Tests::if_eq))]
 fn leaf_by(n: usize, k: usize, c: usize, body: &[u8], place: usize, start: usize) -> Verdict
     requires { start + length body.now < 2 ^ 60 }
     ensures { result ≡ leaf_by n k c body.now place start }
 {
-    if n == 4 {
-        return unless(rule_headers::forms::form(k, c, body), place);
+    match n {
+        4 => unless(rule_headers::forms::form(k, c, body), place),
+        5 => unless(rule_lists::form::form_in(k, c, body), place),
+        6 => unless(rule_tracks::table_in(k, c, body), place),
+        9 => rule_lists::url::urls_in(k, c, body, start),
+        _ => Ok(()),
     }
-    if n == 5 {
-        return unless(rule_lists::form::form_in(k, c, body), place);
-    }
-    if n == 6 {
-        return unless(rule_tracks::table_in(k, c, body), place);
-    }
-    if n == 9 {
-        return rule_lists::url::urls_in(k, c, body, start);
-    }
-    Ok(())
 }
 
 // What rule n says of a container of kind k.
+#[tactic(auto, unfolding(crate::specs::Asked::node_by, wire::specs::Tests::if_eq))]
 fn node_by(n: usize, file: &[u8], k: usize, part: &[u8], home: usize, base: usize) -> Verdict
     requires { base + length part.now < 2 ^ 60 }
     ensures { result ≡ node_by n (boxes file.now) k part.now home base }
 {
-    if n == 4 {
-        return rule_headers::identities::tracks_in(k, part, base);
+    match n {
+        4 => rule_headers::identities::tracks_in(k, part, base),
+        5 => rule_lists::total::most_in(k, part, base),
+        7 => unless(rule_tracks::seven_in(k, part), home),
+        8 => rule_tracks::eight_at(file, k, part, base),
+        10 => rule_entries::ten_at(file, k, part, base),
+        _ => Ok(()),
     }
-    if n == 5 {
-        return rule_lists::total::most_in(k, part, base);
-    }
-    if n == 7 {
-        return unless(rule_tracks::seven_in(k, part), home);
-    }
-    if n == 8 {
-        return rule_tracks::eight_at(file, k, part, base);
-    }
-    if n == 10 {
-        return rule_entries::ten_at(file, k, part, base);
-    }
-    Ok(())
 }
 
 // A box of a container of kind k.

@@ -1,6 +1,5 @@
 // Rules 2 and 3 and refusal 23, which look at containers alone and name each by its own place: the first that is broken is the answer.
-ghost use Rattle.std.specs.Prelude.{◌≡◌, ◌+◌, ◌-◌, ◌^◌, ◌≤◌, ◌<◌, length};
-ghost use Rattle.wire.specs.Clauses.{one_if};
+ghost use Rattle.std.specs.Prelude.{◌≡◌, true, ◌+◌, ◌-◌, ◌^◌, ◌≤◌, ◌<◌, length};
 ghost use Rattle.boxes.specs.Box.{head_of};
 ghost use Rattle.boxes.specs.Containers.{FILE, DEPTH, LONGEST};
 ghost use Rattle.boxes.specs.Walk.{box_at};
@@ -11,40 +10,31 @@ use boxes::walk::{BoxAt, Form, Step, Walk};
 use boxes::{containers, walk};
 use rule::Verdict;
 
-// Whether a container of kind k has the boxes that rule n wants: 1 or 0.
-fn shaped(n: usize, k: usize, part: &[u8]) -> usize
-    ensures { result ≡ one_if (shaped_by n k part.now) }
+// Whether a container of kind k has the boxes that rule n wants.
+#[tactic(auto, unfolding(crate::specs::Asked::shaped_by, wire::specs::Tests::if_eq))]
+fn shaped(n: usize, k: usize, part: &[u8]) -> bool
+    ensures { result ≡ shaped_by n k part.now }
 {
-    if n == 3 {
-        return rule_shape::shape_of(k, part);
+    match n {
+        3 => rule_shape::shape_of(k, part),
+        23 => rule_shape::editable_of(k, part),
+        _ => true,
     }
-    if n == 23 {
-        return rule_shape::editable_of(k, part);
-    }
-    1
 }
 
-// An answer other than 0 says that a box is empty, of which rule 2 asks nothing but its form.
-fn idle(n: usize, b: BoxAt) -> usize
-    ensures { (result ≡ 0 → ⊥) → (n ≡ 2) × (b.span ≡ b.head) }
+// A yes says that a box is empty, of which rule 2 asks nothing but its form.
+fn idle(n: usize, b: BoxAt) -> bool
+    ensures { result ≡ true → (n ≡ 2) × (b.span ≡ b.head) }
 {
-    if n != 2 {
-        return 0;
-    }
-    if b.span != b.head {
-        return 0;
-    }
-    1
+    n == 2 && b.span == b.head
 }
 
-// Whether a box may have its form in a container of kind k, of which rule 2 alone asks: 1 or 0.
-fn formed(n: usize, k: usize, form: Form) -> usize
-    ensures { result ≡ one_if (formed_by n k form) }
+// Whether a box may have its form in a container of kind k, of which rule 2 alone asks.
+#[tactic(auto, unfolding(crate::specs::Asked::formed_by, wire::specs::Tests::if_eq))]
+fn formed(n: usize, k: usize, form: Form) -> bool
+    ensures { result ≡ formed_by n k form }
 {
-    if n != 2 {
-        return 1;
-    }
-    rule_shape::may_have(k, form)
+    n != 2 || rule_shape::may_have(k, form)
 }
 
 // A box of a container of kind k: an opaque one is asked for its form alone. The verdict is a number, since that is handed back faster.
@@ -55,10 +45,10 @@ fn first_box(n: usize, part: &[u8], b: BoxAt, base: usize, k: usize, depth: usiz
 {
     let place = base + b.at;
     let form = b.form;
-    if formed(n, k, form) == 0 {
+    if !formed(n, k, form) {
         return place + 1;
     }
-    if idle(n, b) != 0 {
+    if idle(n, b) {
         return 0;
     }
     let start = place + b.head;
@@ -78,7 +68,7 @@ fn first_in(n: usize, part: &[u8], home: usize, base: usize, k: usize, depth: us
     if depth == 0 {
         return 0;
     }
-    if shaped(n, k, part) == 0 {
+    if !shaped(n, k, part) {
         return home + 1;
     }
     let mut w = Walk { at: 0 };

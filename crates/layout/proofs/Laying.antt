@@ -2,6 +2,7 @@
 use Prim.Native.Nat.{ℕ, ◌+◌, ◌<◌}
 use native.Mathlib.Omega.{arith}
 use mathlib.Core.Path.{◌≡◌, refl, ap, subst, ◌∙◌}
+use mathlib.Core.Bool.{true}
 use mathlib.Core.List.{List}
 use lib.ListN.{length}
 use Rattle.codes.specs.Codes.{TRAK, TKHD, MDIA, MDHD, HDLR, MINF, DINF, DREF, STBL, STSD, STTS, STSC, STSZ, STCO}
@@ -13,7 +14,7 @@ use Rattle.movie.specs.Movie.{mdia as mdia_of, minf as minf_of}
 use Rattle.layout.specs.declared.gather.Slot.{Slot}
 use Rattle.layout.specs.declared.gather.Five.{Five}
 use Rattle.layout.specs.declared.track.Track.{Track}
-use Rattle.layout.specs.Slots.{slot_in, first_with, Stands, Gathered, Alone}
+use Rattle.layout.specs.Slots.{slot_in, first_with, alone_of, Stands, Gathered}
 use Rattle.layout.specs.Track.{At, Has, Shaped, Laid, StsdPlaced}
 use Rattle.layout.proofs.Shaped.{trak_shape, mdia_shape, minf_shape, dinf_shape, stbl_shape, gathered_has}
 
@@ -59,11 +60,10 @@ module _ {xs : List ℕ} {trak mdia minf dinf stbl : Slot} {t : Track} (g : Stan
   pub stbl_is : slot_in xs stbl ≡ find STBL (minf_of b)
   stbl_is = (at_in g.right minf_is).is
 
-  pub laid : ((t.shaped ≡ 0 → ⊥) → Shaped b) → Laid xs b t
+  pub laid : Laid xs b t
   unfolding follow
-  laid h =
+  laid =
       record {
-        shaped = h;
         tkhd = at_in g.tkhd refl;
         mdhd = at_in g.mdhd mdia_is;
         hdlr = at_in g.hdlr mdia_is;
@@ -100,11 +100,11 @@ module _ {xs : List ℕ} {trak : Slot} {t m i d s : Five}
     (gi : Gathered xs m.c (first_with DINF) (first_with STBL) (first_with STBL) (first_with STBL) (first_with STBL) i)
     (gs : Gathered xs i.b (first_with STSD) (first_with STTS) (first_with STSC) (first_with STSZ) (first_with STCO) s)
     (gd : Gathered xs i.a (first_with DREF) (first_with DREF) (first_with DREF) (first_with DREF) (first_with DREF) d) where
-  abbrev gathered : ℕ → Track
-  gathered q = record { shaped = q; tkhd = t.a; mdhd = m.a; hdlr = m.b; dref = d.a; stsd = s.a; stts = s.b; stsc = s.c; stsz = s.d; stco = s.e }
+  abbrev gathered : Track
+  gathered = record { tkhd = t.a; mdhd = m.a; hdlr = m.b; dref = d.a; stsd = s.a; stts = s.b; stsc = s.c; stsz = s.d; stco = s.e }
 
-  standing : (q : ℕ) → Standing xs trak t.b m.c i.a i.b (gathered q)
-  standing q =
+  standing : Standing xs trak t.b m.c i.a i.b gathered
+  standing =
       record {
         in_trak = gt.second;
         in_mdia = gm.third;
@@ -121,20 +121,17 @@ module _ {xs : List ℕ} {trak : Slot} {t m i d s : Five}
         stco = gs.fifth;
       }
 
-  pub all_laid : {r₁ r₂ r₃ r₄ r₅ : ℕ} → Alone r₁ t → Alone r₂ m → Alone r₃ i → Alone r₄ s → Alone r₅ d
-      → (r₁ ≡ 0 → ⊥) → (r₂ ≡ 0 → ⊥) → (r₃ ≡ 0 → ⊥) → (r₄ ≡ 0 → ⊥) → (r₅ ≡ 0 → ⊥) → Laid xs (slot_in xs trak) (gathered r₅) × StsdPlaced xs trak (gathered r₅)
-  all_laid {r₅ = r₅} ot om oi os od zt zm zi zs zd =
-      let g = standing r₅ in (
-        laid g (λ z. record {
-          trak = gathered_has gt ot zt TRAK (λ a b c d e. trak_shape _ a b);
-          mdia = subst (Has MDIA) (mdia_is g) (gathered_has gm om zm MDIA (λ a b c d e. mdia_shape _ a b c));
-          minf = subst (Has MINF) (minf_is g) (gathered_has gi oi zi MINF (λ a b c d e. minf_shape _ a b));
-          dinf = subst (Has DINF) (dinf_is g) (gathered_has gd od zd DINF (λ a b c d e. dinf_shape _ a));
-          stbl = subst (Has STBL) (stbl_is g) (gathered_has gs os zs STBL (λ a b c d e. stbl_shape _ a b c d e));
-        }),
+  pub all_laid : alone_of t ≡ true → alone_of m ≡ true → alone_of i ≡ true → alone_of s ≡ true → alone_of d ≡ true
+      → Shaped (slot_in xs trak) × Laid xs (slot_in xs trak) gathered × StsdPlaced xs trak gathered
+  all_laid ot om oi os od =
+      let g = standing in (
+        record {
+          trak = gathered_has gt ot TRAK (λ a b c d e. trak_shape _ a b);
+          mdia = subst (Has MDIA) (mdia_is g) (gathered_has gm om MDIA (λ a b c d e. mdia_shape _ a b c));
+          minf = subst (Has MINF) (minf_is g) (gathered_has gi oi MINF (λ a b c d e. minf_shape _ a b));
+          dinf = subst (Has DINF) (dinf_is g) (gathered_has gd od DINF (λ a b c d e. dinf_shape _ a));
+          stbl = subst (Has STBL) (stbl_is g) (gathered_has gs os STBL (λ a b c d e. stbl_shape _ a b c d e));
+        },
+        laid g,
         listed g,
       )
-
--- a container that stands alone was walked to its end
-pub alone_tiled : {r : ℕ} {g : Five} → Alone r g → (r ≡ 0 → ⊥) → g.tiled ≡ 0 → ⊥
-alone_tiled o z e = omega (arith, o.tiled z)

@@ -1,25 +1,24 @@
 -- The movie from what was gathered of the file and of its `moov`. Assumes nothing.
 use Prim.Native.Nat.{ℕ, ◌+◌, ◌-◌, ◌<◌}
 use native.Mathlib.Omega.{arith}
-use mathlib.Core.Path.{◌≡◌, ap, subst, ◌∙◌}
+use mathlib.Core.Path.{◌≡◌, sym, ap, subst, ◌∙◌}
+use mathlib.Core.Bool.{Bool, true}
 use mathlib.Core.List.{List}
 use lib.ListN.{length}
 use lib.Seq.{take-length}
-use Rattle.wire.specs.Clauses.{is_eq, one_if}
 use Rattle.wire.proofs.Tests.{lt_or}
-use Rattle.wire.proofs.Clauses.{eq_is, was_yea}
+use Rattle.wire.proofs.Clauses.{eq_is, le_is, clause}
 use Rattle.codes.specs.Codes.{FTYP, MOOV, MDAT, MVHD, TRAK}
 use Rattle.boxes.specs.Boxes.{boxes}
 use Rattle.boxes.specs.Containers.{FILE}
 use Rattle.boxes.specs.Seek.{count, find, nth, start_in}
 use Rattle.movie.specs.Movie.{movie, tracks, track}
-use Rattle.rule_shape.specs.Three.{first}
 use Rattle.layout.specs.declared.gather.Slot.{Slot}
 use Rattle.layout.specs.declared.gather.Five.{Five}
 use Rattle.layout.specs.declared.tracks.Movie.{Movie}
 use Rattle.layout.specs.Slots.{slot_in, first_with, Stands, Gathered}
 use Rattle.layout.specs.Track.{At, Has}
-use Rattle.layout.specs.Tracks.{whole_of, wanted, track_slot, Paired, Peopled, Framed, LaidOut, Spread}
+use Rattle.layout.specs.Tracks.{whole_of, wanted, track_slot, framed_by, Framed, LaidOut, Spread}
 use Rattle.layout.proofs.Shaped.{none_open, file_shut, moov_shape, file_shape, one_of}
 use Rattle.layout.proofs.Laying.{at_in, place_in}
 use Rattle.layout.proofs.Few.{by_four, no_boxes, none_counted}
@@ -40,22 +39,20 @@ module _ {xs : List ℕ} {s : Slot} (e : s ≡ whole_of xs) {f m : Five} (gf : G
   unfolding track
   track_at {i} k = record { lies = k.lies; is = k.is ∙ ap (λ (ys : List ℕ). nth TRAK i (boxes ys)) moov_at.is }
 
-  module _ {r q v w : ℕ} (lf : r ≡ one_if (is_eq (first (boxes xs)) FTYP)) (of : Paired q f) (pm : Peopled v m) (zr : (w ≡ 0 → ⊥) → r ≡ 0 → ⊥)
-      (zq : (w ≡ 0 → ⊥) → q ≡ 0 → ⊥) (zv : (w ≡ 0 → ⊥) → v ≡ 0 → ⊥) where
-    framed : (w ≡ 0 → ⊥) → Framed xs
+  module _ {w : Bool} (h : w ≡ framed_by xs f m) where
+    framed : w ≡ true → Framed xs
     framed z =
-        let y = zq z in
-        let x = zv z in
+        let y : framed_by xs f m ≡ true = sym h ∙ z in
         record {
           file = subst (Has FILE) (all_is e) (record {
-            two = gf.tiled (of.tiled y);
+            two = gf.tiled (clause 0 _ y);
             shut = file_shut _;
-            three = file_shape _ (one_of gf.first (of.first y)) (one_of gf.second (of.second y)) (rw (all_is e) (eq_is _ _ (was_yea _ _ (zr z) lf)));
+            three = file_shape _ (one_of gf.first (eq_is _ _ (clause 1 _ y))) (one_of gf.second (eq_is _ _ (clause 2 _ y))) (rw (all_is e) (eq_is _ _ (clause 8 _ y)));
           });
           moov = subst (Has MOOV) moov_at.is (record {
-            two = gm.tiled (λ q. omega (arith, pm.tiled x));
-            shut = none_open MOOV _ (gm.shut (pm.tiled x));
-            three = moov_shape _ (one_of gm.first (pm.header x)) (rw (← gm.second.counted) (pm.some x)) (rw (← gm.second.counted) (pm.few x));
+            two = gm.tiled (clause 3 _ y);
+            shut = none_open MOOV _ (gm.shut (clause 4 _ y));
+            three = moov_shape _ (one_of gm.first (eq_is _ _ (clause 5 _ y))) (rw (← gm.second.counted) (le_is _ _ (clause 6 _ y))) (rw (← gm.second.counted) (le_is _ _ (clause 7 _ y)));
           });
         }
 
@@ -104,7 +101,7 @@ module _ {xs : List ℕ} {s : Slot} (e : s ≡ whole_of xs) {f m : Five} (gf : G
       let p = ap (λ (ys : List ℕ). start_in TRAK i (boxes ys)) moov_at.is in
       omega (arith, k.place (omega (arith, k.counted)), moov_place (omega arith))
 
-  pub spread : (w : ℕ) → Spread xs (record {
+  pub spread : (w : Bool) → Spread xs (record {
     shaped = w;
     tracks = m.b.n;
     ftyp = f.a;

@@ -2,9 +2,10 @@
 use Prim.Native.Nat.{ℕ, suc, ◌+◌, ◌-◌, ◌^◌, ◌≤◌, ◌<◌}
 use native.Mathlib.Omega.{arith}
 use mathlib.Core.Path.{◌≡◌, refl, sym, ap, subst, ◌∙◌}
-use mathlib.Core.Bool.{Bool, true, false}
+use mathlib.Core.Bool.{Bool, true, false, not}
 use mathlib.Core.List.{List, [], ◌∷◌}
 use lib.ListN.{length, drop, length-take, length-drop, drop_of_length-le}
+use Rattle.wire.specs.Tests.{pick}
 use Rattle.wire.specs.Clauses.{one_if}
 use Rattle.wire.proofs.Tests.{eq_yea, eq_nay, eq_or, lt_or}
 use Rattle.wire.proofs.Clauses.{is_eq_lem}
@@ -18,7 +19,7 @@ use Rattle.boxes.proofs.Meaning.{meant_yes, meant_no, count_hit, count_miss, nth
 use Rattle.boxes.proofs.Seeking.{ran_next}
 use Rattle.layout.specs.declared.gather.Slot.{Slot}
 use Rattle.layout.specs.declared.gather.Want.{Want}
-use Rattle.layout.specs.Slots.{slot_in, Lies, nowhere, Stands, note_of, opens, ending_of}
+use Rattle.layout.specs.Slots.{slot_in, Lies, nowhere, Stands, note_of, opens, shut_past}
 use Rattle.layout.proofs.Slots.{slot_part}
 
 module _ (c : ℕ) (x : Box) (l : List Box) where
@@ -153,40 +154,35 @@ stands {xs} {ys} {w} y {u} {at} {s} k o =
       place = λ h. rw (← y) (k.met h).1;
     }
 
--- ---- what every such walk has of the boxes before a place: what stands past the last, and how many are open
+-- ---- what every such walk has of the boxes before a place: what stands past the last, and whether none is open
 
-pub record Going (ys : List ℕ) (at endless : ℕ) : Type 0 where
+pub record Going (ys : List ℕ) (at : ℕ) (shut : Bool) : Type 0 where
   pub rest : after ys ≡ after (drop at ys)
-  pub inside : at ≤ length ys
-  pub opened : opens (boxes ys) ≡ endless + opens (boxes (drop at ys))
-  pub few : endless ≤ at
+  pub opened : shut ≡ true → opens (boxes ys) ≡ opens (boxes (drop at ys))
 
-pub going_none : (ys : List ℕ) → Going ys 0 0
-going_none ys = record { rest = refl; inside = omega arith; opened = omega arith; few = omega arith }
+pub going_none : (ys : List ℕ) → Going ys 0 true
+going_none ys = record { rest = refl; opened = λ z. refl }
 
-pub one_most : (t : Bool) → one_if t ≤ 1
+-- none was open, and this one isn't
+still : (s t : Bool) → pick s (not t) false ≡ true → (s ≡ true) × (one_if t ≡ 0)
 unfolding one_if
-one_most true = omega arith
-one_most false = omega arith
+still true false e = (refl, refl)
+still true true e = let z : ◌≡◌ {A = ℕ} 0 1 = cc in absurd (omega arith)
+still false t e = let z : ◌≡◌ {A = ℕ} 0 1 = cc in absurd (omega arith)
 
-module _ {ys : List ℕ} {at endless : ℕ} (g : Going ys at endless) where
-  pub going_more : {b : BoxAt} {v : Walk} → Ran ys at b v → {m : ℕ} → m ≡ endless + one_if (is_open b.form) → Going ys v.at m
+module _ {ys : List ℕ} {at : ℕ} {shut : Bool} (g : Going ys at shut) where
+  pub going_more : {b : BoxAt} {v : Walk} → Ran ys at b v → {s : Bool} → s ≡ shut_past shut b → Going ys v.at s
   unfolding opens
   going_more {b} {v} r e =
       record {
         rest = g.rest ∙ r.rest;
-        inside = omega (arith, r.next, r.inside);
-        opened = omega (arith, g.opened, ap opens r.list);
-        few = omega (arith, g.few, one_most (is_open b.form), r.next, r.eight, r.least);
+        opened = λ z. let q = still shut (is_open b.form) (sym e ∙ z) in omega (arith, g.opened q.0, ap opens r.list, q.1);
       }
-
-  pub going_fits : {xs : List ℕ} {o : Slot} → Lies xs o → ys ≡ slot_in xs o → length xs < 2 ^ 63 → endless < 2 ^ 63
-  going_fits {xs} {o} w y h = omega (arith, g.few, g.inside, ap length y ∙ length-take (o.to - o.from) (drop o.from xs), length-drop o.from xs)
 
   module _ (o : Over ys at) where
     pub going_tiled : length ys ≤ at → tiles ys ≡ true
     going_tiled h = is_eq_lem (length (after ys)) 0 (ap length (g.rest ∙ o.rest ∙ drop_of_length-le ys {i = at} h))
 
-    pub going_shut : {n : ℕ} → n ≡ ending_of endless → n ≡ 1 → opens (boxes ys) ≡ 0
-    unfolding opens ending_of
-    going_shut e q = eq_or endless 0 (λ z. omega (arith, g.opened, ap opens o.list)) (λ z. let w : 2 ≡ ending_of endless = eq_nay _ _ _ _ _ z refl in absurd (omega arith))
+    pub going_shut : shut ≡ true → opens (boxes ys) ≡ 0
+    unfolding opens
+    going_shut z = omega (arith, g.opened z, ap opens o.list)

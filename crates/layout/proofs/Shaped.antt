@@ -6,7 +6,7 @@ use mathlib.Core.Bool.{true}
 use mathlib.Core.List.{List, [], ◌∷◌}
 use Rattle.wire.specs.Tests.{if_eq}
 use Rattle.wire.specs.Clauses.{every, one_if}
-use Rattle.wire.proofs.Clauses.{is_eq_lem, is_le_lem, was_nay}
+use Rattle.wire.proofs.Clauses.{is_eq_lem, is_le_lem, eq_is, clause, was_nay}
 use Rattle.wire.proofs.Tests.{eq_any}
 use Rattle.codes.specs.Codes.{FTYP, MOOV, MVHD, TRAK, TKHD, MDIA, MDHD, HDLR, MINF, DINF, DREF, STBL, STSD, STTS, STSC, STSZ, STCO}
 use Rattle.boxes.specs.Box.{Box, is_open}
@@ -19,7 +19,7 @@ use Rattle.rule_shape.specs.Three.{needed, exactly, first, besides, shape}
 use Rattle.layout.specs.declared.gather.Slot.{Slot}
 use Rattle.layout.specs.declared.gather.Want.{Want}
 use Rattle.layout.specs.declared.gather.Five.{Five}
-use Rattle.layout.specs.Slots.{slot_in, Stands, opens, Gathered, Alone}
+use Rattle.layout.specs.Slots.{slot_in, Stands, opens, alone_of, Gathered}
 use Rattle.layout.specs.Track.{Has}
 
 -- ---- each kind by its counts
@@ -75,9 +75,9 @@ file_shut (x ∷ l) = file_shut l
 pub one_of : {xs : List ℕ} {o : Slot} {w : Want} {s : Slot} → Stands xs o w s → s.n ≡ 1 → count w.code (boxes (slot_in xs o)) ≡ 1
 one_of k e = sym k.counted ∙ e
 
-module _ {xs : List ℕ} {w : Slot} {a b c d e : Want} {g : Five} (k : Gathered xs w a b c d e g) {r : ℕ} (o : Alone r g) (z : r ≡ 0 → ⊥) where
+module _ {xs : List ℕ} {w : Slot} {a b c d e : Want} {g : Five} (k : Gathered xs w a b c d e g) (o : alone_of g ≡ true) where
   pub gathered_two : tiles (slot_in xs w) ≡ true
-  gathered_two = k.tiled (λ q. omega (arith, o.tiled z))
+  gathered_two = k.tiled (clause 0 _ o)
 
   -- the kind is shaped where each code has one box
   pub gathered_has : (i : ℕ) → (count a.code (boxes (slot_in xs w)) ≡ 1 → count b.code (boxes (slot_in xs w)) ≡ 1
@@ -86,7 +86,7 @@ module _ {xs : List ℕ} {w : Slot} {a b c d e : Want} {g : Five} (k : Gathered 
   gathered_has i f =
       record {
         two = gathered_two;
-        shut = none_open i (boxes (slot_in xs w)) (k.shut (o.tiled z));
-        three = f (one_of k.first (o.first z)) (one_of k.second (o.second z)) (one_of k.third (o.third z)) (one_of k.fourth (o.fourth z))
-            (one_of k.fifth (o.fifth z));
+        shut = none_open i (boxes (slot_in xs w)) (k.shut (clause 1 _ o));
+        three = f (one_of k.first (eq_is _ _ (clause 2 _ o))) (one_of k.second (eq_is _ _ (clause 3 _ o))) (one_of k.third (eq_is _ _ (clause 4 _ o)))
+            (one_of k.fourth (eq_is _ _ (clause 5 _ o))) (one_of k.fifth (eq_is _ _ (clause 6 _ o)));
       }

@@ -1,7 +1,7 @@
 -- What one walk over the boxes of a container finds: of each code how many boxes it has, and where in the file the payload of one of them stands.
-use Rattle.std.specs.Prelude.{ℕ, ◌+◌, ◌-◌, ◌≤◌, ◌<◌, ◌≡◌, true, List, [], ◌∷◌, length, take, drop}
-use Rattle.wire.specs.Tests.{if_eq}
-use Rattle.wire.specs.Clauses.{one_if}
+use Rattle.std.specs.Prelude.{ℕ, ◌+◌, ◌-◌, ◌≤◌, ◌<◌, ◌≡◌, Bool, true, false, not, List, [], ◌∷◌, length, take, drop}
+use Rattle.wire.specs.Tests.{pick, if_eq}
+use Rattle.wire.specs.Clauses.{is_eq, every, one_if}
 use Rattle.boxes.specs.declared.walk.BoxAt.{BoxAt}
 use Rattle.boxes.specs.Box.{Box, is_open}
 use Rattle.boxes.specs.Boxes.{boxes, tiles}
@@ -45,30 +45,20 @@ unfoldable pub opens : List Box → ℕ
 opens [] = 0
 opens (x ∷ l) = one_if (is_open x.form) + opens l
 
--- how a container ends that boxes tile, n of them open
-unfoldable pub ending_of : ℕ → ℕ
-ending_of n = if_eq n 0 1 2
+-- whether none is, past one more box
+abbrev pub shut_past : Bool → BoxAt → Bool
+shut_past s b = pick s (not (is_open b.form)) false
 
--- of five wanted boxes; the container ends as 1 only where none is open
+-- of five wanted boxes; the container is shut only where none is open
 pub record Gathered (xs : List ℕ) (o : Slot) (a b c d e : Want) (g : Five) : Type 0 where
   pub first : Stands xs o a g.a
   pub second : Stands xs o b g.b
   pub third : Stands xs o c g.c
   pub fourth : Stands xs o d g.d
   pub fifth : Stands xs o e g.e
-  pub tiled : (g.tiled ≡ 0 → ⊥) → tiles (slot_in xs o) ≡ true
-  pub shut : g.tiled ≡ 1 → opens (boxes (slot_in xs o)) ≡ 0
+  pub tiled : g.tiled ≡ true → tiles (slot_in xs o) ≡ true
+  pub shut : g.shut ≡ true → opens (boxes (slot_in xs o)) ≡ 0
 
--- an answer other than 0 says that boxes tile the container and none is open, and that each of five codes has one box
-pub record Alone (r : ℕ) (g : Five) : Type 0 where
-  pub tiled : (r ≡ 0 → ⊥) → g.tiled ≡ 1
-  pub first : (r ≡ 0 → ⊥) → g.a.n ≡ 1
-  pub second : (r ≡ 0 → ⊥) → g.b.n ≡ 1
-  pub third : (r ≡ 0 → ⊥) → g.c.n ≡ 1
-  pub fourth : (r ≡ 0 → ⊥) → g.d.n ≡ 1
-  pub fifth : (r ≡ 0 → ⊥) → g.e.n ≡ 1
-
--- an answer that is not 0 where neither of two is
-pub record Both (r s t : ℕ) : Type 0 where
-  pub first : (t ≡ 0 → ⊥) → r ≡ 0 → ⊥
-  pub second : (t ≡ 0 → ⊥) → s ≡ 0 → ⊥
+-- boxes tile the container and none is open, and each of five codes has one box
+abbrev pub alone_of : Five → Bool
+alone_of g = every (g.tiled ∷ g.shut ∷ is_eq g.a.n 1 ∷ is_eq g.b.n 1 ∷ is_eq g.c.n 1 ∷ is_eq g.d.n 1 ∷ is_eq g.e.n 1 ∷ [])

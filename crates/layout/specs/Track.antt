@@ -1,5 +1,5 @@
 -- Where the boxes of a track stand, and that they are those of rules 2 and 3.
-use Rattle.std.specs.Prelude.{ℕ, ◌+◌, ◌<◌, ◌≡◌, true, List, length}
+use Rattle.std.specs.Prelude.{ℕ, ◌+◌, ◌<◌, ◌≡◌, true, List, length, Option, Some, None}
 use Rattle.codes.specs.Codes.{TRAK, TKHD, MDIA, MDHD, HDLR, MINF, DINF, STBL, STSD, STTS, STSC, STSZ, STCO}
 use Rattle.boxes.specs.Boxes.{boxes, tiles}
 use Rattle.boxes.specs.Seek.{find}
@@ -32,7 +32,6 @@ pub record Shaped (b : List ℕ) : Type 0 where
   pub stbl : Has STBL (find STBL (minf_of b))
 
 pub record Laid (xs b : List ℕ) (t : Track) : Type 0 where
-  pub shaped : (t.shaped ≡ 0 → ⊥) → Shaped b
   pub tkhd : At xs (find TKHD (boxes b)) t.tkhd
   pub mdhd : At xs (find MDHD (mdia_of b)) t.mdhd
   pub hdlr : At xs (find HDLR (mdia_of b)) t.hdlr
@@ -46,3 +45,8 @@ pub record Laid (xs b : List ℕ) (t : Track) : Type 0 where
 -- and where its `stsd` starts in the file, of the track that is the slot o
 pub record StsdPlaced (xs : List ℕ) (o : Slot) (t : Track) : Type 0 where
   pub place : 0 < length (follow to_stsd (slot_in xs o)) → t.stsd.from ≡ o.from + start_along to_stsd (slot_in xs o)
+
+-- as a walk over plain boxes says it: all is as rules 2 and 3 want it, or it says nothing
+abbrev pub LaidAs : List ℕ → Slot → Option Track → Type 0
+LaidAs xs o (Some t) = Shaped (slot_in xs o) × Laid xs (slot_in xs o) t × StsdPlaced xs o t
+LaidAs xs o None = Unit {0}

@@ -14,7 +14,7 @@ use boxes::{seek, walk};
 use movie::entry::EntryAt;
 
 // How many tracks there are, and of the first four what stands past the front of their `stsd`s, with the count of entries in it.
-#[derive(Clone, Copy)]
+#[derive(Clone, Copy, Debug, PartialEq, Eq)]
 pub struct Lists {
     pub tracks: usize,
     pub one: Slot,
@@ -60,19 +60,16 @@ pub fn lay(file: &[u8], e: Tracks) -> Lists
 }
 
 // The one of track t.
+#[tactic(auto, unfolding(crate::specs::Entries::list_slot, wire::specs::Tests::if_eq))]
 pub fn list_slot(l: Lists, t: usize) -> Slot
     ensures { result ≡ list_slot l t }
 {
-    if t == 0 {
-        return l.one;
+    match t {
+        0 => l.one,
+        1 => l.two,
+        2 => l.three,
+        _ => l.four,
     }
-    if t == 1 {
-        return l.two;
-    }
-    if t == 2 {
-        return l.three;
-    }
-    l.four
 }
 
 // Entry n of the list of track t, both from 0.
@@ -96,16 +93,13 @@ pub fn entry(file: &[u8], l: Lists, i: usize) -> Option<EntryAt>
     requires { ListsAt file.now l × (tracks_of file.now ≤ 4) × (length file.now ≤ LONGEST) }
     ensures { NamedAs file.now i result }
 {
-    let n = l.tracks;
-    let mut t = 0;
     let mut left = i;
-    while t < n {
+    for t in 0..l.tracks {
         let s = list_slot(l, t);
         if left < s.n {
             return entry_in(file, s, t, left);
         }
         left -= s.n;
-        t += 1;
     }
     None
 }
@@ -115,12 +109,9 @@ pub fn count(file: &[u8], l: Lists) -> usize
     requires { ListsAt file.now l × (tracks_of file.now ≤ 4) × (length file.now ≤ LONGEST) }
     ensures { (result ≡ length (entries_of_file file.now)) × (result ≤ 4 * LONGEST) }
 {
-    let n = l.tracks;
-    let mut t = 0;
     let mut sum = 0;
-    while t < n {
+    for t in 0..l.tracks {
         sum += list_slot(l, t).n;
-        t += 1;
     }
     sum
 }

@@ -10,7 +10,7 @@ use crate::{gather, track, tracks};
 use wire::number;
 
 // A track's handler, time scale and length in movie ticks, and the payloads of its `stsd` and `stts`.
-#[derive(Clone, Copy)]
+#[derive(Clone, Copy, Debug, PartialEq, Eq)]
 pub struct ReadTrack {
     pub handler: usize,
     pub scale: usize,
@@ -20,7 +20,7 @@ pub struct ReadTrack {
 }
 
 // How many tracks there are, and the first four; one that isn't there has no boxes.
-#[derive(Clone, Copy)]
+#[derive(Clone, Copy, Debug, PartialEq, Eq)]
 pub struct Tracks {
     pub count: usize,
     pub one: ReadTrack,
@@ -93,19 +93,16 @@ pub fn lay(file: &[u8]) -> Tracks
 }
 
 // The one of a number, of four.
+#[tactic(auto, unfolding(crate::specs::Every::track_of, wire::specs::Tests::if_eq))]
 pub fn track(e: Tracks, t: usize) -> ReadTrack
     ensures { result ≡ track_of e t }
 {
-    if t == 0 {
-        return e.one;
+    match t {
+        0 => e.one,
+        1 => e.two,
+        2 => e.three,
+        _ => e.four,
     }
-    if t == 1 {
-        return e.two;
-    }
-    if t == 2 {
-        return e.three;
-    }
-    e.four
 }
 
 // So many, without boxes.

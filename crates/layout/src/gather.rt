@@ -1,14 +1,14 @@
 // What a walk over the boxes of a container fills, and one over boxes of any form.
+#![tactic(auto, unfolding(crate::specs::Slots::note_of, wire::specs::Clauses::every, wire::specs::Clauses::is_eq, wire::specs::Tests::if_eq))]
+
 ghost use Rattle.std.specs.Prelude.{◌≡◌, ◌+◌, ◌^◌, ◌≤◌, ◌<◌, length};
-ghost use Rattle.wire.specs.Clauses.{one_if};
-ghost use Rattle.boxes.specs.Box.{is_open};
-ghost use Rattle.layout.specs.Slots.{ending_of, slot_in, nowhere, first_with, note_of, Lies, Gathered, Alone, Both};
+ghost use Rattle.layout.specs.Slots.{slot_in, nowhere, first_with, note_of, shut_past, alone_of, Lies, Gathered};
 
 use boxes::walk;
 use boxes::walk::{BoxAt, Step, Walk};
 
 // How many boxes have a code, and where in the file the payload of one of them stands.
-#[derive(Clone, Copy)]
+#[derive(Clone, Copy, Debug, PartialEq, Eq)]
 pub struct Slot {
     pub n: usize,
     pub from: usize,
@@ -16,21 +16,22 @@ pub struct Slot {
 }
 
 // A box by its code and its number, from 0.
-#[derive(Clone, Copy)]
+#[derive(Clone, Copy, Debug, PartialEq, Eq)]
 pub struct Want {
     pub code: usize,
     pub nth: usize,
 }
 
-// What there is of five, and how the container ends: boxes don't tile it, 0; they do, 1; and one of them is open, 2.
-#[derive(Clone, Copy)]
+// What there is of five, whether boxes tile the container, and whether they do and none of them is open.
+#[derive(Clone, Copy, Debug, PartialEq, Eq)]
 pub struct Five {
     pub a: Slot,
     pub b: Slot,
     pub c: Slot,
     pub d: Slot,
     pub e: Slot,
-    pub tiled: usize,
+    pub tiled: bool,
+    pub shut: bool,
 }
 
 // Nothing, which stands nowhere.
@@ -83,23 +84,11 @@ pub fn note(s: Slot, want: Want, b: BoxAt, base: usize) -> Slot
     }
 }
 
-// How many boxes are open, with one box more.
-pub fn opened(endless: usize, b: BoxAt) -> usize
-    requires { endless < 2 ^ 63 }
-    ensures { result ≡ endless + one_if (is_open b.form) }
+// Whether no box is open, with one box more.
+fn shut_past(shut: bool, b: BoxAt) -> bool
+    ensures { result ≡ shut_past shut b }
 {
-    let form = b.form;
-    endless + walk::is_open(form)
-}
-
-// How a container ends that boxes tile, of which so many are open.
-pub fn ending(endless: usize) -> usize
-    ensures { result ≡ ending_of endless }
-{
-    if endless == 0 {
-        return 1;
-    }
-    2
+    shut && !walk::is_open(b.form)
 }
 
 // What a container, which is a slot of the file, has of five wanted boxes.
@@ -114,7 +103,7 @@ pub fn wanted(file: &[u8], whole: Slot, a: Want, b: Want, c: Want, d: Want, e: W
     let mut k = none;
     let mut l = none;
     let mut m = none;
-    let mut endless = 0;
+    let mut shut = true;
     let mut w = Walk { at: 0 };
     loop {
         match w.step(part) {
@@ -124,7 +113,7 @@ pub fn wanted(file: &[u8], whole: Slot, a: Want, b: Want, c: Want, d: Want, e: W
                 k = note(k, c, x, whole.from);
                 l = note(l, d, x, whole.from);
                 m = note(m, e, x, whole.from);
-                endless = opened(endless, x);
+                shut = shut_past(shut, x);
                 w = next;
             }
             Step::End => {
@@ -134,7 +123,8 @@ pub fn wanted(file: &[u8], whole: Slot, a: Want, b: Want, c: Want, d: Want, e: W
                     c: k,
                     d: l,
                     e: m,
-                    tiled: ending(endless),
+                    tiled: true,
+                    shut,
                 };
             }
             Step::Broken(_) => {
@@ -144,44 +134,17 @@ pub fn wanted(file: &[u8], whole: Slot, a: Want, b: Want, c: Want, d: Want, e: W
                     c: k,
                     d: l,
                     e: m,
-                    tiled: 0,
+                    tiled: false,
+                    shut: false,
                 };
             }
         }
     }
 }
 
-// Whether boxes tile the container and none is open, and each of five codes has one box: 1 or 0.
-pub fn alone(g: Five) -> usize
-    ensures { Alone result g }
+// Whether boxes tile the container and none is open, and each of five codes has one box.
+pub fn alone(g: Five) -> bool
+    ensures { result ≡ alone_of g }
 {
-    if g.tiled != 1 {
-        return 0;
-    }
-    if g.a.n != 1 {
-        return 0;
-    }
-    if g.b.n != 1 {
-        return 0;
-    }
-    if g.c.n != 1 {
-        return 0;
-    }
-    if g.d.n != 1 {
-        return 0;
-    }
-    if g.e.n != 1 {
-        return 0;
-    }
-    1
-}
-
-// An answer that is not 0 where neither of two is.
-pub fn both(r: usize, s: usize) -> usize
-    ensures { Both r s result }
-{
-    if r == 0 {
-        return 0;
-    }
-    s
+    g.tiled && g.shut && g.a.n == 1 && g.b.n == 1 && g.c.n == 1 && g.d.n == 1 && g.e.n == 1
 }

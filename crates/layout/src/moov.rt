@@ -1,5 +1,5 @@
 // One walk over the plain boxes of a `moov`, for its first four tracks.
-ghost use Rattle.std.specs.Prelude.{◌≡◌, ◌+◌, ◌^◌, ◌≤◌, ◌<◌};
+ghost use Rattle.std.specs.Prelude.{◌≡◌, true, ◌+◌, ◌^◌, ◌≤◌, ◌<◌};
 ghost use Rattle.wire.specs.Tests.{if_eq};
 ghost use Rattle.layout.specs.Slots.{first_with, Lies, Gathered};
 ghost use Rattle.layout.specs.Tracks.{wanted, slot_with, five_of, Further};
@@ -9,14 +9,14 @@ use crate::gather::{Five, Slot, Want};
 use boxes::walk::{BoxAt, Step, Walk};
 
 // Where the payload of a box starts and ends in the file.
-#[derive(Clone, Copy)]
+#[derive(Clone, Copy, Debug, PartialEq, Eq)]
 pub struct Ends {
     pub from: usize,
     pub to: usize,
 }
 
 // How many tracks there are, and where the first four of them stand.
-#[derive(Clone, Copy)]
+#[derive(Clone, Copy, Debug, PartialEq, Eq)]
 pub struct Four {
     pub n: usize,
     pub one: Ends,
@@ -71,7 +71,7 @@ fn more(f: Four, b: BoxAt, base: usize) -> Four
 }
 
 // What was found of a code and of tracks.
-fn found(i: Slot, f: Four, tiled: usize) -> Five
+fn found(i: Slot, f: Four, tiled: bool) -> Five
     ensures { result ≡ five_of i f tiled }
 {
     let n = f.n;
@@ -98,13 +98,14 @@ fn found(i: Slot, f: Four, tiled: usize) -> Five
             to: f.four.to,
         },
         tiled,
+        shut: tiled,
     }
 }
 
 // The first box of a code in a `moov`, and its first four tracks, which have one count.
 pub fn with_tracks(file: &[u8], moov: Slot, code: usize) -> Five
     requires { Lies file.now moov × (0 < code) }
-    ensures { (result.tiled ≡ 0 → ⊥) → Gathered file.now moov (first_with code) (wanted 0) (wanted 1) (wanted 2) (wanted 3) result }
+    ensures { result.tiled ≡ true → Gathered file.now moov (first_with code) (wanted 0) (wanted 1) (wanted 2) (wanted 3) result }
 {
     let part = gather::bytes(file, moov);
     let nowhere = Ends { from: 0, to: 0 };
@@ -125,10 +126,10 @@ pub fn with_tracks(file: &[u8], moov: Slot, code: usize) -> Five
                 w = next;
             }
             Step::End => {
-                return found(i, f, 1);
+                return found(i, f, true);
             }
             Step::Broken(_) => {
-                return found(i, f, 0);
+                return found(i, f, false);
             }
         }
     }

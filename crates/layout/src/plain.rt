@@ -1,6 +1,6 @@
 // One walk over the plain boxes of a container, for the first box of one code, two, three or five: the fewer slots, the less time.
 // Where a box of another form stands it says nothing. The slots past the codes are the last one again.
-ghost use Rattle.std.specs.Prelude.{◌≡◌, ◌<◌};
+ghost use Rattle.std.specs.Prelude.{◌≡◌, true, ◌<◌};
 ghost use Rattle.layout.specs.Slots.{first_with, Lies, Gathered};
 
 use crate::gather;
@@ -9,7 +9,7 @@ use boxes::walk::{Step, Walk};
 
 pub fn one(file: &[u8], whole: Slot, a: usize) -> Five
     requires { Lies file.now whole × (0 < a) }
-    ensures { (result.tiled ≡ 0 → ⊥) → Gathered file.now whole (first_with a) (first_with a) (first_with a) (first_with a) (first_with a) result }
+    ensures { result.tiled ≡ true → Gathered file.now whole (first_with a) (first_with a) (first_with a) (first_with a) (first_with a) result }
 {
     let part = gather::bytes(file, whole);
     let none = gather::none();
@@ -28,7 +28,8 @@ pub fn one(file: &[u8], whole: Slot, a: usize) -> Five
                     c: i,
                     d: i,
                     e: i,
-                    tiled: 1,
+                    tiled: true,
+                    shut: true,
                 };
             }
             Step::Broken(_) => {
@@ -38,7 +39,8 @@ pub fn one(file: &[u8], whole: Slot, a: usize) -> Five
                     c: i,
                     d: i,
                     e: i,
-                    tiled: 0,
+                    tiled: false,
+                    shut: false,
                 };
             }
         }
@@ -47,7 +49,7 @@ pub fn one(file: &[u8], whole: Slot, a: usize) -> Five
 
 pub fn two(file: &[u8], whole: Slot, a: usize, b: usize) -> Five
     requires { Lies file.now whole × (0 < a) × (0 < b) }
-    ensures { (result.tiled ≡ 0 → ⊥) → Gathered file.now whole (first_with a) (first_with b) (first_with b) (first_with b) (first_with b) result }
+    ensures { result.tiled ≡ true → Gathered file.now whole (first_with a) (first_with b) (first_with b) (first_with b) (first_with b) result }
 {
     let part = gather::bytes(file, whole);
     let none = gather::none();
@@ -68,7 +70,8 @@ pub fn two(file: &[u8], whole: Slot, a: usize, b: usize) -> Five
                     c: j,
                     d: j,
                     e: j,
-                    tiled: 1,
+                    tiled: true,
+                    shut: true,
                 };
             }
             Step::Broken(_) => {
@@ -78,7 +81,8 @@ pub fn two(file: &[u8], whole: Slot, a: usize, b: usize) -> Five
                     c: j,
                     d: j,
                     e: j,
-                    tiled: 0,
+                    tiled: false,
+                    shut: false,
                 };
             }
         }
@@ -87,7 +91,7 @@ pub fn two(file: &[u8], whole: Slot, a: usize, b: usize) -> Five
 
 pub fn three(file: &[u8], whole: Slot, a: usize, b: usize, c: usize) -> Five
     requires { Lies file.now whole × (0 < a) × (0 < b) × (0 < c) }
-    ensures { (result.tiled ≡ 0 → ⊥) → Gathered file.now whole (first_with a) (first_with b) (first_with c) (first_with c) (first_with c) result }
+    ensures { result.tiled ≡ true → Gathered file.now whole (first_with a) (first_with b) (first_with c) (first_with c) (first_with c) result }
 {
     let part = gather::bytes(file, whole);
     let none = gather::none();
@@ -110,7 +114,8 @@ pub fn three(file: &[u8], whole: Slot, a: usize, b: usize, c: usize) -> Five
                     c: k,
                     d: k,
                     e: k,
-                    tiled: 1,
+                    tiled: true,
+                    shut: true,
                 };
             }
             Step::Broken(_) => {
@@ -120,7 +125,8 @@ pub fn three(file: &[u8], whole: Slot, a: usize, b: usize, c: usize) -> Five
                     c: k,
                     d: k,
                     e: k,
-                    tiled: 0,
+                    tiled: false,
+                    shut: false,
                 };
             }
         }
@@ -129,7 +135,7 @@ pub fn three(file: &[u8], whole: Slot, a: usize, b: usize, c: usize) -> Five
 
 pub fn five(file: &[u8], whole: Slot, a: usize, b: usize, c: usize, d: usize, e: usize) -> Five
     requires { Lies file.now whole × (0 < a) × (0 < b) × (0 < c) × (0 < d) × (0 < e) }
-    ensures { (result.tiled ≡ 0 → ⊥) → Gathered file.now whole (first_with a) (first_with b) (first_with c) (first_with d) (first_with e) result }
+    ensures { result.tiled ≡ true → Gathered file.now whole (first_with a) (first_with b) (first_with c) (first_with d) (first_with e) result }
 {
     let part = gather::bytes(file, whole);
     let none = gather::none();
@@ -156,7 +162,8 @@ pub fn five(file: &[u8], whole: Slot, a: usize, b: usize, c: usize, d: usize, e:
                     c: k,
                     d: l,
                     e: m,
-                    tiled: 1,
+                    tiled: true,
+                    shut: true,
                 };
             }
             Step::Broken(_) => {
@@ -166,7 +173,8 @@ pub fn five(file: &[u8], whole: Slot, a: usize, b: usize, c: usize, d: usize, e:
                     c: k,
                     d: l,
                     e: m,
-                    tiled: 0,
+                    tiled: false,
+                    shut: false,
                 };
             }
         }

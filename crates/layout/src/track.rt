@@ -1,15 +1,14 @@
 // Where the boxes of a track stand, by one walk over each of its containers.
-ghost use Rattle.std.specs.Prelude.{◌≡◌, ◌<◌};
+ghost use Rattle.std.specs.Prelude.{◌<◌};
 ghost use Rattle.layout.specs.Slots.{slot_in, first_with, Lies, Stands};
-ghost use Rattle.layout.specs.Track.{Laid, StsdPlaced};
+ghost use Rattle.layout.specs.Track.{Laid, LaidAs, StsdPlaced};
 
 use crate::gather::Slot;
 use crate::{gather, plain};
 
-// The boxes that rule 3 names; and 1 where each stands there alone, and plain boxes tile each container, else 0.
-#[derive(Clone, Copy)]
+// The boxes that rule 3 names.
+#[derive(Clone, Copy, Debug, PartialEq, Eq)]
 pub struct Track {
-    pub shaped: usize,
     pub tkhd: Slot,
     pub mdhd: Slot,
     pub hdlr: Slot,
@@ -21,41 +20,22 @@ pub struct Track {
     pub stco: Slot,
 }
 
-// A track of which nothing is said.
-fn unlaid() -> Track
-    ensures { result.shaped ≡ 0 }
-{
-    let none = gather::none();
-    Track {
-        shaped: 0,
-        tkhd: none,
-        mdhd: none,
-        hdlr: none,
-        dref: none,
-        stsd: none,
-        stts: none,
-        stsc: none,
-        stsz: none,
-        stco: none,
-    }
-}
-
 // Those of the track whose payload is a slot of the file, where all is as rules 2 and 3 want it and plain.
-pub fn lay(file: &[u8], trak: Slot) -> Track
+pub fn lay(file: &[u8], trak: Slot) -> Option<Track>
     requires { Lies file.now trak }
-    ensures { (result.shaped ≡ 0 → ⊥) → Laid file.now (slot_in file.now trak) result × StsdPlaced file.now trak result }
+    ensures { LaidAs file.now trak result }
 {
     let t = plain::two(file, trak, codes::TKHD, codes::MDIA);
-    if gather::alone(t) == 0 {
-        return unlaid();
+    if !gather::alone(t) {
+        return None;
     }
     let m = plain::three(file, t.b, codes::MDHD, codes::HDLR, codes::MINF);
-    if gather::alone(m) == 0 {
-        return unlaid();
+    if !gather::alone(m) {
+        return None;
     }
     let i = plain::two(file, m.c, codes::DINF, codes::STBL);
-    if gather::alone(i) == 0 {
-        return unlaid();
+    if !gather::alone(i) {
+        return None;
     }
     let s = plain::five(
         file,
@@ -66,10 +46,13 @@ pub fn lay(file: &[u8], trak: Slot) -> Track
         codes::STSZ,
         codes::STCO,
     );
-    if gather::alone(s) == 0 {
-        return unlaid();
+    if !gather::alone(s) {
+        return None;
     }
     let d = plain::one(file, i.a, codes::DREF);
+    if !gather::alone(d) {
+        return None;
+    }
     let tkhd = t.a;
     let mdhd = m.a;
     let hdlr = m.b;
@@ -79,8 +62,7 @@ pub fn lay(file: &[u8], trak: Slot) -> Track
     let stsc = s.c;
     let stsz = s.d;
     let stco = s.e;
-    Track {
-        shaped: gather::alone(d),
+    Some(Track {
         tkhd,
         mdhd,
         hdlr,
@@ -90,7 +72,7 @@ pub fn lay(file: &[u8], trak: Slot) -> Track
         stsc,
         stsz,
         stco,
-    }
+    })
 }
 
 // What a container has of a code, and the first box of it, among boxes of any form.
@@ -113,7 +95,6 @@ fn any(file: &[u8], trak: Slot) -> Track
     let dinf = first(file, minf, codes::DINF);
     let stbl = first(file, minf, codes::STBL);
     Track {
-        shaped: 0,
         tkhd: first(file, trak, codes::TKHD),
         mdhd: first(file, mdia, codes::MDHD),
         hdlr: first(file, mdia, codes::HDLR),
@@ -131,9 +112,8 @@ pub fn found(file: &[u8], trak: Slot) -> Track
     requires { Lies file.now trak }
     ensures { Laid file.now (slot_in file.now trak) result × StsdPlaced file.now trak result }
 {
-    let t = lay(file, trak);
-    if t.shaped != 0 {
-        return t;
+    match lay(file, trak) {
+        Some(t) => t,
+        None => any(file, trak),
     }
-    any(file, trak)
 }

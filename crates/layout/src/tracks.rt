@@ -1,19 +1,17 @@
 // Where the tracks of a file stand, by one walk over its boxes and one over those of `moov`.
+#![tactic(auto, unfolding(crate::specs::Tracks::track_slot, wire::specs::Clauses::every, wire::specs::Clauses::is_eq, wire::specs::Clauses::is_le, wire::specs::Tests::if_eq))]
+
 ghost use Rattle.std.specs.Prelude.{◌≡◌};
-ghost use Rattle.wire.specs.Clauses.{is_eq, one_if};
-ghost use Rattle.codes.specs.Codes.{FTYP};
-ghost use Rattle.boxes.specs.Boxes.{boxes};
-ghost use Rattle.rule_shape.specs.Three.{first};
 ghost use Rattle.layout.specs.Slots.{Lies};
-ghost use Rattle.layout.specs.Tracks.{whole_of, wanted, track_slot, Paired, Peopled, LaidOut, Spread};
+ghost use Rattle.layout.specs.Tracks.{whole_of, wanted, track_slot, framed_by, LaidOut, LaidOutAs, Spread};
 
 use crate::gather::{Five, Slot, Want};
 use crate::{gather, moov, plain};
 
-// The boxes that rule 3 names, the first `mdat`, the first four tracks, how many there are, and whether all is as rules 2 and 3 want it: 1, or another number.
-#[derive(Clone, Copy)]
+// The boxes that rule 3 names, the first `mdat`, the first four tracks, how many there are, and whether all is as rules 2 and 3 want it.
+#[derive(Clone, Copy, Debug, PartialEq, Eq)]
 pub struct Movie {
-    pub shaped: usize,
+    pub shaped: bool,
     pub tracks: usize,
     pub ftyp: Slot,
     pub moov: Slot,
@@ -36,85 +34,36 @@ pub fn whole(file: &[u8]) -> Slot
     }
 }
 
-// Whether boxes tile a `moov` and none is open, and it has one `mvhd` and 1 to 4 tracks: 1 or 0.
-fn peopled(m: Five) -> usize
-    ensures { Peopled result m }
+// Whether boxes tile a file, and it has one `ftyp`, which is first, and one `moov`; and whether they tile that, none is open, and it has one `mvhd` and 1 to 4 tracks.
+fn framed(file: &[u8], f: Five, m: Five) -> bool
+    ensures { result ≡ framed_by file.now f m }
 {
-    if m.tiled != 1 {
-        return 0;
-    }
-    if m.a.n != 1 {
-        return 0;
-    }
-    if m.b.n < 1 {
-        return 0;
-    }
-    if 4 < m.b.n {
-        return 0;
-    }
-    1
+    f.tiled
+        && f.a.n == 1
+        && f.b.n == 1
+        && m.tiled
+        && m.shut
+        && m.a.n == 1
+        && m.b.n >= 1
+        && m.b.n <= 4
+        && rule_shape::first_code(file) == codes::FTYP
 }
 
-// Whether boxes tile a file, and it has one `ftyp` and one `moov`: 1 or 0.
-fn paired(f: Five) -> usize
-    ensures { Paired result f }
-{
-    if f.tiled == 0 {
-        return 0;
-    }
-    if f.a.n != 1 {
-        return 0;
-    }
-    if f.b.n != 1 {
-        return 0;
-    }
-    1
-}
-
-// Whether a file starts with `ftyp`: 1 or 0.
-fn led(file: &[u8]) -> usize
-    ensures { result ≡ one_if (is_eq (first (boxes file.now)) FTYP) }
-{
-    if rule_shape::first_code(file) != codes::FTYP {
-        return 0;
-    }
-    1
-}
-
-// A file of which nothing is said; with 2 others may say more.
-fn unlaid(shaped: usize) -> Movie
-    ensures { result.shaped ≡ shaped }
-{
-    let none = gather::none();
-    Movie {
-        shaped,
-        tracks: 0,
-        ftyp: none,
-        moov: none,
-        mdat: none,
-        mvhd: none,
-        one: none,
-        two: none,
-        three: none,
-        four: none,
-    }
-}
-
-// Those of a file where all is as rules 2 and 3 want it and plain. 2 says that a walk stopped at a box that isn't.
-pub fn lay(file: &[u8]) -> Movie
-    ensures { result.shaped ≡ 1 → LaidOut file.now result × Spread file.now result }
+// Those of a file where all is as rules 2 and 3 want it and plain.
+pub fn lay(file: &[u8]) -> Option<Movie>
+    ensures { LaidOutAs file.now result }
 {
     let f = plain::three(file, whole(file), codes::FTYP, codes::MOOV, codes::MDAT);
-    if f.tiled == 0 {
-        return unlaid(2);
-    }
-    if paired(f) == 0 {
-        return unlaid(0);
+    if !f.tiled {
+        return None;
     }
     let moov = f.b;
     let m = moov::with_tracks(file, moov, codes::MVHD);
-    if m.tiled == 0 {
-        return unlaid(2);
+    if !m.tiled {
+        return None;
+    }
+    if !framed(file, f, m) {
+        return None;
     }
     let ftyp = f.a;
     let mdat = f.c;
@@ -123,8 +72,8 @@ pub fn lay(file: &[u8]) -> Movie
     let two = m.c;
     let three = m.d;
     let four = m.e;
-    Movie {
-        shaped: gather::both(led(file), peopled(m)),
+    Some(Movie {
+        shaped: true,
         tracks: m.b.n,
         ftyp,
         moov,
@@ -134,7 +83,7 @@ pub fn lay(file: &[u8]) -> Movie
         two,
         three,
         four,
-    }
+    })
 }
 
 // Track i of a `moov`, from 0.
@@ -178,9 +127,8 @@ pub fn any(file: &[u8]) -> Movie
     let two = m.c;
     let three = m.d;
     let four = m.e;
-    let upper = gather::both(led(file), paired(f));
     Movie {
-        shaped: gather::both(upper, peopled(m)),
+        shaped: framed(file, f, m),
         tracks: m.b.n,
         ftyp,
         moov,
@@ -197,25 +145,20 @@ pub fn any(file: &[u8]) -> Movie
 pub fn found(file: &[u8]) -> Movie
     ensures { LaidOut file.now result × Spread file.now result }
 {
-    let m = lay(file);
-    if m.shaped == 1 {
-        return m;
+    match lay(file) {
+        Some(m) => m,
+        None => any(file),
     }
-    any(file)
 }
 
 // The slot of track i, from 0.
 pub fn track_slot(m: Movie, i: usize) -> Slot
     ensures { result ≡ track_slot m i }
 {
-    if i == 0 {
-        return m.one;
+    match i {
+        0 => m.one,
+        1 => m.two,
+        2 => m.three,
+        _ => m.four,
     }
-    if i == 1 {
-        return m.two;
-    }
-    if i == 2 {
-        return m.three;
-    }
-    m.four
 }

@@ -73,7 +73,7 @@ pub fn put_list(
         match w.step(part) {
             Step::Found(b, next) => {
                 let form = b.form;
-                if rule_shape::may_have(k, form) == 0 {
+                if !rule_shape::may_have(k, form) {
                     return line::put_broken(out, at, place + b.at);
                 }
                 at = put_box(out, at, part, b, k, place, depth);

@@ -2,8 +2,9 @@
 use Prim.Native.Nat.{ℕ, zero, suc}
 use native.Mathlib.Omega.{arith}
 use mathlib.Core.Path.{◌≡◌, refl}
-use mathlib.Core.Bool.{Bool, true}
+use mathlib.Core.Bool.{Bool, true, false}
 use mathlib.Core.List.{List}
+use Rattle.std.proofs.lemmas.Bool.{false≢true}
 use Rattle.wire.proofs.Tests.{both}
 use Rattle.boxes.specs.Boxes.{after}
 use Rattle.boxes.specs.Containers.{kind_in}
@@ -51,8 +52,8 @@ module _ (r s : Rule) where
       })
 
 -- an answer of 0 says nothing
-pub sure_none : (t : Bool) → Sure 0 t
-sure_none t = record { holds = λ n. absurd (n refl) }
+pub sure_none : (t : Bool) → Sure false t
+sure_none t = record { holds = λ n. absurd (false≢true n) }
 
 -- and one of 2 neither
 pub sure_before_none : (xs : List ℕ) → SureBefore xs 2

@@ -1,12 +1,12 @@
 -- What the answers of the tests of a track say. Assumes nothing.
 use Prim.Native.Nat.{ℕ, ◌≤◌}
 use native.Mathlib.Omega.{arith}
-use mathlib.Core.Path.{◌≡◌, sym, ap, ◌∙◌}
+use mathlib.Core.Path.{◌≡◌, refl, ap, ◌∙◌}
 use mathlib.Core.Bool.{Bool, true}
 use mathlib.Core.List.{List}
 use lib.ListN.{drop}
-use Rattle.wire.specs.Clauses.{one_if}
-use Rattle.wire.proofs.Clauses.{yea, nay, clause}
+use Rattle.std.specs.Result.{is_ok}
+use Rattle.wire.proofs.Clauses.{clause}
 use Rattle.boxes.specs.Boxes.{FRONT, boxes}
 use Rattle.layout.specs.declared.track.Track.{Track}
 use Rattle.layout.specs.Slots.{slot_in}
@@ -20,12 +20,12 @@ use Rattle.rule_entries.specs.Ten.{entries_fine}
 use Rattle.rule_all.specs.Track.{heads_fine, lists_fine, forms_fine, tables_fine, around_in, AllFine}
 
 -- a verdict with a place, as a test
-module _ (t : Bool) {v w : Verdict} (e : v ≡ w) (q : is_fine w ≡ t) where
-  pub fine_yea : v ≡ Fine → 1 ≡ one_if t
-  fine_yea f = yea t (ap is_fine (sym f ∙ e) ∙ q)
+pub fine_ok : (v : Verdict) → is_ok v ≡ is_fine v
+fine_ok Fine = refl
+fine_ok (Bad p) = refl
 
-  pub bad_nay : (p : ℕ) → v ≡ Bad p → 0 ≡ one_if t
-  bad_nay p f = nay t (ap is_fine (sym f ∙ e) ∙ q)
+pub fine_is : (t : Bool) {v w : Verdict} → v ≡ w → is_fine w ≡ t → {r : Bool} → r ≡ is_ok v → r ≡ t
+fine_is t {w = w} e q f = f ∙ ap is_ok e ∙ fine_ok w ∙ q
 
 -- rule 6 of the four tables, as facts
 pub tables_six : (xs : List ℕ) (t : Track) → forms_fine xs t ≡ true → Six (slot_in xs t.stts) (slot_in xs t.stsc) (slot_in xs t.stsz) (slot_in xs t.stco)

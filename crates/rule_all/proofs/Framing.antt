@@ -19,13 +19,13 @@ use Rattle.rule_all.specs.Tracks.{Tracked}
 use Rattle.rule_all.proofs.Whole.{file_nine}
 use Rattle.rule_all.proofs.Entries.{file_ten}
 
-module _ {xs : List ℕ} {m : Movie} (l : LaidOut xs m) (e : m.shaped ≡ 1) where
+module _ {xs : List ℕ} {m : Movie} (l : LaidOut xs m) (e : m.shaped ≡ true) where
   pub few_tracks : tracks xs ≤ 4
-  few_tracks = (shape_tracks _ (l.shaped (λ z. omega arith)).moov.three).1
+  few_tracks = (shape_tracks _ (l.shaped e).moov.three).1
 
   pub sure_of : every (form FILE FTYP (slot_in xs m.ftyp) ∷ form MOOV MVHD (slot_in xs m.mvhd) ∷ []) ≡ true → {r : ℕ} → Tracked xs r → SureBefore xs r
   sure_of h t =
-      let f = l.shaped (λ z. omega arith) in
+      let f = l.shaped e in
       record {
         low = t.low;
         most = t.most;

@@ -1,13 +1,13 @@
 -- A track meets all rules where the tests of its boxes, by where they stand, all hold. Assumes nothing.
 use Prim.Native.Nat.{ℕ, ◌≤◌}
-use mathlib.Core.Path.{◌≡◌, ◌∙◌}
+use mathlib.Core.Path.{◌∙◌}
 use mathlib.Core.List.{List}
 use Rattle.wire.proofs.Clauses.{clause}
 use Rattle.boxes.specs.Boxes.{boxes}
 use Rattle.movie.specs.Ways.{follow}
 use Rattle.movie.specs.Movie.{scale, handler, references}
 use Rattle.layout.specs.declared.track.Track.{Track}
-use Rattle.layout.specs.Track.{Laid}
+use Rattle.layout.specs.Track.{Shaped, Laid}
 use Rattle.rule_entries.specs.Ten.{around_of}
 use Rattle.rule_all.specs.declared.TrackSays.{TrackSays}
 use Rattle.rule_all.specs.Track.{Inside, heads_fine, lists_fine, forms_fine, tables_fine, AllFine, Good, EntriesMeet, SaysOf, Judged}
@@ -28,11 +28,10 @@ module _ {xs b : List ℕ} {t : Track} (h : Laid xs b t) where
         stco = h.stco.lies;
       }
 
-  module _ (n : t.shaped ≡ 0 → ⊥) {r : ℕ} (f : AllFine xs t r) where
+  module _ (s : Shaped b) {r : ℕ} (f : AllFine xs t r) where
     pub good : 10 ≤ r → Good (boxes xs) b
     unfolding heads_fine lists_fine forms_fine tables_fine follow
     good z =
-        let s = h.shaped n in
         let head = f.heads z in
         let list = f.lists z in
         let refs = rw h.dref.is at (clause 0 _ list) in
@@ -52,7 +51,7 @@ module _ {xs b : List ℕ} {t : Track} (h : Laid xs b t) where
     unfolding around_of scale handler references
     listed z = rw (h.mdhd.is, h.hdlr.is, h.dref.is, h.stsd.is) at (f.entries z)
 
-  pub judged : (t.shaped ≡ 0 → ⊥) → {r : TrackSays} → SaysOf xs t r → Judged (boxes xs) b r
-  judged n s =
+  pub judged : Shaped b → {r : TrackSays} → SaysOf xs t r → Judged (boxes xs) b r
+  judged k s =
       let f = s.fine in
-      record { most = f.most; good = good n f; listed = listed n f; identity = s.identity ∙ rw h.tkhd.is; entries = s.entries ∙ rw h.stsd.is }
+      record { most = f.most; good = good k f; listed = listed k f; identity = s.identity ∙ rw h.tkhd.is; entries = s.entries ∙ rw h.stsd.is }

@@ -9,7 +9,7 @@ use Rattle.layout.specs.declared.track.Track.{Track}
 use Rattle.layout.specs.declared.tracks.Movie.{Movie}
 use Rattle.layout.specs.declared.every.ReadTrack.{ReadTrack}
 use Rattle.layout.specs.Slots.{slot_in, Lies}
-use Rattle.layout.specs.Track.{Laid, StsdPlaced}
+use Rattle.layout.specs.Track.{Shaped, Laid, StsdPlaced}
 use Rattle.layout.specs.Tracks.{track_slot, LaidOut, Spread}
 use Rattle.layout.specs.Every.{told_in, TrackAt}
 use Rattle.layout.proofs.LayingOut.{slot_at}
@@ -29,7 +29,7 @@ module _ {xs : List ℕ} {m : Movie} (l : LaidOut xs m) {i : ℕ} (h : i < 4) {s
   track_lies = rw e (slot_at l i h).lies
 
   module _ (n : i < tracks xs) {k : Track} (a : Laid xs (slot_in xs s) k) where
-    pub step : (k.shaped ≡ 0 → ⊥) → tracks xs ≤ 4 → {p : SoFar} → Run xs i p → {t : TrackSays} → SaysOf xs k t → {r : SoFar} → Joined p i t r → 10 ≤ r.sure → Run xs (i + 1) r
+    pub step : Shaped (slot_in xs s) → tracks xs ≤ 4 → {p : SoFar} → Run xs i p → {t : TrackSays} → SaysOf xs k t → {r : SoFar} → Joined p i t r → 10 ≤ r.sure → Run xs (i + 1) r
     step z four g u j q = run_more g n four (rw (e, (slot_at l i h).is) at (judged a z u)) j q
 
     pub step_told : Spread xs m → StsdPlaced xs s k → {v : ReadTrack} → v ≡ told_in xs k → TrackAt xs i v

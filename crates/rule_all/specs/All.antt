@@ -33,9 +33,9 @@ rules_to_nine l = also two_rule (also three_rule (also four_rule (also five_rule
 abbrev pub all_rules : List Box → Rule
 all_rules l = also (rules_to_nine l) (ten_rule (release_of l))
 
--- an answer other than 0 says that a test holds
-pub record Sure (r : ℕ) (t : Bool) : Type 0 where
-  pub holds : (r ≡ 0 → ⊥) → t ≡ true
+-- a yes says that a test holds
+pub record Sure (r t : Bool) : Type 0 where
+  pub holds : r ≡ true → t ≡ true
 
 -- an answer of 2, 10 or 11 says that the rules from 2 on and before it hold of a file
 pub record SureBefore (xs : List ℕ) (r : ℕ) : Type 0 where

@@ -1,5 +1,5 @@
 -- What is asked of all tracks of a file.
-use Rattle.std.specs.Prelude.{ℕ, ◌+◌, ◌≤◌, ◌<◌, min, ◌≡◌, true, List}
+use Rattle.std.specs.Prelude.{ℕ, ◌+◌, ◌≤◌, ◌<◌, min, ◌≡◌, Bool, true, false, List}
 use Rattle.wire.specs.Sums.{sum_to}
 use Rattle.boxes.specs.Boxes.{boxes}
 use Rattle.movie.specs.Ways.{to_stsd, follow}
@@ -16,11 +16,11 @@ use Rattle.rule_all.specs.Track.{Good, EntriesMeet}
 abbrev pub entries_on : List ℕ → ℕ → ℕ
 entries_on xs i = stored_count (follow to_stsd (track xs i))
 
--- an answer of 0 says that an ID is none of the last three, as many as there are after i tracks
-pub record Again (r identity i one two three : ℕ) : Type 0 where
-  pub first : r ≡ 0 → 1 ≤ i → identity ≡ one → ⊥
-  pub second : r ≡ 0 → 2 ≤ i → identity ≡ two → ⊥
-  pub third : r ≡ 0 → 3 ≤ i → identity ≡ three → ⊥
+-- a no says that an ID is none of the last three, as many as there are after i tracks
+pub record Again (r : Bool) (identity i one two three : ℕ) : Type 0 where
+  pub first : r ≡ false → 1 ≤ i → identity ≡ one → ⊥
+  pub second : r ≡ false → 2 ≤ i → identity ≡ two → ⊥
+  pub third : r ≡ false → 3 ≤ i → identity ≡ three → ⊥
 
 -- an answer of 10 or more says of track i, after those so far, that it is good, that its ID is none of the last three, and that there are few entries
 pub record SureWith (p : SoFar) (i : ℕ) (t : TrackSays) (r : ℕ) : Type 0 where

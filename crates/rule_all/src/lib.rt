@@ -5,7 +5,7 @@ pub mod edit;
 mod track;
 
 ghost use Rattle.std.specs.Prelude.{◌≡◌, [], ◌∷◌, ◌^◌, ◌≤◌, ◌<◌, length};
-ghost use Rattle.wire.specs.Clauses.{every, one_if};
+ghost use Rattle.wire.specs.Clauses.{every};
 ghost use Rattle.codes.specs.Codes.{FTYP, MOOV, MVHD};
 ghost use Rattle.boxes.specs.Containers.{FILE, LONGEST};
 ghost use Rattle.movie.specs.Movie.{tracks};
@@ -24,7 +24,7 @@ use rule_headers::forms;
 use rule_lists::total;
 
 // What a track says: before which rule it is sure to be fine, its ID, and how many sample entries it has.
-#[derive(Clone, Copy)]
+#[derive(Clone, Copy, Debug, PartialEq, Eq)]
 pub struct TrackSays {
     pub sure: usize,
     pub identity: usize,
@@ -32,7 +32,7 @@ pub struct TrackSays {
 }
 
 // The same of the tracks so far: before which rule, how many sample entries, and the last three IDs.
-#[derive(Clone, Copy)]
+#[derive(Clone, Copy, Debug, PartialEq, Eq)]
 pub struct SoFar {
     pub sure: usize,
     pub total: usize,
@@ -42,7 +42,7 @@ pub struct SoFar {
 }
 
 // Before which rule a file is sure to be fine, and its tracks.
-#[derive(Clone, Copy)]
+#[derive(Clone, Copy, Debug, PartialEq, Eq)]
 pub struct SureTracks {
     pub sure: usize,
     pub tracks: Tracks,
@@ -58,42 +58,21 @@ fn doubted() -> SureTracks
     }
 }
 
-// Whether `ftyp` and `mvhd` are as rule 4 wants them: 1 or 0.
-fn heads_fine(file: &[u8], m: Movie) -> usize
+// Whether `ftyp` and `mvhd` are as rule 4 wants them.
+#[tactic(auto, unfolding(wire::specs::Clauses::every))]
+fn heads_fine(file: &[u8], m: Movie) -> bool
     requires { Lies file.now m.ftyp × Lies file.now m.mvhd }
-    ensures { result ≡ one_if (every (form FILE FTYP (slot_in file.now m.ftyp) ∷ form MOOV MVHD (slot_in file.now m.mvhd) ∷ [])) }
+    ensures { result ≡ every (form FILE FTYP (slot_in file.now m.ftyp) ∷ form MOOV MVHD (slot_in file.now m.mvhd) ∷ []) }
 {
-    let ftyp = m.ftyp;
-    if forms::form(containers::FILE, codes::FTYP, gather::bytes(file, ftyp)) == 0 {
-        return 0;
-    }
-    let mvhd = m.mvhd;
-    forms::form(codes::MOOV, codes::MVHD, gather::bytes(file, mvhd))
+    forms::form(containers::FILE, codes::FTYP, gather::bytes(file, m.ftyp))
+        && forms::form(codes::MOOV, codes::MVHD, gather::bytes(file, m.mvhd))
 }
 
-// An answer of 0 says that an ID is none of those of the last three tracks, as many as there are.
-fn again(identity: usize, i: usize, one: usize, two: usize, three: usize) -> usize
+// Whether an ID is one of those of the last three tracks, as many as there are.
+fn again(identity: usize, i: usize, one: usize, two: usize, three: usize) -> bool
     ensures { Again result identity i one two three }
 {
-    if i < 1 {
-        return 0;
-    }
-    if identity == one {
-        return 1;
-    }
-    if i < 2 {
-        return 0;
-    }
-    if identity == two {
-        return 1;
-    }
-    if i < 3 {
-        return 0;
-    }
-    if identity == three {
-        return 1;
-    }
-    0
+    (i >= 1 && identity == one) || (i >= 2 && identity == two) || (i >= 3 && identity == three)
 }
 
 // Before which rule the tracks are sure to be fine with track i, from 0: 2 where it isn't good, has an ID again or too many entries.
@@ -104,7 +83,7 @@ fn sure_with(p: SoFar, i: usize, t: TrackSays) -> usize
     if t.sure < 10 {
         return 2;
     }
-    if again(t.identity, i, p.one, p.two, p.three) != 0 {
+    if again(t.identity, i, p.one, p.two, p.three) {
         return 2;
     }
     if total::MOST < p.total + t.entries {
@@ -132,8 +111,6 @@ fn tracks_fine(file: &[u8], m: Movie) -> usize
     requires { LaidOut file.now m × (tracks file.now ≤ 4) × (length file.now ≤ LONGEST) }
     ensures { Tracked file.now result }
 {
-    let n = m.tracks;
-    let mut i = 0;
     let mut p = SoFar {
         sure: 11,
         total: 0,
@@ -141,16 +118,14 @@ fn tracks_fine(file: &[u8], m: Movie) -> usize
         two: 0,
         three: 0,
     };
-    while i < n {
-        let k = layout::track::lay(file, tracks::track_slot(m, i));
-        if k.shaped == 0 {
+    for i in 0..m.tracks {
+        let Some(k) = layout::track::lay(file, tracks::track_slot(m, i)) else {
             return 2;
-        }
+        };
         p = joined(p, i, track::judge(file, k, m.mdat));
         if p.sure < 10 {
             return 2;
         }
-        i += 1;
     }
     p.sure
 }
@@ -160,8 +135,6 @@ fn tracks_told(file: &[u8], m: Movie) -> SureTracks
     requires { LaidOut file.now m × Spread file.now m × (tracks file.now ≤ 4) × (length file.now ≤ LONGEST) }
     ensures { Tracked file.now result.sure × TracksTold file.now result }
 {
-    let n = m.tracks;
-    let mut i = 0;
     let mut p = SoFar {
         sure: 11,
         total: 0,
@@ -169,18 +142,16 @@ fn tracks_told(file: &[u8], m: Movie) -> SureTracks
         two: 0,
         three: 0,
     };
-    let mut found = every::blanks(n);
-    while i < n {
-        let k = layout::track::lay(file, tracks::track_slot(m, i));
-        if k.shaped == 0 {
+    let mut found = every::blanks(m.tracks);
+    for i in 0..m.tracks {
+        let Some(k) = layout::track::lay(file, tracks::track_slot(m, i)) else {
             return doubted();
-        }
+        };
         p = joined(p, i, track::judge(file, k, m.mdat));
         if p.sure < 10 {
             return doubted();
         }
         found = every::with_track(found, i, every::told(file, k));
-        i += 1;
     }
     SureTracks {
         sure: p.sure,
@@ -188,54 +159,32 @@ fn tracks_told(file: &[u8], m: Movie) -> SureTracks
     }
 }
 
-// By where the boxes of a file stand: a number of 2, 10 or 11; the rules from 2 on and before it hold.
-fn sure_by(file: &[u8], m: Movie) -> usize
-    requires { (m.shaped ≡ 1 → LaidOut file.now m × Spread file.now m) × (length file.now ≤ LONGEST) }
+// A number of 2, 10 or 11, by where the boxes of a file stand: the rules from 2 on and before it hold.
+pub fn sure_before(file: &[u8]) -> usize
+    requires { length file.now ≤ LONGEST }
     ensures { SureBefore file.now result }
 {
-    if m.shaped != 1 {
+    let m = tracks::found(file);
+    if !m.shaped {
         return 2;
     }
-    if heads_fine(file, m) == 0 {
+    if !heads_fine(file, m) {
         return 2;
     }
     tracks_fine(file, m)
 }
 
-// The same of a file, whose boxes are taken for plain ones first.
-pub fn sure_before(file: &[u8]) -> usize
-    requires { length file.now ≤ LONGEST }
-    ensures { SureBefore file.now result }
-{
-    let m = tracks::lay(file);
-    if m.shaped == 2 {
-        return sure_by(file, tracks::any(file));
-    }
-    sure_by(file, m)
-}
-
-// By where the boxes of a file stand, and where it is 10 or 11 what the tracks say.
-fn told_by(file: &[u8], m: Movie) -> SureTracks
-    requires { (m.shaped ≡ 1 → LaidOut file.now m × Spread file.now m) × (length file.now ≤ LONGEST) }
-    ensures { SureBefore file.now result.sure × TracksTold file.now result }
-{
-    if m.shaped != 1 {
-        return doubted();
-    }
-    if heads_fine(file, m) == 0 {
-        return doubted();
-    }
-    tracks_told(file, m)
-}
-
-// The same of a file.
+// The same, and where it is 10 or 11 what the tracks say.
 pub fn sure_tracks(file: &[u8]) -> SureTracks
     requires { length file.now ≤ LONGEST }
     ensures { SureBefore file.now result.sure × TracksTold file.now result }
 {
-    let m = tracks::lay(file);
-    if m.shaped == 2 {
-        return told_by(file, tracks::any(file));
+    let m = tracks::found(file);
+    if !m.shaped {
+        return doubted();
     }
-    told_by(file, m)
+    if !heads_fine(file, m) {
+        return doubted();
+    }
+    tracks_told(file, m)
 }

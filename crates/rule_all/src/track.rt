@@ -1,6 +1,5 @@
 // The rules of one track.
 ghost use Rattle.std.specs.Prelude.{◌≡◌, true, ◌≤◌, length, drop};
-ghost use Rattle.wire.specs.Clauses.{one_if};
 ghost use Rattle.boxes.specs.Boxes.{FRONT, boxes};
 ghost use Rattle.boxes.specs.Containers.{LONGEST};
 ghost use Rattle.layout.specs.Slots.{slot_in};
@@ -23,34 +22,24 @@ use rule_lists::{form, url};
 use sample_tables::{agree, size, table};
 use wire::{lend, number};
 
-// Rule 4: 1 or 0.
-fn heads_fine(file: &[u8], t: Track) -> usize
+// Rule 4.
+#[tactic(auto, unfolding(crate::specs::Track::heads_fine, wire::specs::Clauses::every))]
+fn heads_fine(file: &[u8], t: Track) -> bool
     requires { Inside file.now t }
-    ensures { result ≡ one_if (heads_fine file.now t) }
+    ensures { result ≡ heads_fine file.now t }
 {
-    let tkhd = t.tkhd;
-    if forms::form(codes::TRAK, codes::TKHD, gather::bytes(file, tkhd)) == 0 {
-        return 0;
-    }
-    let mdhd = t.mdhd;
-    if forms::form(codes::MDIA, codes::MDHD, gather::bytes(file, mdhd)) == 0 {
-        return 0;
-    }
-    let hdlr = t.hdlr;
-    forms::form(codes::MDIA, codes::HDLR, gather::bytes(file, hdlr))
+    forms::form(codes::TRAK, codes::TKHD, gather::bytes(file, t.tkhd))
+        && forms::form(codes::MDIA, codes::MDHD, gather::bytes(file, t.mdhd))
+        && forms::form(codes::MDIA, codes::HDLR, gather::bytes(file, t.hdlr))
 }
 
-// Rules 5 and 9: 1 or 0.
-fn lists_fine(file: &[u8], t: Track) -> usize
+// Rules 5 and 9.
+#[tactic(auto, unfolding(crate::specs::Track::lists_fine, wire::specs::Clauses::every))]
+fn lists_fine(file: &[u8], t: Track) -> bool
     requires { Inside file.now t }
-    ensures { result ≡ one_if (lists_fine file.now t) }
+    ensures { result ≡ lists_fine file.now t }
 {
-    let dref = t.dref;
-    if url::url_list(gather::bytes(file, dref)) == 0 {
-        return 0;
-    }
-    let stsd = t.stsd;
-    form::list_form(gather::bytes(file, stsd))
+    url::url_list(gather::bytes(file, t.dref)) && form::list_form(gather::bytes(file, t.stsd))
 }
 
 // Rule 6.
@@ -92,10 +81,10 @@ fn tables_fine(file: &[u8], t: Track, mdat: Slot) -> bool
         )
 }
 
-// Rule 10 in the narrower release, which is asked first since few files need the wider: 1 or 0.
-fn entries_fine(file: &[u8], t: Track) -> usize
+// Rule 10 in the narrower release, which is asked first since few files need the wider.
+fn entries_fine(file: &[u8], t: Track) -> bool
     requires { Inside file.now t × (length file.now ≤ LONGEST) }
-    ensures { result ≡ one_if (entries_fine (around_in file.now t) Release6 (drop FRONT (slot_in file.now t.stsd))) }
+    ensures { result ≡ entries_fine (around_in file.now t) Release6 (drop FRONT (slot_in file.now t.stsd)) }
 {
     let mdhd = t.mdhd;
     let hdlr = t.hdlr;
@@ -106,15 +95,13 @@ fn entries_fine(file: &[u8], t: Track) -> usize
         handler: number::word32(gather::bytes(file, hdlr), 8),
         references: number::word32(gather::bytes(file, dref), 4),
     };
-    match rule_entries::entries_from(
+    rule_entries::entries_from(
         lend::rest(gather::bytes(file, stsd), walk::FRONT),
         0,
         Some(around),
         Release::Release6,
-    ) {
-        Ok(()) => 1,
-        Err(_) => 0,
-    }
+    )
+    .is_ok()
 }
 
 // 2; or 10, where it meets rules 4 to 9; or 11, where it meets the narrower rule 10 too.
@@ -122,10 +109,10 @@ fn all_fine(file: &[u8], t: Track, mdat: Slot) -> usize
     requires { Inside file.now t × (length file.now ≤ LONGEST) × FirstMdat file.now mdat }
     ensures { AllFine file.now t result }
 {
-    if heads_fine(file, t) == 0 {
+    if !heads_fine(file, t) {
         return 2;
     }
-    if lists_fine(file, t) == 0 {
+    if !lists_fine(file, t) {
         return 2;
     }
     if !forms_fine(file, t) {
@@ -134,7 +121,7 @@ fn all_fine(file: &[u8], t: Track, mdat: Slot) -> usize
     if !tables_fine(file, t, mdat) {
         return 2;
     }
-    if entries_fine(file, t) == 0 {
+    if !entries_fine(file, t) {
         return 10;
     }
     11

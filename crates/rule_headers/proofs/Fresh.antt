@@ -1,20 +1,20 @@
 -- Laws of track IDs. Assumes nothing.
 use Prim.Native.Nat.{ℕ, zero, suc, ◌+◌, ◌<◌}
 use native.Mathlib.Numerals.{add-one}
-use mathlib.Core.Path.{◌≡◌, refl, sym, ap, ◌∙◌}
-use mathlib.Core.Bool.{Bool, true, false, not}
+use mathlib.Core.Path.{◌≡◌, refl, ap, ◌∙◌}
+use mathlib.Core.Bool.{true, false, not}
 use mathlib.Core.List.{List}
 use Rattle.wire.specs.Numbers.{word}
-use Rattle.wire.specs.Clauses.{is_eq, one_if}
+use Rattle.wire.specs.Clauses.{is_eq}
 use Rattle.wire.specs.Sums.{all_to}
 use Rattle.codes.specs.Codes.{TRAK, TKHD}
-use Rattle.wire.proofs.Clauses.{is_eq_lem, not_eq, was_nay, was_yea}
+use Rattle.wire.proofs.Clauses.{is_eq_lem, not_eq}
 use Rattle.wire.proofs.Sums.{all_none, all_more, all_fails}
 use Rattle.boxes.specs.Box.{Box}
 use Rattle.boxes.specs.Boxes.{boxes}
 use Rattle.boxes.specs.Seek.{count, nth, find, place_in, start_in}
-use Rattle.rule.specs.Verdict.{sooner, unless, is_fine, Verdict, Fine, Bad}
-use Rattle.rule.proofs.Places.{sooner_fine, unless_fine, unless_yea, unless_nay}
+use Rattle.rule.specs.Verdict.{sooner, unless, is_fine, Verdict, Fine}
+use Rattle.rule.proofs.Places.{sooner_fine, unless_fine}
 use Rattle.rule_headers.specs.Identities.{identity, fresh, tkhd_place, fresh_to, different}
 
 module _ (l : List Box) where
@@ -58,11 +58,3 @@ module _ (l : List Box) where
   pub different_fine : (p : ℕ) → is_fine (fresh_to l p (count TRAK l)) ≡ different l
   unfolding different
   different_fine p = fresh_fine p (count TRAK l)
-
--- ---- a verdict from an answer
-
-pub unless_by : (t : Bool) (p r : ℕ) → r ≡ one_if t → (r ≡ 0 → ⊥) → Fine ≡ unless t p
-unless_by t p r e z = unless_yea t p (sym (was_yea t r z e))
-
-pub unless_not : (t : Bool) (p r q : ℕ) → r ≡ one_if t → r ≡ 0 → q ≡ p → Bad q ≡ unless t p
-unless_not t p r q e z h = ap Bad h ∙ unless_nay t p (sym (was_nay t r z e))

@@ -1,4 +1,3 @@
-pub mod Boxed
 pub mod Fresh
 pub mod Rule4
 pub mod Bounded

@@ -1,6 +1,7 @@
 // Rule 4 of many boxes: track IDs are different.
+#![tactic(auto, unfolding(crate::specs::Four::tracks_in, wire::specs::Tests::if_eq))]
+
 ghost use Rattle.std.specs.Prelude.{◌≡◌, ◌+◌, ◌^◌, ◌<◌, length};
-ghost use Rattle.wire.specs.Clauses.{one_if};
 ghost use Rattle.codes.specs.Codes.{TRAK};
 ghost use Rattle.boxes.specs.Boxes.{boxes};
 ghost use Rattle.boxes.specs.Seek.{count};
@@ -20,19 +21,17 @@ fn identity(moov: &[u8], i: usize) -> usize
     number::word32(seek::payload(trak, codes::TKHD, 0), 12)
 }
 
-// Whether no track before track i has its ID: 1 or 0.
-fn fresh(moov: &[u8], i: usize) -> usize
-    ensures { result ≡ one_if (fresh_of (boxes moov.now) i i) }
+// Whether no track before track i has its ID.
+fn fresh(moov: &[u8], i: usize) -> bool
+    ensures { result ≡ fresh_of (boxes moov.now) i i }
 {
     let own = identity(moov, i);
-    let mut j = 0;
-    while j < i {
+    for j in 0..i {
         if identity(moov, j) == own {
-            return 0;
+            return false;
         }
-        j += 1;
     }
-    1
+    true
 }
 
 // The place of the `tkhd` of track i.
@@ -48,7 +47,7 @@ fn unless_fresh(moov: &[u8], base: usize, i: usize) -> Verdict
     requires { base + length moov.now < 2 ^ 62 }
     ensures { result ≡ unless (fresh_of (boxes moov.now) i i) (tkhd_place (boxes moov.now) base i) }
 {
-    if fresh(moov, i) == 0 {
+    if !fresh(moov, i) {
         return Err(tkhd_place(moov, base, i));
     }
     Ok(())
@@ -59,12 +58,9 @@ fn first_again(moov: &[u8], base: usize) -> Verdict
     requires { base + length moov.now < 2 ^ 62 }
     ensures { result ≡ fresh_to (boxes moov.now) base (count TRAK (boxes moov.now)) }
 {
-    let n = seek::count(moov, codes::TRAK);
     let mut found = Ok(());
-    let mut i = 0;
-    while i < n {
+    for i in 0..seek::count(moov, codes::TRAK) {
         found = rule::sooner(found, unless_fresh(moov, base, i));
-        i += 1;
     }
     found
 }

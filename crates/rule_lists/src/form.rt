@@ -1,6 +1,7 @@
 // Rule 5 of one `stsd` or `dref`.
+#![tactic(auto, unfolding(crate::specs::Five::list_form_in, wire::specs::Tests::if_eq))]
+
 ghost use Rattle.std.specs.Prelude.{◌≡◌};
-ghost use Rattle.wire.specs.Clauses.{one_if};
 ghost use Rattle.rule_lists.specs.Five.{list_form, listed as listed_by, list_form_in};
 
 use boxes::seek;
@@ -20,35 +21,20 @@ pub fn listed(body: &[u8]) -> usize
     number::word32_in(body, 4)
 }
 
-// Whether a payload has the form of rule 5: 1 or 0.
-pub fn list_form(body: &[u8]) -> usize
-    ensures { result ≡ one_if (list_form body.now) }
+// Whether a payload has the form of rule 5.
+pub fn list_form(body: &[u8]) -> bool
+    ensures { result ≡ list_form body.now }
 {
     let n = listed(body);
-    if n == 0 {
-        return 0;
-    }
-    if seek::tally(lend::rest(body, FRONT), seek::ANY) != n {
-        return 0;
-    }
-    1
+    n != 0 && seek::tally(lend::rest(body, FRONT), seek::ANY) == n
 }
 
-// The same of a box in a container of kind k, where it is an `stsd` or a `dref`: 1 or 0.
-pub fn form_in(k: usize, c: usize, body: &[u8]) -> usize
-    ensures { result ≡ one_if (list_form_in k c body.now) }
+// The same of a box in a container of kind k, where it is an `stsd` or a `dref`.
+pub fn form_in(k: usize, c: usize, body: &[u8]) -> bool
+    ensures { result ≡ list_form_in k c body.now }
 {
-    if k == codes::STBL {
-        if c == codes::STSD {
-            return list_form(body);
-        }
-        return 1;
+    match (k, c) {
+        (codes::STBL, codes::STSD) | (codes::DINF, codes::DREF) => list_form(body),
+        _ => true,
     }
-    if k == codes::DINF {
-        if c == codes::DREF {
-            return list_form(body);
-        }
-        return 1;
-    }
-    1
 }

@@ -1,6 +1,5 @@
 // Rule 9: what a `dref` lists.
 ghost use Rattle.std.specs.Prelude.{◌≡◌, ◌+◌, ◌^◌, ◌<◌, length};
-ghost use Rattle.wire.specs.Clauses.{one_if};
 ghost use Rattle.boxes.specs.Boxes.{boxes};
 ghost use Rattle.rule_lists.specs.Nine.{is_url, urls_from, urls_in, urls_tiling, url_list};
 
@@ -10,20 +9,12 @@ use boxes::walk::{Step, Walk};
 use rule::Verdict;
 use wire::{lend, number};
 
-// Whether a box is a `url ` of this file: 1 or 0.
-fn is_url(code: usize, body: &[u8]) -> usize
-    ensures { result ≡ one_if (is_url code body.now) }
+// Whether a box is a `url ` of this file.
+#[tactic(auto, unfolding(crate::specs::Nine::is_url, wire::specs::Clauses::every, wire::specs::Clauses::is_eq))]
+fn is_url(code: usize, body: &[u8]) -> bool
+    ensures { result ≡ is_url code body.now }
 {
-    if code != codes::URL {
-        return 0;
-    }
-    if body.len() != 4 {
-        return 0;
-    }
-    if number::word32(body, 0) != 1 {
-        return 0;
-    }
-    1
+    code == codes::URL && body.len() == 4 && number::word32(body, 0) == 1
 }
 
 // The first box of a part that starts at place base which is none.
@@ -35,7 +26,7 @@ fn urls_from(part: &[u8], base: usize) -> Verdict
     loop {
         match w.step(part) {
             Step::Found(b, next) => {
-                if is_url(b.code, walk::body(part, b)) == 0 {
+                if !is_url(b.code, walk::body(part, b)) {
                     return Err(base + b.at);
                 }
                 w = next;
@@ -59,7 +50,7 @@ fn tally(part: &[u8]) -> usize
     loop {
         match w.plain_step(part) {
             Step::Found(b, next) => {
-                if is_url(b.code, walk::body(part, b)) == 0 {
+                if !is_url(b.code, walk::body(part, b)) {
                     return 0;
                 }
                 n += 1;
@@ -75,18 +66,12 @@ fn tally(part: &[u8]) -> usize
     }
 }
 
-// Rules 5 and 9 of a `dref`, by one walk: 1 or 0.
-pub fn url_list(dref: &[u8]) -> usize
-    ensures { result ≡ one_if (url_list dref.now) }
+// Rules 5 and 9 of a `dref`, by one walk.
+pub fn url_list(dref: &[u8]) -> bool
+    ensures { result ≡ url_list dref.now }
 {
     let n = form::listed(dref);
-    if n == 0 {
-        return 0;
-    }
-    if tally(lend::rest(dref, walk::FRONT)) != n {
-        return 0;
-    }
-    1
+    n != 0 && tally(lend::rest(dref, walk::FRONT)) == n
 }
 
 // Rule 9 of a box of code c in a container of kind k, whose payload starts at place q.

@@ -4,22 +4,21 @@ use native.Mathlib.Omega.{arith}
 use native.Mathlib.Numerals.{add-one}
 use mathlib.Core.Path.{◌≡◌, refl, sym, ◌∙◌}
 use mathlib.Core.Bool.{true, false}
-use mathlib.Core.List.{List, []}
+use mathlib.Core.List.{List}
 use lib.ListN.{length, get_or, drop}
 use lib.Seq.{drop-cons, drop-length}
-use Rattle.wire.specs.Clauses.{one_if}
-use Rattle.codes.specs.Codes.{MOOV, TRAK, MDIA, MINF, DINF, STBL}
-use Rattle.wire.proofs.Tests.{eq_nay}
-use Rattle.wire.proofs.Clauses.{is_eq_lem, not_eq}
+use Rattle.std.specs.Option.{is_some}
+use Rattle.std.specs.Prelude.{Option, Some, None}
+use Rattle.wire.specs.Clauses.{is_lt}
+use Rattle.wire.proofs.Clauses.{is_eq_lem, not_eq, is_lt_lem, not_lt}
 use Rattle.boxes.specs.declared.walk.Walk.{Walk}
 use Rattle.boxes.specs.declared.walk.BoxAt.{BoxAt}
 use Rattle.boxes.specs.Box.{Box}
 use Rattle.boxes.specs.Boxes.{boxes}
-use Rattle.boxes.specs.Containers.{FILE}
 use Rattle.boxes.specs.Walk.{Ran, Over}
-use Rattle.boxes.specs.Seek.{count}
-use Rattle.rule_shape.specs.Three.{needed, exactly, first}
-use Rattle.rule_shape.specs.TwentyThree.{barred}
+use Rattle.boxes.specs.Seek.{count, SeenAs}
+use Rattle.boxes.proofs.Cutting.{cut_some}
+use Rattle.rule_shape.specs.Three.{exactly, first}
 
 -- there are n boxes of each code before the i-th: all hold where the rest do
 pub record Asked (n : ℕ) (cs : List ℕ) (l : List Box) (i : ℕ) : Type 0 where
@@ -54,25 +53,8 @@ pub first_none : (xs : List ℕ) → Over xs 0 → 0 ≡ first (boxes xs)
 unfolding first
 first_none xs o = rw o.list
 
--- ---- the codes that a kind needs
+-- more than n boxes of a code are there where that of number n is
 
-pub ones_at : (k c : ℕ) (l : List Box) {r : ℕ} → k ≡ c → r ≡ one_if (exactly 1 (needed c) l) → r ≡ one_if (exactly 1 (needed k) l)
-ones_at k c l e q = rw e q
-
--- a kind that is no container's needs none
-pub ones_none : (k : ℕ) (l : List Box) → (k ≡ FILE → ⊥) → (k ≡ MOOV → ⊥) → (k ≡ TRAK → ⊥) → (k ≡ MDIA → ⊥) → (k ≡ MINF → ⊥) → (k ≡ DINF → ⊥) → (k ≡ STBL → ⊥) → true ≡ exactly 1 (needed k) l
-unfolding exactly needed
-ones_none k l a b c d e f g =
-    let n : [] ≡ needed k = eq_nay _ _ _ _ _ a (eq_nay _ _ _ _ _ b (eq_nay _ _ _ _ _ c (eq_nay _ _ _ _ _ d (eq_nay _ _ _ _ _ e (eq_nay _ _ _ _ _ f (eq_nay _ _ _ _ _ g refl)))))) in
-    rw (← n)
-
--- ---- refusal 23
-
-pub barred_at : (k c : ℕ) (l : List Box) {r : ℕ} → k ≡ c → r ≡ one_if (exactly 0 (barred c) l) → r ≡ one_if (exactly 0 (barred k) l)
-barred_at k c l e q = rw e q
-
-pub barred_none : (k : ℕ) (l : List Box) → (k ≡ FILE → ⊥) → (k ≡ MOOV → ⊥) → (k ≡ TRAK → ⊥) → (k ≡ STBL → ⊥) → true ≡ exactly 0 (barred k) l
-unfolding exactly barred
-barred_none k l a b c d =
-    let n : [] ≡ barred k = eq_nay _ _ _ _ _ a (eq_nay _ _ _ _ _ b (eq_nay _ _ _ _ _ c (eq_nay _ _ _ _ _ d refl))) in
-    rw (← n)
+pub more_is : (xs : List ℕ) (c n : ℕ) (o : Option BoxAt) → SeenAs xs c n o → is_some o ≡ is_lt n (count c (boxes xs))
+more_is xs c n (Some b) s = sym (is_lt_lem n (count c (boxes xs)) (cut_some s))
+more_is xs c n None s = sym (not_lt n (count c (boxes xs)) s)

@@ -1,8 +1,7 @@
-// Rules 6 to 8: the sample tables of a track. Each answer is 1 or 0.
-#![tactic(auto)]
+// Rules 6 to 8: the sample tables of a track.
+#![tactic(auto, unfolding(crate::specs::Six::table_fine, crate::specs::Six::table_in, crate::specs::Asked::seven_asked_in, wire::specs::Tests::if_eq))]
 
 ghost use Rattle.std.specs.Prelude.{◌≡◌, ◌+◌, ◌^◌, ◌<◌, length};
-ghost use Rattle.wire.specs.Clauses.{one_if};
 ghost use Rattle.boxes.specs.Boxes.{boxes};
 ghost use Rattle.rule_tracks.specs.Six.{table_fine, table_in};
 ghost use Rattle.rule_tracks.specs.Asked.{six_holds, seven_asked, seven_asked_in, eight_asked, eight_asked_at};
@@ -17,29 +16,20 @@ use wire::number;
 fn table_of(c: usize, body: &[u8]) -> bool
     ensures { result ≡ table_fine c body.now }
 {
-    if c == codes::STTS {
-        return table::table_form(body, 8);
+    match c {
+        codes::STTS => table::table_form(body, 8),
+        codes::STSC => table::table_form(body, 12),
+        codes::STCO => table::table_form(body, 4),
+        codes::STSZ => size::sizes_form(body),
+        _ => true,
     }
-    if c == codes::STSC {
-        return table::table_form(body, 12);
-    }
-    if c == codes::STCO {
-        return table::table_form(body, 4);
-    }
-    if c == codes::STSZ {
-        return size::sizes_form(body);
-    }
-    true
 }
 
 // Rule 6 of a box of a container of kind k.
-pub fn table_in(k: usize, c: usize, body: &[u8]) -> usize
-    ensures { result ≡ one_if (table_in k c body.now) }
+pub fn table_in(k: usize, c: usize, body: &[u8]) -> bool
+    ensures { result ≡ table_in k c body.now }
 {
-    if k == codes::STBL {
-        return usize::from(table_of(c, body));
-    }
-    1
+    k != codes::STBL || table_of(c, body)
 }
 
 // Whether rule 6 holds of the tables of an `stbl`.
@@ -69,13 +59,10 @@ fn seven_holds(stbl: &[u8]) -> bool
 }
 
 // Rule 7 of a container of kind k.
-pub fn seven_in(k: usize, part: &[u8]) -> usize
-    ensures { result ≡ one_if (seven_asked_in k part.now) }
+pub fn seven_in(k: usize, part: &[u8]) -> bool
+    ensures { result ≡ seven_asked_in k part.now }
 {
-    if k == codes::STBL {
-        return usize::from(seven_holds(part));
-    }
-    1
+    k != codes::STBL || seven_holds(part)
 }
 
 // Whether the chunks of an `stbl` lie in the file's payloads, where its tables agree.

@@ -1,14 +1,10 @@
 -- One walk over each container says yes, or the traversal says which.
-use mathlib.Core.Path.{sym}
-use Rattle.wire.proofs.Clauses.{yea}
-use Rattle.judge.proofs.Edits.{editable_yea, editable_nay}
+use mathlib.Core.Path.{sym, ◌∙◌}
+use Rattle.judge.proofs.Edits.{editable_is}
 use Rattle.judge.proofs.editable.Goals as goal
 
-pub returns-then-edits_hold-ne0 : goal.returns-then-edits_hold-ne0
-returns-then-edits_hold-ne0 c = yea _ (sym (c.edits_hold.ensures.holds c.if-edits_hold-ne0.true))
+pub returns-then-edits_hold : goal.returns-then-edits_hold
+returns-then-edits_hold c = c.if-edits_hold.true ∙ sym (c.edits_hold.ensures.holds c.if-edits_hold.true)
 
-pub returns-in-Ok : goal.returns-in-Ok
-returns-in-Ok c = editable_yea _ c.first.ensures c.in-Ok.is
-
-pub returns-in-Err : goal.returns-in-Err
-returns-in-Err c = editable_nay _ c.first.ensures c.in-Err.is
+pub returns-else-edits_hold : goal.returns-else-edits_hold
+returns-else-edits_hold c = c.is_ok.ensures.value ∙ editable_is _ c.first.ensures

@@ -1,8 +1,24 @@
--- By plain boxes, and by all where one isn't.
+-- The frame, the headers, and then the tracks.
+use Rattle.std.proofs.lemmas.Bool.{not-false}
+use mathlib.Core.Path.{sym, ◌∙◌}
+use Rattle.rule_all.proofs.Steps.{unsure}
+use Rattle.rule_all.proofs.Framing.{few_tracks, sure_of}
 use Rattle.rule_all.proofs.sure_tracks.Goals as goal
 
-pub told_by-requires : goal.told_by-requires
-told_by-requires c = (λ z. c.any.ensures, c.requires)
+pub returns-then-not-m : goal.returns-then-not-m
+returns-then-not-m c = unsure c.doubted.ensures
 
-pub told_by-requires-2 : goal.told_by-requires-2
-told_by-requires-2 c = (c.lay-m.ensures, c.requires)
+pub heads_fine-requires : goal.heads_fine-requires
+heads_fine-requires c = let l = c.found-m.ensures.0 in (l.ftyp.lies, l.mvhd.lies)
+
+pub returns-then-not-heads_fine : goal.returns-then-not-heads_fine
+returns-then-not-heads_fine c = unsure c.doubted-then-not-heads_fine.ensures
+
+pub tracks_told-requires : goal.tracks_told-requires
+tracks_told-requires c = let l = c.found-m.ensures in (l.0, l.1, few_tracks l.0 (not-false _ c.if-not-m.false), c.requires)
+
+pub returns : goal.returns
+returns c = (
+  sure_of c.found-m.ensures.0 (not-false _ c.if-not-m.false) (sym c.heads_fine.ensures ∙ c.if-not-heads_fine.false) c.tracks_told.ensures.0,
+  c.tracks_told.ensures.1,
+)

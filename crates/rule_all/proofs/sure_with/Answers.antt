@@ -6,8 +6,8 @@ use Rattle.rule_all.proofs.sure_with.Goals as goal
 pub returns-then-t-lt10 : goal.returns-then-t-lt10
 returns-then-t-lt10 c = no_step _ _ _
 
-pub returns-then-again-ne0 : goal.returns-then-again-ne0
-returns-then-again-ne0 c = no_step _ _ _
+pub returns-then-again : goal.returns-then-again
+returns-then-again c = no_step _ _ _
 
 pub overflow_add-p : goal.overflow_add-p
 overflow_add-p c = omega arith
@@ -21,7 +21,7 @@ returns c = let a = c.again.ensures in
       good = λ z. omega arith;
       least = λ z. c.min.ensures;
       few = λ z. omega arith;
-      first = λ z. a.first (omega arith);
-      second = λ z. a.second (omega arith);
-      third = λ z. a.third (omega arith);
+      first = λ z. a.first c.if-again.false;
+      second = λ z. a.second c.if-again.false;
+      third = λ z. a.third c.if-again.false;
     }

@@ -7,14 +7,14 @@ use Rattle.rule_all.proofs.tracks_fine.Goals as goal
 pub loop-i-init : goal.loop-i-init
 loop-i-init c = run_none _
 
-pub lay-k-requires : goal.lay-k-requires
-lay-k-requires c = let p = c.requires in track_lies p.0 (omega (arith, p.0.tracks, p.1)) c.track_slot.ensures
+pub lay-requires : goal.lay-requires
+lay-requires c = let p = c.requires in track_lies p.0 (omega (arith, p.0.tracks, p.1)) c.track_slot.ensures
 
-pub returns-then-k-eq0 : goal.returns-then-k-eq0
-returns-then-k-eq0 c = run_broken _
+pub returns-in_default : goal.returns-in_default
+returns-in_default c = run_broken _
 
 pub judge-requires : goal.judge-requires
-judge-requires c = let p = c.requires in (inside (c.lay-k.ensures c.if-k-eq0.false).0, p.2, p.0.mdat)
+judge-requires c = let p = c.requires in (inside c.in-Some.ensures.1, p.2, p.0.mdat)
 
 pub joined-p-requires : goal.joined-p-requires
 joined-p-requires c = (c.loop-i.invariant.few, c.judge.ensures.small)
@@ -22,17 +22,10 @@ joined-p-requires c = (c.loop-i.invariant.few, c.judge.ensures.small)
 pub returns-then-p-lt10 : goal.returns-then-p-lt10
 returns-then-p-lt10 c = run_broken _
 
-pub overflow_add-i : goal.overflow_add-i
-overflow_add-i c = omega (arith, c.loop-i.invariant.most, c.requires.1)
-
-pub loop-i-smaller : goal.loop-i-smaller
-loop-i-smaller c = omega arith
-
 pub loop-i-preserved : goal.loop-i-preserved
 loop-i-preserved c =
     let p = c.requires in
-    let q = c.loop-i-test in
-    step p.0 (omega (arith, p.0.tracks, p.1)) c.track_slot.ensures (omega (arith, p.0.tracks)) (c.lay-k.ensures c.if-k-eq0.false).0 c.if-k-eq0.false p.1
+    step p.0 (omega (arith, p.0.tracks, p.1)) c.track_slot.ensures (omega (arith, p.0.tracks)) c.in-Some.ensures.1 c.in-Some.ensures.0 p.1
     c.loop-i.invariant c.judge.ensures c.joined-p.ensures (omega (arith, c.if-p-lt10))
 
 pub returns : goal.returns

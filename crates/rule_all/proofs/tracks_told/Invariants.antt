@@ -1,11 +1,7 @@
 -- The invariant: as without what the tracks say, and the first i are filled in.
-use Prim.Native.Nat.{◌-◌}
 use Rattle.layout.proofs.Filling.{Filled}
 use Rattle.rule_all.proofs.Running.{Run}
 use Rattle.rule_all.proofs.tracks_told.Given as goal
 
 abbrev pub invariant-loop-i : goal.invariant-loop-i
 invariant-loop-i l = Run l.file l.i l.p × Filled l.file l.i l.found
-
-abbrev pub decreases-loop-i : goal.decreases-loop-i
-decreases-loop-i l = l.n - l.i

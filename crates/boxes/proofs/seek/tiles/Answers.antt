@@ -1,10 +1,7 @@
 -- `seek::tiles` answers whether anything stands past the last whole box.
-use Rattle.boxes.proofs.Placing.{was_whole, was_torn}
-use Rattle.wire.proofs.Clauses.{yea, nay}
+use mathlib.Core.Path.{◌∙◌}
+use Rattle.boxes.proofs.Placing.{was_tiled}
 use Rattle.boxes.proofs.seek.tiles.Goals as goal
 
-pub returns-in-Ok : goal.returns-in-Ok
-returns-in-Ok c = yea _ (was_whole _ c.ends.ensures c.in-Ok.is)
-
-pub returns-in-Err : goal.returns-in-Err
-returns-in-Err c = nay _ (was_torn _ c.ends.ensures _ c.in-Err.is)
+pub returns : goal.returns
+returns c = c.is_ok.ensures.value ∙ was_tiled _ c.ends.ensures

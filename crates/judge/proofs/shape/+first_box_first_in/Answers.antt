@@ -7,26 +7,25 @@ use Rattle.judge.proofs.Shapes.{first_broken, box_unformed, box_formed, first_un
 use Rattle.judge.specs.Asked.{first_by, as_number}
 use Rattle.rule.proofs.Places.{sooner_none, unless_yea}
 use Rattle.rule.proofs.Traverse.{found_more}
-use Rattle.wire.proofs.Clauses.{was_yea, was_nay}
 use lib.ListN.{length-take, length-drop}
 use mathlib.Core.Path.{refl, sym, ap, ◌∙◌}
 use native.Mathlib.Omega.{arith}
 use Rattle.judge.proofs.shape.+first_box_first_in.Goals as goal
 use Rattle.rule.specs.Verdict.{Fine}
 
-pub first_box-returns-then-formed-eq0 : goal.first_box-returns-then-formed-eq0
-first_box-returns-then-formed-eq0 t c = let a = c.args in
-    ap as_number (box_unformed a.n _ a.k (box_at a.part.now a.b) _ (was_nay _ _ c.if-formed-eq0.true c.formed.ensures))
+pub first_box-returns-then-not-formed : goal.first_box-returns-then-not-formed
+first_box-returns-then-not-formed t c = let a = c.args in
+    ap as_number (box_unformed a.n _ a.k (box_at a.part.now a.b) _ (sym c.formed.ensures ∙ c.if-not-formed.true))
 
-pub first_box-returns-then-idle-ne0 : goal.first_box-returns-then-idle-ne0
-first_box-returns-then-idle-ne0 t c = let a = c.args in
-    let f = was_yea _ _ c.if-formed-eq0.false c.formed.ensures in
-    let i = c.idle.ensures c.if-idle-ne0.true in
+pub first_box-returns-then-idle : goal.first_box-returns-then-idle
+first_box-returns-then-idle t c = let a = c.args in
+    let f = sym c.formed.ensures ∙ c.if-not-formed.false in
+    let i = c.idle.ensures c.if-idle.true in
     ap as_number (box_formed a.n _ a.k (box_at a.part.now a.b) _ f (box_empty a.n _ a.k a.part.now a.b _ i.0 i.1))
 
 pub first_box-returns-then-kind-eq0 : goal.first_box-returns-then-kind-eq0
 first_box-returns-then-kind-eq0 t c = let a = c.args in
-    let f = was_yea _ _ c.if-formed-eq0.false c.formed.ensures in
+    let f = sym c.formed.ensures ∙ c.if-not-formed.false in
     ap as_number (box_formed a.n _ a.k (box_at a.part.now a.b) _ f (box_leaf (first_by a.n) _ _ (box_at a.part.now a.b) _ c.requires.0 c.kind_in-kind.ensures c.if-kind-eq0.true (unless_yea _ _ refl)))
 
 pub first_box-first_in-requires : goal.first_box-first_in-requires
@@ -34,18 +33,18 @@ first_box-first_in-requires t c = (omega arith, (omega arith, rw (c.body.ensures
 
 pub first_box-returns : goal.first_box-returns
 first_box-returns t c = let a = c.args in
-    let f = was_yea _ _ c.if-formed-eq0.false c.formed.ensures in
+    let f = sym c.formed.ensures ∙ c.if-not-formed.false in
     number_as (rw c.body.ensures at c.first_in.ensures)
     (box_formed a.n _ a.k (box_at a.part.now a.b) _ f (box_node (first_by a.n) _ _ (box_at a.part.now a.b) _ c.requires.0 c.kind_in-kind.ensures c.if-kind-eq0.false refl))
 
 pub first_in-returns-then-depth-eq0 : goal.first_in-returns-then-depth-eq0
 first_in-returns-then-depth-eq0 t c = ap as_number (judge_shallow _ _ _ _ _ _ c.if-depth-eq0.true)
 
-pub first_in-returns-then-shaped-eq0 : goal.first_in-returns-then-shaped-eq0
-first_in-returns-then-shaped-eq0 t c = ap as_number (first_unshaped _ _ _ _ _ _ c.if-depth-eq0.false (omega arith) (was_nay _ _ c.if-shaped-eq0.true c.shaped.ensures))
+pub first_in-returns-then-not-shaped : goal.first_in-returns-then-not-shaped
+first_in-returns-then-not-shaped t c = ap as_number (first_unshaped _ _ _ _ _ _ c.if-depth-eq0.false (omega arith) (sym c.shaped.ensures ∙ c.if-not-shaped.true))
 
 pub first_in-loop-b-init : goal.first_in-loop-b-init
-first_in-loop-b-init t c = (first_begins _ _ _ _ _ _ c.if-depth-eq0.false (was_yea _ _ c.if-shaped-eq0.false c.shaped.ensures), refl)
+first_in-loop-b-init t c = (first_begins _ _ _ _ _ _ c.if-depth-eq0.false (sym c.shaped.ensures ∙ c.if-not-shaped.false), refl)
 
 pub first_in-first_box-found-requires : goal.first_in-first_box-found-requires
 first_in-first_box-found-requires t c = let s = ran _ _ _ _ _ c.step.ensures c.in-Found.is in (omega arith, (s.head, s.least, omega arith, omega arith, omega arith))

@@ -12,12 +12,6 @@ overflow_add-sum c = let p = c.requires in
     let f = tally_fits c.loop-t.invariant a p.2 (omega (arith, p.0.tracks, p.1)) in
     rw c.list_slot-sum.ensures (omega arith)
 
-pub overflow_add-t : goal.overflow_add-t
-overflow_add-t c = let p = c.requires in omega (arith, p.0.tracks, p.1)
-
-pub loop-t-smaller : goal.loop-t-smaller
-loop-t-smaller c = omega arith
-
 pub loop-t-preserved : goal.loop-t-preserved
 loop-t-preserved c = let p = c.requires in
     let a = list_of p.0 c.loop-t.t (omega (arith, p.0.tracks, p.1)) in

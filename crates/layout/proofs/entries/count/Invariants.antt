@@ -1,10 +1,6 @@
 -- The invariant: the lists of the first t tracks are counted.
-use Prim.Native.Nat.{◌-◌}
 use Rattle.layout.proofs.Tallying.{Tally}
 use Rattle.layout.proofs.entries.count.Given as goal
 
 abbrev pub invariant-loop-t : goal.invariant-loop-t
 invariant-loop-t l = Tally l.file l.t l.sum
-
-abbrev pub decreases-loop-t : goal.decreases-loop-t
-decreases-loop-t l = l.n - l.t

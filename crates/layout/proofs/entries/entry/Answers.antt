@@ -18,12 +18,6 @@ returns-then-left-s c = let p = c.requires in
     (left_in c.loop-t.invariant (omega (arith, p.0.tracks)) {n = c.list_slot-s.result.n} (rw
     c.list_slot-s.ensures a.counted) (omega arith)) _ c.entry_in.ensures
 
-pub overflow_add-t : goal.overflow_add-t
-overflow_add-t c = let p = c.requires in omega (arith, p.0.tracks, p.1)
-
-pub loop-t-smaller : goal.loop-t-smaller
-loop-t-smaller c = omega arith
-
 pub loop-t-preserved : goal.loop-t-preserved
 loop-t-preserved c = let p = c.requires in
     let a = list_of p.0 c.loop-t.t (omega (arith, p.0.tracks, p.1)) in

@@ -1,10 +1,6 @@
 -- The invariant: entry i is entry `left` from track t on.
-use Prim.Native.Nat.{◌-◌}
 use Rattle.layout.proofs.Entering.{Left}
 use Rattle.layout.proofs.entries.entry.Given as goal
 
 abbrev pub invariant-loop-t : goal.invariant-loop-t
 invariant-loop-t l = Left l.file l.i l.t l.left
-
-abbrev pub decreases-loop-t : goal.decreases-loop-t
-decreases-loop-t l = l.n - l.t

@@ -1,5 +1,4 @@
 use Rattle.boxes.proofs.Walking.{ran, ended, broke}
-use Rattle.layout.proofs.Noting.{going_fits}
 use Rattle.layout.proofs.Gathering.{walked_none, walked_fits, walked_more, walked_whole, walked_torn}
 use native.Mathlib.Omega.{arith}
 use Rattle.layout.proofs.gather.wanted.Goals as goal
@@ -22,9 +21,6 @@ note-l-requires c = let r = ran _ _ _ _ _ c.step.ensures c.in-Found.is in let i 
 pub note-m-requires : goal.note-m-requires
 note-m-requires c = let r = ran _ _ _ _ _ c.step.ensures c.in-Found.is in let i = c.loop-x.invariant in walked_fits i r i.fifth
 
-pub opened-endless-requires : goal.opened-endless-requires
-opened-endless-requires c = let i = c.loop-x.invariant in going_fits i.going i.lies i.part i.short
-
 pub loop-x-smaller : goal.loop-x-smaller
 loop-x-smaller c = let r = ran _ _ _ _ _ c.step.ensures c.in-Found.is in omega arith
 
@@ -32,10 +28,10 @@ pub loop-x-preserved : goal.loop-x-preserved
 loop-x-preserved c =
     walked_more c.loop-x.invariant (ran _ _ _ _ _ c.step.ensures c.in-Found.is)
     (c.note-i.ensures, c.note-j.ensures, c.note-k.ensures, c.note-l.ensures, c.note-m.ensures)
-    c.opened-endless.ensures
+    c.shut_past-shut.ensures
 
 pub returns-in-End : goal.returns-in-End
-returns-in-End c = let o = ended _ _ _ c.step.ensures c.in-End.is in walked_whole c.loop-x.invariant o.0 o.1 c.ending.ensures
+returns-in-End c = let o = ended _ _ _ c.step.ensures c.in-End.is in walked_whole c.loop-x.invariant o.0 o.1
 
 pub returns-in-Broken : goal.returns-in-Broken
 returns-in-Broken c = let o = broke _ _ _ _ c.step.ensures c.in-Broken.is in walked_torn c.loop-x.invariant o.0

@@ -1,55 +1,46 @@
 use Rattle.boxes.proofs.PlainWalking.{plain_ran, plain_ended}
 use Rattle.layout.proofs.Gathering.{walked_none, walked_fits, walked_plain, walked_whole}
-use Rattle.layout.specs.Slots.{ending_of}
-use Rattle.wire.proofs.Tests.{eq_yea}
-use mathlib.Core.Path.{refl}
+use Prim.Native.Nat.{ℕ}
+use mathlib.Core.Path.{◌≡◌}
 use native.Mathlib.Omega.{arith}
 use Rattle.layout.proofs.plain.three.Goals as goal
 
 pub loop-x-init : goal.loop-x-init
-unfolding ending_of
 loop-x-init c =
     let p = c.requires in
     let n = c.none-none.ensures in
     walked_none c.bytes-part.ensures p.0 (omega arith) (p.1, p.2, p.3, p.3, p.3) (n, n, n, n, n)
 
 pub note-i-requires : goal.note-i-requires
-unfolding ending_of
 note-i-requires c =
     let i = c.loop-x.invariant in
     walked_fits i (plain_ran _ _ _ _ _ c.plain_step.ensures c.in-Found.is).0 i.first
 
 pub note-j-requires : goal.note-j-requires
-unfolding ending_of
 note-j-requires c =
     let i = c.loop-x.invariant in
     walked_fits i (plain_ran _ _ _ _ _ c.plain_step.ensures c.in-Found.is).0 i.second
 
 pub note-k-requires : goal.note-k-requires
-unfolding ending_of
 note-k-requires c =
     let i = c.loop-x.invariant in
     walked_fits i (plain_ran _ _ _ _ _ c.plain_step.ensures c.in-Found.is).0 i.third
 
 pub loop-x-smaller : goal.loop-x-smaller
-unfolding ending_of
 loop-x-smaller c =
     let r = (plain_ran _ _ _ _ _ c.plain_step.ensures c.in-Found.is).0 in
     omega arith
 
 pub loop-x-preserved : goal.loop-x-preserved
-unfolding ending_of
 loop-x-preserved c =
     let r = plain_ran _ _ _ _ _ c.plain_step.ensures c.in-Found.is in
     walked_plain c.loop-x.invariant r.0
     (c.note-i.ensures, c.note-j.ensures, c.note-k.ensures, c.note-k.ensures, c.note-k.ensures) r.1
 
 pub returns-in-End : goal.returns-in-End
-unfolding ending_of
 returns-in-End c z =
     let o = plain_ended _ _ _ c.plain_step.ensures c.in-End.is in
-    walked_whole c.loop-x.invariant o.0 o.1 (eq_yea _ _ _ _ _ refl refl)
+    walked_whole c.loop-x.invariant o.0 o.1
 
 pub returns-in-Broken : goal.returns-in-Broken
-unfolding ending_of
-returns-in-Broken c z = absurd (z refl)
+returns-in-Broken c z = let y : ◌≡◌ {A = ℕ} 0 1 = cc in absurd (omega arith)

@@ -1,4 +1,5 @@
 -- The invariant: each slot is that of the boxes before the walk's place, which are plain.
+use mathlib.Core.Bool.{true}
 use Prim.Native.Nat.{◌-◌}
 use Rattle.layout.proofs.Gathering.{Walked}
 use Rattle.layout.specs.Slots.{first_with}
@@ -7,7 +8,7 @@ use Rattle.layout.proofs.plain.two.Given as goal
 
 abbrev pub invariant-loop-x : goal.invariant-loop-x
 invariant-loop-x l =
-    Walked l.file l.part l.whole l.w.at 0 (first_with l.a) (first_with l.b) (first_with l.b) (first_with l.b) (first_with l.b) l.i l.j l.j l.j l.j
+    Walked l.file l.part l.whole l.w.at true (first_with l.a) (first_with l.b) (first_with l.b) (first_with l.b) (first_with l.b) l.i l.j l.j l.j l.j
 
 abbrev pub decreases-loop-x : goal.decreases-loop-x
 decreases-loop-x l = length l.part - l.w.at

@@ -1,5 +1,4 @@
 -- Thirteen boxes, each looked for in a container that was found before.
-use mathlib.Core.Path.{refl}
 use native.Mathlib.Omega.{arith}
 use Rattle.layout.proofs.Laying.{Standing, laid, listed}
 use Rattle.layout.proofs.track.any.Goals as goal
@@ -57,4 +56,4 @@ returns c =
       stsz = c.first-8.ensures;
       stco = c.first-9.ensures;
     } in
-    (laid s (λ z. absurd (z refl)), listed s)
+    (laid s, listed s)

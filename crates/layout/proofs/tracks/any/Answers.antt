@@ -34,9 +34,4 @@ returns c =
       c.nth-4.ensures,
     ) c.wanted-m.ensures in
     let e = c.whole.ensures.0 in
-    let l = c.both-upper.ensures in
-    let b = c.both.ensures in (
-      laid_out e f m c.led.ensures c.paired.ensures c.peopled.ensures
-          (λ z. l.first (b.first z)) (λ z. l.second (b.first z)) b.second,
-      spread e f m _,
-    )
+    (laid_out e f m c.framed.ensures, spread e f m _)

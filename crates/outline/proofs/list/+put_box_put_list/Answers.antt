@@ -1,7 +1,6 @@
 use Prim.Native.Nat.{◌+◌}
 use mathlib.Core.Path.{refl}
 use native.Mathlib.Omega.{arith}
-use Rattle.wire.proofs.Clauses.{was_yea, was_nay}
 use Rattle.wire.proofs.Writing.{pen_then, pen_is}
 use Rattle.wire.proofs.Resting.{rest_more, rest_last, rest_none}
 use Rattle.boxes.proofs.Walking.{ran, ended, broke}
@@ -38,10 +37,10 @@ put_list-overflow_add-place t c = let s = ran _ _ _ _ _ c.step.ensures c.in-Foun
 pub put_list-put_broken-requires : goal.put_list-put_broken-requires
 put_list-put_broken-requires t c = let s = ran _ _ _ _ _ c.step.ensures c.in-Found.is in omega arith
 
-pub put_list-returns-then-may_have-eq0 : goal.put_list-returns-then-may_have-eq0
-put_list-returns-then-may_have-eq0 t c =
+pub put_list-returns-then-not-may_have : goal.put_list-returns-then-not-may_have
+put_list-returns-then-not-may_have t c =
     let s = ran _ _ _ _ _ c.step.ensures c.in-Found.is in
-    let e = list_open _ _ _ _ _ _ s (was_nay _ _ c.if-may_have-eq0.true c.may_have.ensures) in
+    let e = list_open _ _ _ _ _ _ s (cc) in
     (rest_last c.loop-b.invariant.1 (pen_is e c.put_broken.ensures.0), omega arith)
 
 pub put_list-put_box-at-requires : goal.put_list-put_box-at-requires
@@ -57,7 +56,7 @@ put_list-loop-b-smaller t c =
 pub put_list-loop-b-preserved : goal.put_list-loop-b-preserved
 put_list-loop-b-preserved t c =
     let s = ran _ _ _ _ _ c.step.ensures c.in-Found.is in
-    let e = list_more _ _ _ _ _ _ s (was_yea _ _ c.if-may_have-eq0.false c.may_have.ensures) in
+    let e = list_more _ _ _ _ _ _ s (cc) in
     (omega arith, rest_more c.loop-b.invariant.1 e c.put_box-at.ensures.0, omega arith)
 
 pub put_list-returns-in-End : goal.put_list-returns-in-End

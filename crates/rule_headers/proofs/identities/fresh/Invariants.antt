@@ -1,5 +1,4 @@
 -- The invariant: no track before track j has the ID of track i.
-use Prim.Native.Nat.{◌-◌, ◌≤◌}
 use Rattle.boxes.specs.Boxes.{boxes}
 use Rattle.rule_headers.specs.Identities.{identity, fresh}
 use mathlib.Core.Bool.{true}
@@ -7,7 +6,4 @@ use mathlib.Core.Path.{◌≡◌}
 use Rattle.rule_headers.proofs.identities.fresh.Given as goal
 
 abbrev pub invariant-loop-j : goal.invariant-loop-j
-invariant-loop-j l = (l.j ≤ l.i) × (l.own ≡ identity (boxes l.moov) l.i) × (fresh (boxes l.moov) l.i l.j ≡ true)
-
-abbrev pub decreases-loop-j : goal.decreases-loop-j
-decreases-loop-j l = l.i - l.j
+invariant-loop-j l = (l.own ≡ identity (boxes l.moov) l.i) × (fresh (boxes l.moov) l.i l.j ≡ true)

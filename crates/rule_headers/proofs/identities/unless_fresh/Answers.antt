@@ -1,8 +1,10 @@
-use Rattle.rule_headers.proofs.Fresh.{unless_by, unless_not}
+use Rattle.rule.proofs.Places.{unless_yea, unless_nay}
+use Rattle.rule.specs.Verdict.{Bad}
+use mathlib.Core.Path.{ap, ◌∙◌}
 use Rattle.rule_headers.proofs.identities.unless_fresh.Goals as goal
 
-pub returns-then-fresh-eq0 : goal.returns-then-fresh-eq0
-returns-then-fresh-eq0 c = unless_not _ _ _ _ c.fresh.ensures c.if-fresh-eq0.true c.tkhd_place.ensures
+pub returns-then-not-fresh : goal.returns-then-not-fresh
+returns-then-not-fresh c = ap Bad c.tkhd_place.ensures ∙ unless_nay _ _ (cc)
 
 pub returns : goal.returns
-returns c = unless_by _ _ _ c.fresh.ensures c.if-fresh-eq0.false
+returns c = unless_yea _ _ (cc)

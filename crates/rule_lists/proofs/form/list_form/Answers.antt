@@ -1,14 +1,17 @@
 -- By the count that is listed and that of the boxes.
+use borrow.Author.Tests.{eq-eqb, ne_eqb}
+use Rattle.wire.proofs.Tests.{eq_or}
 use Rattle.rule_lists.proofs.Forms.{form_none, form_yea, form_nay}
-use Rattle.wire.proofs.Clauses.{yea, nay}
+use mathlib.Core.Bool.{not}
+use mathlib.Core.Path.{◌≡◌, ap, ◌∙◌}
 use native.Mathlib.Omega.{arith}
 use Rattle.rule_lists.proofs.form.list_form.Goals as goal
 
-pub returns-then-n-eq0 : goal.returns-then-n-eq0
-returns-then-n-eq0 c = nay _ (form_none _ c.listed-n.ensures c.if-n-eq0.true)
+pub returns-then-n-ne0 : goal.returns-then-n-ne0
+returns-then-n-ne0 c =
+    eq_or c.tally.result c.listed-n.result
+    (λ q. eq-eqb _ _ q ∙ form_yea _ c.listed-n.ensures (omega arith) (rw c.rest.ensures at c.tally.ensures) q)
+    (λ q. ne_eqb _ _ q ∙ form_nay _ c.listed-n.ensures (omega arith) (rw c.rest.ensures at c.tally.ensures) q)
 
-pub returns-then-tally-n : goal.returns-then-tally-n
-returns-then-tally-n c = nay _ (form_nay _ c.listed-n.ensures (omega arith) (rw c.rest.ensures at c.tally.ensures) c.if-tally-n.true)
-
-pub returns : goal.returns
-returns c = yea _ (form_yea _ c.listed-n.ensures (omega arith) (rw c.rest.ensures at c.tally.ensures) (omega arith))
+pub returns-else-n-ne0 : goal.returns-else-n-ne0
+returns-else-n-ne0 c = let z : c.listed-n.result ≡ 0 = omega arith in ap not (eq-eqb _ _ z) ∙ form_none _ c.listed-n.ensures z

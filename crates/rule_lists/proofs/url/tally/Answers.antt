@@ -1,6 +1,5 @@
 use native.Mathlib.Omega.{arith}
 use Rattle.boxes.proofs.PlainWalking.{plain_ran, plain_ended}
-use Rattle.wire.proofs.Clauses.{was_yea, was_nay}
 use Rattle.rule_lists.proofs.Urls.{referred_none, referred_more, referred_not, referred_whole, referred_stopped}
 use Rattle.rule_lists.proofs.url.tally.Goals as goal
 
@@ -10,9 +9,9 @@ loop-b-init c = referred_none _
 pub body-requires : goal.body-requires
 body-requires c = let s = (plain_ran _ _ _ _ _ c.plain_step.ensures c.in-Found.is).0 in (s.least, omega arith)
 
-pub returns-then-is_url-eq0 : goal.returns-then-is_url-eq0
-returns-then-is_url-eq0 c = let s = (plain_ran _ _ _ _ _ c.plain_step.ensures c.in-Found.is).0 in
-    referred_not c.loop-b.invariant s (was_nay _ _ c.if-is_url-eq0.true (rw c.body.ensures at c.is_url.ensures))
+pub returns-then-not-is_url : goal.returns-then-not-is_url
+returns-then-not-is_url c = let s = (plain_ran _ _ _ _ _ c.plain_step.ensures c.in-Found.is).0 in
+    referred_not c.loop-b.invariant s (cc)
 
 pub overflow_add-n : goal.overflow_add-n
 overflow_add-n c = let i = c.loop-b.invariant.tallied.passed in omega arith
@@ -23,7 +22,7 @@ loop-b-smaller c = let s = (plain_ran _ _ _ _ _ c.plain_step.ensures c.in-Found.
 pub loop-b-preserved : goal.loop-b-preserved
 loop-b-preserved c = let s = plain_ran _ _ _ _ _ c.plain_step.ensures c.in-Found.is in
     referred_more c.loop-b.invariant s.0 (λ i. (c.type_inv.part i).fits) s.1
-    (was_yea _ _ c.if-is_url-eq0.false (rw c.body.ensures at c.is_url.ensures))
+    (cc)
 
 pub returns-in-End : goal.returns-in-End
 returns-in-End c = let o = plain_ended _ _ _ c.plain_step.ensures c.in-End.is in referred_whole c.loop-b.invariant o.0 o.1

@@ -4,7 +4,6 @@ use Rattle.rule_lists.specs.Nine.{is_url, url_at}
 use Rattle.rule.proofs.Traverse.{found_none}
 use Rattle.rule.proofs.Firsts.{listed_more, listed_bad, listed_over}
 use Rattle.rule.specs.Verdict.{sooner, Fine}
-use Rattle.wire.proofs.Clauses.{was_yea, was_nay}
 use mathlib.Core.Bool.{Bool}
 use native.Mathlib.Omega.{arith}
 use Rattle.rule_lists.proofs.url.urls_from.Goals as goal
@@ -24,10 +23,10 @@ pub overflow_add-result : goal.overflow_add-result
 unfolding sooner
 overflow_add-result c = let s = ran _ _ _ _ _ c.step.ensures c.in-Found.is in omega arith
 
-pub returns-then-is_url-eq0 : goal.returns-then-is_url-eq0
+pub returns-then-not-is_url : goal.returns-then-not-is_url
 unfolding sooner
-returns-then-is_url-eq0 c = listed_bad url c.loop-b.invariant (ran _ _ _ _ _ c.step.ensures c.in-Found.is)
-    (was_nay _ _ c.if-is_url-eq0.true (rw c.body.ensures at c.is_url.ensures))
+returns-then-not-is_url c = listed_bad url c.loop-b.invariant (ran _ _ _ _ _ c.step.ensures c.in-Found.is)
+    (cc)
 
 pub loop-b-smaller : goal.loop-b-smaller
 unfolding sooner
@@ -36,7 +35,7 @@ loop-b-smaller c = let s = ran _ _ _ _ _ c.step.ensures c.in-Found.is in omega a
 pub loop-b-preserved : goal.loop-b-preserved
 unfolding sooner
 loop-b-preserved c = listed_more url c.loop-b.invariant (ran _ _ _ _ _ c.step.ensures c.in-Found.is)
-    (was_yea _ _ c.if-is_url-eq0.false (rw c.body.ensures at c.is_url.ensures))
+    (cc)
 
 pub returns-in-End : goal.returns-in-End
 unfolding sooner
