@@ -1,26 +1,27 @@
 -- Laws of the brands' conditions. Assumes nothing.
 use Prim.Native.Nat.{ℕ, ◌≤◌}
+use lib.Dec.{eqb}
 use native.Mathlib.Omega.{arith}
 use mathlib.Core.Path.{◌≡◌, refl, ◌∙◌}
-use mathlib.Core.Bool.{Bool, true, false}
+use mathlib.Core.Bool.{Bool}
 use mathlib.Core.List.{List, [], ◌∷◌, ◌++◌}
-use Rattle.wire.specs.Clauses.{is_eq, either, one_if}
-use Rattle.codes.specs.Codes.{MOOV, AVC1}
+use Rattle.wire.specs.Clauses.{is_eq}
+use Rattle.codes.specs.Codes.{AVC1}
 use Rattle.boxes.specs.Box.{Box}
 use Rattle.boxes.specs.Boxes.{boxes}
 use Rattle.boxes.specs.Seek.{ANY, count}
 use Rattle.boxes.proofs.Numbered.{count_any}
 use Rattle.movie.specs.Named.{list_in}
-use Rattle.brands.specs.Brands.{one_entry, no_avc1, second, ready}
+use Rattle.brands.specs.Brands.{one_entry, no_avc1, second}
 
 -- ---- a track's entries
 
-pub one_is : (b : List ℕ) {n r : ℕ} → n ≡ count ANY (boxes (list_in b)) → r ≡ one_if (is_eq n 1) → r ≡ one_if (one_entry b)
-unfolding one_entry
+pub one_is : (b : List ℕ) {n : ℕ} {r : Bool} → n ≡ count ANY (boxes (list_in b)) → r ≡ eqb n 1 → r ≡ one_entry b
+unfolding one_entry is_eq
 one_is b g e = e ∙ rw g
 
-pub plain_is : (b : List ℕ) {list : List ℕ} {n r : ℕ} → list ≡ list_in b → n ≡ count AVC1 (boxes list) → r ≡ one_if (is_eq n 0) → r ≡ one_if (no_avc1 b)
-unfolding no_avc1
+pub plain_is : (b : List ℕ) {list : List ℕ} {n : ℕ} {r : Bool} → list ≡ list_in b → n ≡ count AVC1 (boxes list) → r ≡ eqb n 0 → r ≡ no_avc1 b
+unfolding no_avc1 is_eq
 plain_is b f g e = e ∙ rw (g, f)
 
 -- ---- the second box
@@ -36,7 +37,3 @@ unfolding second
 second_none [] h = refl
 second_none (x ∷ []) h = refl
 second_none (x ∷ y ∷ l) h = absurd (omega (arith, count_any (x ∷ y ∷ l)))
-
-pub ready_is : (xs : List ℕ) {n r : ℕ} → n ≡ second (boxes xs) → r ≡ one_if (is_eq n MOOV) → r ≡ one_if (ready xs)
-unfolding ready
-ready_is xs f e = e ∙ rw f

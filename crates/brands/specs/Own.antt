@@ -1,6 +1,5 @@
 -- What the brands ask of a file, once for all four.
 use Rattle.std.specs.Prelude.{◌≡◌, List, ℕ}
-use Rattle.wire.specs.Clauses.{one_if}
 use Rattle.codes.specs.Codes.{FTYP, ISOM}
 use Rattle.boxes.specs.Boxes.{boxes}
 use Rattle.boxes.specs.Seek.{find}
@@ -11,6 +10,6 @@ use Rattle.brands.specs.Brands.{isom_or_avc1, few as few_of, early as early_of, 
 pub record OwnAt (xs : List ℕ) (o : Own) : Type 0 where
   pub isom : o.isom ≡ brand_listed ISOM (find FTYP (boxes xs))
   pub base : o.base ≡ isom_or_avc1 (find FTYP (boxes xs))
-  pub early : o.early ≡ one_if (early_of xs)
-  pub few : o.few ≡ one_if (few_of xs)
-  pub ready : o.ready ≡ one_if (ready_of xs)
+  pub early : o.early ≡ early_of xs
+  pub few : o.few ≡ few_of xs
+  pub ready : o.ready ≡ ready_of xs

@@ -1,6 +1,5 @@
-// The brands' own conditions, most of them 1 where they hold, else 0.
+// The brands' own conditions.
 ghost use Rattle.std.specs.Prelude.{◌≡◌, ◌≤◌, ◌<◌};
-ghost use Rattle.wire.specs.Clauses.{is_eq, one_if};
 ghost use Rattle.boxes.specs.Boxes.{boxes};
 ghost use Rattle.movie.specs.Movie.{tracks, track, handler as handler_of};
 ghost use Rattle.layout.specs.Every.{TracksAt};
@@ -21,19 +20,9 @@ use release::compatible;
 pub struct Own {
     pub isom: bool,
     pub base: bool,
-    pub early: usize,
-    pub few: usize,
-    pub ready: usize,
-}
-
-// Whether two numbers are the same.
-fn equal(m: usize, n: usize) -> usize
-    ensures { (result ≡ one_if (is_eq m n)) × (result ≤ 1) }
-{
-    if m == n {
-        return 1;
-    }
-    0
+    pub early: bool,
+    pub few: bool,
+    pub ready: bool,
 }
 
 // Whether `isom` or `avc1` is listed.
@@ -59,104 +48,88 @@ fn handled(file: &[u8], e: Tracks, h: usize) -> usize
     ensures { result ≡ handled_of h file.now }
 {
     let n = e.count;
-    let mut t = 0;
     let mut sum = 0;
-    while t < n {
-        sum += equal(handler(file, e, t), h);
-        t += 1;
+    for t in 0..n {
+        sum += usize::from(handler(file, e, t) == h);
     }
     sum
 }
 
 // Whether track t has one sample entry.
-fn one_entry(file: &[u8], l: Lists, t: usize) -> usize
+fn one_entry(file: &[u8], l: Lists, t: usize) -> bool
     requires { ListsAt file.now l × (t < 4) }
-    ensures { result ≡ one_if (one_entry (track file.now t)) }
+    ensures { result ≡ one_entry (track file.now t) }
 {
     let s = entries::list_slot(l, t);
-    equal(s.n, 1)
+    s.n == 1
 }
 
 // Whether it has one if it is to have one.
-fn single(file: &[u8], e: Tracks, l: Lists, t: usize) -> usize
+#[tactic(auto, unfolding(crate::specs::Brands::single, wire::specs::Tests::if_eq))]
+fn single(file: &[u8], e: Tracks, l: Lists, t: usize) -> bool
     requires { TracksAt file.now e × ListsAt file.now l × (t < 4) }
-    ensures { result ≡ one_if (single_of (track file.now t)) }
+    ensures { result ≡ single_of (track file.now t) }
 {
-    let h = handler(file, e, t);
-    if h == codes::VIDE {
-        return one_entry(file, l, t);
+    match handler(file, e, t) {
+        codes::VIDE | codes::SOUN => one_entry(file, l, t),
+        _ => true,
     }
-    if h == codes::SOUN {
-        return one_entry(file, l, t);
-    }
-    1
 }
 
-fn all_single(file: &[u8], e: Tracks, l: Lists) -> usize
+fn all_single(file: &[u8], e: Tracks, l: Lists) -> bool
     requires { TracksAt file.now e × ListsAt file.now l × (tracks file.now ≤ 4) }
-    ensures { result ≡ one_if (single_to file.now (tracks file.now)) }
+    ensures { result ≡ single_to file.now (tracks file.now) }
 {
     let n = e.count;
-    let mut t = 0;
-    while t < n {
-        if single(file, e, l, t) == 0 {
-            return 0;
+    for t in 0..n {
+        if !single(file, e, l, t) {
+            return false;
         }
-        t += 1;
     }
-    1
+    true
 }
 
 // Whether track t has no `avc1` entry.
-fn no_avc1(file: &[u8], l: Lists, t: usize) -> usize
+fn no_avc1(file: &[u8], l: Lists, t: usize) -> bool
     requires { ListsAt file.now l × (t < 4) }
-    ensures { result ≡ one_if (no_avc1 (track file.now t)) }
+    ensures { result ≡ no_avc1 (track file.now t) }
 {
     let s = entries::list_slot(l, t);
-    equal(seek::count(gather::bytes(file, s), codes::AVC1), 0)
+    seek::count(gather::bytes(file, s), codes::AVC1) == 0
 }
 
-fn no_avc1_in(file: &[u8], l: Lists) -> usize
+fn no_avc1_in(file: &[u8], l: Lists) -> bool
     requires { ListsAt file.now l × (tracks file.now ≤ 4) }
-    ensures { result ≡ one_if (no_avc1_to file.now (tracks file.now)) }
+    ensures { result ≡ no_avc1_to file.now (tracks file.now) }
 {
     let n = l.tracks;
-    let mut t = 0;
-    while t < n {
-        if no_avc1(file, l, t) == 0 {
-            return 0;
+    for t in 0..n {
+        if !no_avc1(file, l, t) {
+            return false;
         }
-        t += 1;
     }
-    1
+    true
 }
 
 // What `3gp4`, `3gp5` and `3gp6` ask of the tracks.
-fn few(file: &[u8], e: Tracks, l: Lists) -> usize
+#[tactic(auto, unfolding(crate::specs::Brands::few, wire::specs::Clauses::every, wire::specs::Clauses::is_le))]
+fn few(file: &[u8], e: Tracks, l: Lists) -> bool
     requires { TracksAt file.now e × ListsAt file.now l × (tracks file.now ≤ 4) }
-    ensures { result ≡ one_if (few_of file.now) }
+    ensures { result ≡ few_of file.now }
 {
-    if 1 < handled(file, e, codes::VIDE) {
-        return 0;
-    }
-    if 1 < handled(file, e, codes::SOUN) {
-        return 0;
-    }
-    if 1 < handled(file, e, codes::TEXT) {
-        return 0;
-    }
-    all_single(file, e, l)
+    handled(file, e, codes::VIDE) <= 1
+        && handled(file, e, codes::SOUN) <= 1
+        && handled(file, e, codes::TEXT) <= 1
+        && all_single(file, e, l)
 }
 
 // What `3gp4` and `3gp5` ask besides.
-fn early(file: &[u8], l: Lists, few: usize) -> usize
-    requires { ListsAt file.now l × (tracks file.now ≤ 4) × (few ≡ one_if (few_of file.now)) }
-    ensures { result ≡ one_if (early_of file.now) }
+#[tactic(auto, unfolding(crate::specs::Brands::early, wire::specs::Clauses::every))]
+fn early(file: &[u8], l: Lists, few: bool) -> bool
+    requires { ListsAt file.now l × (tracks file.now ≤ 4) × (few ≡ few_of file.now) }
+    ensures { result ≡ early_of file.now }
 {
-    if few == 0 {
-        return 0;
-    }
-    no_avc1_in(file, l)
+    few && no_avc1_in(file, l)
 }
 
 // The code of the second box, 0 where there is none.
@@ -170,10 +143,11 @@ fn second(file: &[u8]) -> usize
 }
 
 // Whether `moov` is right after `ftyp`.
-fn ready(file: &[u8]) -> usize
-    ensures { result ≡ one_if (ready_of file.now) }
+#[tactic(auto, unfolding(crate::specs::Brands::ready, wire::specs::Clauses::is_eq))]
+fn ready(file: &[u8]) -> bool
+    ensures { result ≡ ready_of file.now }
 {
-    equal(second(file), codes::MOOV)
+    second(file) == codes::MOOV
 }
 
 // All of them.

@@ -4,7 +4,6 @@
 pub mod conditions;
 
 ghost use Rattle.std.specs.Prelude.{◌≡◌};
-ghost use Rattle.wire.specs.Clauses.{one_if};
 ghost use Rattle.codes.specs.Codes.{FTYP};
 ghost use Rattle.boxes.specs.Boxes.{boxes};
 ghost use Rattle.boxes.specs.Seek.{find};
@@ -33,45 +32,34 @@ fn beside(file: &[u8], o: Own, code: usize) -> bool
     }
 }
 
-// Whether a brand's own conditions hold: 1 or 0, and 0 for any other code.
-fn own(file: &[u8], o: Own, code: usize) -> usize
+// Whether a brand's own conditions hold; no other code is a brand.
+#[tactic(auto, unfolding(crate::specs::Brands::own_conditions, wire::specs::Tests::if_eq))]
+fn own(file: &[u8], o: Own, code: usize) -> bool
     requires { OwnAt file.now o }
-    ensures { result ≡ one_if (own_conditions code file.now) }
+    ensures { result ≡ own_conditions code file.now }
 {
-    if code == codes::GP4 {
-        return o.early;
+    match code {
+        codes::GP4 | codes::GP5 => o.early,
+        codes::GP6 => o.few,
+        codes::GR6 => o.ready,
+        _ => false,
     }
-    if code == codes::GP5 {
-        return o.early;
-    }
-    if code == codes::GP6 {
-        return o.few;
-    }
-    if code == codes::GR6 {
-        return o.ready;
-    }
-    0
 }
 
-// Whether a brand's answer is yes: 1 or 0.
-pub fn brand_holds(file: &[u8], o: Own, code: usize) -> usize
+// Whether a brand's answer is yes.
+#[tactic(auto, unfolding(crate::specs::Brands::brand_holds, wire::specs::Clauses::every))]
+pub fn brand_holds(file: &[u8], o: Own, code: usize) -> bool
     requires { OwnAt file.now o }
-    ensures { result ≡ one_if (brand_holds code file.now) }
+    ensures { result ≡ brand_holds code file.now }
 {
     let ftyp = boxes::seek::payload(file, codes::FTYP, 0);
-    if !compatible::listed(ftyp, code) {
-        return 0;
-    }
-    if !beside(file, o, code) {
-        return 0;
-    }
-    own(file, o, code)
+    compatible::listed(ftyp, code) && beside(file, o, code) && own(file, o, code)
 }
 
 // The same of an accepted file, looked at for this alone.
-fn brand_of(file: &[u8], e: Tracks, code: usize) -> usize
+fn brand_of(file: &[u8], e: Tracks, code: usize) -> bool
     requires { Meets file.now × TracksAt file.now e }
-    ensures { result ≡ one_if (brand_holds code file.now) }
+    ensures { result ≡ brand_holds code file.now }
 {
     let l = entries::lay(file, e);
     brand_holds(file, conditions::asked(file, e, l), code)
@@ -82,5 +70,5 @@ pub fn brand(file: &[u8], code: usize) -> Answer
     ensures { result ≡ brand_answer file.now code }
 {
     let tracks = judge::judge_tracks(file)?;
-    Ok(brand_of(file, tracks, code))
+    Ok(usize::from(brand_of(file, tracks, code)))
 }

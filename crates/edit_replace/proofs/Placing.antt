@@ -2,9 +2,9 @@
 use Rattle.std.specs.Prelude.{Option, None}
 use Prim.Native.Nat.{ℕ, ◌-◌}
 use mathlib.Core.Path.{◌≡◌, refl, sym, ap, subst, ◌∙◌}
+use mathlib.Core.Bool.{false}
 use mathlib.Core.List.{List, ◌++◌}
 use Rattle.wire.specs.Tests.{if_eq}
-use Rattle.wire.specs.Clauses.{one_if}
 use Rattle.wire.specs.Numbers.{Bytes, word}
 use Rattle.wire.proofs.Tests.{eq_nay}
 use Rattle.codes.specs.Codes.{MOOV, TRAK}
@@ -30,7 +30,7 @@ use Rattle.movie.proofs.Spots.{bytes_at_lem}
 use Rattle.entry_heads.specs.Kinds.{kind_of}
 use Rattle.entry_heads.specs.Heads.{head_size}
 use Rattle.rule.specs.Results.{Exact}
-use Rattle.rule.proofs.Results.{test_nay}
+use Rattle.rule.proofs.Results.{test_not}
 use Rattle.judge.specs.Acceptance.{Meets}
 use Rattle.edit_offsets.specs.Close.{shut_at, closed}
 use Rattle.edit_offsets.specs.Settle.{settled}
@@ -99,13 +99,13 @@ module _ (xs : List ℕ) (i : ℕ) (new : List ℕ) {b : BoxAt} (c : Cut xs MOOV
 
   -- ---- there is none
 
-  none_takes : 0 ≡ kind_at xs i → 0 ≡ one_if (takes (kind_at xs i) new)
+  none_takes : 0 ≡ kind_at xs i → takes (kind_at xs i) new ≡ false
   unfolding record_code if_eq
   none_takes e = rw (← e) (takes_none 0 new {code = 0} refl refl)
 
   pub none_exact : 0 ≡ kind_at xs i → (out : List ℕ) → Exact (entry_result xs i new) out (Refused 20 0) out
   unfolding entry_result
-  none_exact e out = test_nay 20 _ _ _ out (none_takes e) refl
+  none_exact e out = test_not 20 _ _ _ out (none_takes e)
 
   pub nowhere_exact : (r : Option Place) → FoundAs (payload xs b) (i - 1) r → r ≡ None → (out : List ℕ) → Exact (entry_result xs i new) out (Refused 20 0) out
   unfolding FoundAs

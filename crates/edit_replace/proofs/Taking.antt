@@ -1,16 +1,15 @@
 -- The kind of an entry, and whether it takes a record. Assumes nothing.
-use Prim.Native.Nat.{ℕ, ◌-◌, ◌≤◌, ◌<◌}
+use Prim.Native.Nat.{ℕ, ◌-◌, ◌≤◌}
 use native.Mathlib.Omega.{arith}
 use mathlib.Core.Path.{◌≡◌, refl, sym, ap, ◌∙◌}
-use mathlib.Core.Bool.{true}
+use mathlib.Core.Bool.{true, false}
 use mathlib.Core.List.{List, [], ◌++◌, append_assoc}
 use lib.ListN.{length}
 use Rattle.wire.specs.Tests.{if_eq}
-use Rattle.wire.specs.Clauses.{one_if}
 use Rattle.wire.specs.Numbers.{bytes, word}
-use Rattle.wire.proofs.Clauses.{is_eq_lem, not_eq, is_lt_lem, not_lt, fails, holds, done, yea, nay}
+use Rattle.wire.proofs.Clauses.{not_lt, fails}
 use Rattle.wire.proofs.Numbers.{length_bytes_lem, word_out, word_right, word_bytes}
-use Rattle.wire.proofs.Tests.{eq_yea, eq_nay, lt_yea, lt_nay, eq_or}
+use Rattle.wire.proofs.Tests.{eq_yea, eq_nay, eq_or}
 use Rattle.boxes.specs.Box.{Box, field_of, more_of, size, header}
 use Rattle.boxes.proofs.Whole.{Good}
 use Rattle.movie.specs.Entries.{entries}
@@ -59,19 +58,6 @@ record_first xs i release kind new k e = eq_or i 0 (λ z. absurd (omega (arith, 
 -- ---- whether a kind takes a record
 
 module _ (kind : ℕ) (new : List ℕ) {code : ℕ} (e : code ≡ record_code kind) where
-  pub takes_none : code ≡ 0 → 0 ≡ one_if (takes kind new)
+  pub takes_none : code ≡ 0 → takes kind new ≡ false
   unfolding takes
-  takes_none z = nay _ (fails 0 _ (not_lt _ _ (omega arith)))
-
-  module _ (z : code ≡ 0 → ⊥) where
-    pub takes_short : length new < 8 → 1 ≡ one_if (takes kind new)
-    unfolding takes
-    takes_short h = yea _ (holds _ _ (is_lt_lem _ _ (omega arith)) (holds _ _ (sym (lt_yea _ _ _ _ _ h refl)) done))
-
-    pub takes_code : 8 ≤ length new → {r : ℕ} → r ≡ word 4 new 4 → r ≡ code → 1 ≡ one_if (takes kind new)
-    unfolding takes
-    takes_code h q s = yea _ (holds _ _ (is_lt_lem _ _ (omega arith)) (holds _ _ (sym (lt_nay _ _ _ _ _ h (sym (is_eq_lem _ _ (sym q ∙ s ∙ e))))) done))
-
-    pub takes_other : 8 ≤ length new → {r : ℕ} → r ≡ word 4 new 4 → (r ≡ code → ⊥) → 0 ≡ one_if (takes kind new)
-    unfolding takes
-    takes_other h q s = nay _ (fails 1 _ (sym (lt_nay _ _ _ _ _ h (sym (not_eq _ _ (λ u. s (q ∙ u ∙ sym e)))))))
+  takes_none z = sym (fails 0 _ (not_lt _ _ (omega arith)))

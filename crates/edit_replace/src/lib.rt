@@ -46,7 +46,7 @@ fn replace_entry(file: &[u8], b: BoxAt, p: Place, new: &[u8], out: &mut [u8]) ->
     ensures { Exact (place_result file.now b p (kind_of p.entry.code) new.now) out.old result out.new }
 {
     let kind = kind::of_code(p.entry.code);
-    if record::takes(kind, new) == 0 {
+    if !record::takes(kind, new) {
         return Err(refusals::NO_SUCH);
     }
     if !decoder::record_rule(kind, release::of_file(file), new) {

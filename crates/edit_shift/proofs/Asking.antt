@@ -2,14 +2,12 @@
 use Prim.Native.Nat.{ℕ, ◌+◌}
 use native.Mathlib.Omega.{arith}
 use mathlib.Core.Path.{◌≡◌, refl, sym, ap, ◌∙◌}
-use mathlib.Core.Bool.{Bool, true}
+use mathlib.Core.Bool.{Bool, true, false}
 use mathlib.Core.List.{List}
 use Rattle.codes.specs.Codes.{TRAK, MOOV}
 use Rattle.wire.specs.Numbers.{Bytes}
 use Rattle.wire.specs.Sums.{all_to}
-use Rattle.wire.specs.Clauses.{one_if}
 use Rattle.wire.proofs.Sums.{all_none, all_more, all_fails}
-use Rattle.wire.proofs.Clauses.{was_yea, was_nay, yea, nay}
 use Rattle.wire.proofs.Tests.{eq_yea, eq_nay}
 use Rattle.boxes.specs.declared.walk.Walk.{Walk}
 use Rattle.boxes.specs.declared.walk.BoxAt.{BoxAt}
@@ -24,7 +22,7 @@ use Rattle.edit_shift.specs.Shift.{track_times, all_times}
 use Rattle.edit_shift.specs.Amount.{box_times, tracks_times, moov_times}
 
 -- the times of a file are those of its `moov`
-pub times_moov : (p : ℕ → Bool) (xs : List ℕ) {ys : List ℕ} {r : ℕ} → ys ≡ find MOOV (boxes xs) → r ≡ one_if (moov_times p ys) → r ≡ one_if (all_times p xs)
+pub times_moov : (p : ℕ → Bool) (xs : List ℕ) {ys : List ℕ} {r : Bool} → ys ≡ find MOOV (boxes xs) → r ≡ moov_times p ys → r ≡ all_times p xs
 unfolding all_times moov_times tracks_times track
 times_moov p xs e q = rw e at q
 
@@ -39,7 +37,7 @@ module _ (p : ℕ → Bool) {ys : List ℕ} where
   timely_none = record { t = 0; passed = passed_none ys TRAK; so_far = all_none _ }
 
   module _ {at : ℕ} (a : Timely p ys at) where
-    module _ (v : Bytes ys) {b : BoxAt} {w : Walk} (s : Ran ys at b w) {d : List ℕ} (e : d ≡ payload ys b) {i : ℕ} (g : i ≡ one_if (box_times p b.code d)) where
+    module _ (v : Bytes ys) {b : BoxAt} {w : Walk} (s : Ran ys at b w) {d : List ℕ} (e : d ≡ payload ys b) {i : Bool} (g : i ≡ box_times p b.code d) where
       -- a track is the next one
       cut : meant TRAK b.code ≡ 1 → Cut ys TRAK a.t b
       cut h = passed_cut a.passed v s refl (omega arith) (omega arith)
@@ -52,19 +50,19 @@ module _ (p : ℕ → Bool) {ys : List ℕ} where
       unfolding box_times
       other h = sym (eq_nay _ _ _ _ _ (λ z. omega (arith, meant_yes TRAK b.code (λ y. omega arith) z)) refl)
 
-      pub timely_more : (i ≡ 0 → ⊥) → Timely p ys w.at
+      pub timely_more : i ≡ true → Timely p ys w.at
       timely_more n =
           meant_or TRAK b.code
-          (λ h. record { t = a.t + 1; passed = passed_more a.passed v s (omega arith); so_far = all_more _ a.t a.so_far (sym (this h) ∙ was_yea _ _ n g) })
+          (λ h. record { t = a.t + 1; passed = passed_more a.passed v s (omega arith); so_far = all_more _ a.t a.so_far (sym (this h) ∙ sym g ∙ n) })
           (λ h. record { t = a.t; passed = passed_more a.passed v s (omega arith); so_far = a.so_far })
 
-      pub timely_bad : i ≡ 0 → 0 ≡ one_if (tracks_times p ys)
+      pub timely_bad : i ≡ false → false ≡ tracks_times p ys
       unfolding tracks_times
       timely_bad n =
           meant_or TRAK b.code
-          (λ h. nay _ (sym (all_fails _ (count TRAK (boxes ys)) a.t (cut_some (cut h)) (sym (this h) ∙ was_nay _ _ n g))))
-          (λ h. absurd (omega (arith, g ∙ ap one_if (other h), yea true refl)))
+          (λ h. sym (all_fails _ (count TRAK (boxes ys)) a.t (cut_some (cut h)) (sym (this h) ∙ sym g ∙ n)))
+          (λ h. let z : true ≡ false = sym (other h) ∙ sym g ∙ n in absurd (let o : ◌≡◌ {A = ℕ} 0 1 = cc in omega arith))
 
-    pub timely_all : Over ys at → 1 ≡ one_if (tracks_times p ys)
+    pub timely_all : Over ys at → true ≡ tracks_times p ys
     unfolding tracks_times
-    timely_all o = yea _ (sym (ap (all_to (λ i. track_times p (nth TRAK i (boxes ys)))) (sym (passed_all a.passed o).0) ∙ a.so_far))
+    timely_all o = sym (ap (all_to (λ i. track_times p (nth TRAK i (boxes ys)))) (sym (passed_all a.passed o).0) ∙ a.so_far)

@@ -2,7 +2,6 @@
 #![tactic(auto)]
 
 ghost use Rattle.std.specs.Prelude.{◌≡◌, ◌++◌, ◌≤◌, length, drop};
-ghost use Rattle.wire.specs.Clauses.{one_if};
 ghost use Rattle.codes.specs.Codes.{MOOV};
 ghost use Rattle.boxes.specs.Seek.{Cut};
 ghost use Rattle.boxes.specs.Words.{moved, Small};
@@ -20,79 +19,66 @@ use clocks::Zone;
 use rule::{Answer, refusals};
 use wire::{number, pen};
 
-// Whether both times of a header may be shifted: 1 or 0.
-fn both(head: &[u8], zone: Zone) -> usize
+// Whether both times of a header may be shifted.
+#[tactic(auto, unfolding(crate::specs::Shift::both, wire::specs::Clauses::every))]
+fn both(head: &[u8], zone: Zone) -> bool
     requires { Near zone }
-    ensures { result ≡ one_if (both_of (leaves zone) head.now) }
+    ensures { result ≡ both_of (leaves zone) head.now }
 {
-    if !clocks::leaves(number::word32(head, 4), zone) {
-        return 0;
-    }
-    if !clocks::leaves(number::word32(head, 8), zone) {
-        return 0;
-    }
-    1
+    clocks::leaves(number::word32(head, 4), zone) && clocks::leaves(number::word32(head, 8), zone)
 }
 
 // Those of a track.
-fn track_times(track: &[u8], zone: Zone) -> usize
+#[tactic(auto, unfolding(crate::specs::Shift::track_times, wire::specs::Clauses::every))]
+fn track_times(track: &[u8], zone: Zone) -> bool
     requires { Near zone }
-    ensures { result ≡ one_if (track_times (leaves zone) track.now) }
+    ensures { result ≡ track_times (leaves zone) track.now }
 {
-    if both(seek::payload(track, codes::TKHD, 0), zone) == 0 {
-        return 0;
-    }
     let mdia = seek::payload(track, codes::MDIA, 0);
-    if both(seek::payload(mdia, codes::MDHD, 0), zone) == 0 {
-        return 0;
-    }
-    1
+    both(seek::payload(track, codes::TKHD, 0), zone)
+        && both(seek::payload(mdia, codes::MDHD, 0), zone)
 }
 
 // Those of a box of `moov`: only a track has any.
-fn box_times(code: usize, body: &[u8], zone: Zone) -> usize
+#[tactic(auto, unfolding(crate::specs::Amount::box_times, wire::specs::Tests::if_eq))]
+fn box_times(code: usize, body: &[u8], zone: Zone) -> bool
     requires { Near zone }
-    ensures { result ≡ one_if (box_times (leaves zone) code body.now) }
+    ensures { result ≡ box_times (leaves zone) code body.now }
 {
-    if code != codes::TRAK {
-        return 1;
-    }
-    track_times(body, zone)
+    code != codes::TRAK || track_times(body, zone)
 }
 
 // Those of all tracks of a `moov`.
-fn tracks_times(moov: &[u8], zone: Zone) -> usize
+fn tracks_times(moov: &[u8], zone: Zone) -> bool
     requires { Near zone }
-    ensures { result ≡ one_if (tracks_times (leaves zone) moov.now) }
+    ensures { result ≡ tracks_times (leaves zone) moov.now }
 {
     let mut w = Walk { at: 0 };
     loop {
         match w.step(moov) {
             Step::Found(b, next) => {
-                if box_times(b.code, walk::body(moov, b), zone) == 0 {
-                    return 0;
+                if !box_times(b.code, walk::body(moov, b), zone) {
+                    return false;
                 }
                 w = next;
             }
             Step::End => {
-                return 1;
+                return true;
             }
             Step::Broken(_) => {
-                return 1;
+                return true;
             }
         }
     }
 }
 
 // Those of a file, by its `moov`.
-fn all_times(moov: &[u8], zone: Zone) -> usize
+#[tactic(auto, unfolding(crate::specs::Amount::moov_times, wire::specs::Clauses::every))]
+fn all_times(moov: &[u8], zone: Zone) -> bool
     requires { Near zone }
-    ensures { result ≡ one_if (moov_times (leaves zone) moov.now) }
+    ensures { result ≡ moov_times (leaves zone) moov.now }
 {
-    if both(seek::payload(moov, codes::MVHD, 0), zone) == 0 {
-        return 0;
-    }
-    tracks_times(moov, zone)
+    both(seek::payload(moov, codes::MVHD, 0), zone) && tracks_times(moov, zone)
 }
 
 // The two times of a kind of header.
@@ -133,7 +119,7 @@ fn shift_by(file: &[u8], b: BoxAt, zone: Zone, out: &mut [u8]) -> Answer
     requires { (Near zone) × (Meets file.now) × (Cut file.now MOOV 0 b) }
     ensures { Exact (zone_result zone file.now) out.old result out.new }
 {
-    if all_times(walk::body(file, b), zone) == 0 {
+    if !all_times(walk::body(file, b), zone) {
         return Err(refusals::BAD_TIME);
     }
     if judge::editable(file) == 0 {

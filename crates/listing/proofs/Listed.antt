@@ -4,6 +4,7 @@ use Prim.Native.Nat.{ℕ, ◌+◌, ◌-◌, ◌≤◌, ◌<◌}
 use native.Mathlib.Omega.{arith}
 use native.Mathlib.Numerals.{add-one}
 use mathlib.Core.Path.{◌≡◌, refl, sym, ◌∙◌}
+use mathlib.Core.Bool.{Bool}
 use mathlib.Core.List.{List, [], ◌∷◌, ◌++◌}
 use lib.ListN.{length, take, drop, length-take, length-drop, drop_of_length-le}
 use lib.Seq.{drop-drop}
@@ -100,6 +101,6 @@ module _ (es : List Entry) (out₀ : List ℕ) (from : ℕ) where
 
 -- ---- brands
 
-pub brand_line_lem : (code : ℕ) (xs : List ℕ) {k : ℕ} → k ≡ one_if (brand_holds code xs) → {out after : List ℕ} {at r : ℕ} → Put (brand_line code k) out at r after → Put (brand_of code xs) out at r after
+pub brand_line_lem : (code : ℕ) (xs : List ℕ) {k : Bool} → k ≡ brand_holds code xs → {out after : List ℕ} {at r : ℕ} → Put (brand_line code (one_if k)) out at r after → Put (brand_of code xs) out at r after
 unfolding brand_of
 brand_line_lem code xs e p = rw e at p

@@ -11,7 +11,6 @@ use Rattle.judge.specs.Judgement.{judged, Judgement, Accepted}
 use Rattle.read_tracks.specs.Reads.{media_of}
 use Rattle.brands.specs.Brands.{brand_holds}
 use Rattle.listing.specs.Lines.{track_line, entry_line, brand_line, refused_line}
-use Rattle.rule.specs.Answers.{Refused}
 
 -- the line of track t, whose payload is b
 unfoldable pub line_of : ℕ → List ℕ → List ℕ

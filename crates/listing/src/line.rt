@@ -1,5 +1,6 @@
 // Writers of one line and its parts. Each answers the place past its text, fit or not.
 ghost use Rattle.std.specs.Prelude.{◌+◌, ◌^◌, ◌≤◌, ◌<◌, length};
+ghost use Rattle.wire.specs.Clauses.{one_if};
 ghost use Rattle.wire.specs.Writing.{Put};
 ghost use Rattle.listing.specs.Lines.{handler_text, code_text, track_line, entry_named, entry_placed, yes_text, brand_line, refused_line};
 
@@ -79,20 +80,20 @@ pub fn put_placed(out: &mut [u8], at: usize, place: usize, span: usize) -> usize
 }
 
 // The end of a brand's line.
-fn put_yes(out: &mut [u8], at: usize, k: usize) -> usize
+fn put_yes(out: &mut [u8], at: usize, k: bool) -> usize
     requires { at < 2 ^ 62 }
-    ensures { Put (yes_text k) out.old at result out.new × (result ≤ at + 5) }
+    ensures { Put (yes_text (one_if k)) out.old at result out.new × (result ≤ at + 5) }
 {
-    if k == 0 {
-        return pen::put_part(out, at, b" no\n");
+    if k {
+        return pen::put_part(out, at, b" yes\n");
     }
-    pen::put_part(out, at, b" yes\n")
+    pen::put_part(out, at, b" no\n")
 }
 
 // A brand's line.
-pub fn put_brand(out: &mut [u8], at: usize, code: usize, k: usize) -> usize
+pub fn put_brand(out: &mut [u8], at: usize, code: usize, k: bool) -> usize
     requires { at < 2 ^ 61 }
-    ensures { Put (brand_line code k) out.old at result out.new × (result ≤ at + 15) }
+    ensures { Put (brand_line code (one_if k)) out.old at result out.new × (result ≤ at + 15) }
 {
     let a = pen::put_part(out, at, b"brand ");
     let b = pen::put_number(out, a, 4, code);

@@ -40,10 +40,8 @@ fn put_tracks(out: &mut [u8], from: usize, file: &[u8], e: Tracks) -> usize
 {
     let n = e.count;
     let mut at = from;
-    let mut t = 0;
-    while t < n {
+    for t in 0..n {
         at = put_track(out, at, file, e, t);
-        t += 1;
     }
     at
 }
@@ -86,10 +84,8 @@ fn put_entries(out: &mut [u8], from: usize, file: &[u8], l: Lists) -> usize
 {
     let n = entries::count(file, l);
     let mut at = from;
-    let mut i = 0;
-    while i < n {
+    for i in 0..n {
         at = put_entry(out, at, file, l, i);
-        i += 1;
     }
     at
 }

@@ -1,56 +1,21 @@
--- The bits of a mode set, and those of the types of frames. Assumes nothing.
-use Prim.Native.Nat.{ℕ, ◌+◌, ◌-◌, ◌/◌, ◌%◌, ◌^◌, ◌≤◌, ◌<◌}
+-- The bits of the types of frames. Assumes nothing.
+use Prim.Native.Nat.{ℕ, ◌+◌, ◌-◌, ◌/◌, ◌%◌, ◌≤◌, ◌<◌}
 use native.Mathlib.Omega.{arith}
 use mathlib.Core.Path.{◌≡◌, refl, sym, ◌∙◌}
 use mathlib.Core.Bool.{Bool, true, false}
-use mathlib.Core.List.{List, [], ◌∷◌}
+use mathlib.Core.List.{List}
 use lib.ListN.{length, get_or, take, drop}
 use lib.Seq.{drop-drop}
 use Rattle.std.specs.declared.option.Option.{Option}
 use Rattle.std.specs.declared.option.Option.TheVariants.{Some, None}
 use Rattle.wire.specs.Tests.{pick}
-use Rattle.wire.specs.Clauses.{is_eq, is_le, every, one_if}
-use Rattle.wire.proofs.Tests.{eq_yea, eq_nay}
-use Rattle.wire.proofs.Clauses.{is_eq_lem, not_eq, eq_is, le_is, clause, yea, nay, was_yea, was_nay}
 use Rattle.frames.specs.declared.codec.Codec.{Codec}
 use Rattle.frames.specs.Frames.{type_of, frame_size, good, frames}
-use Rattle.frames.proofs.Entries.{each, at}
 use Rattle.frames.proofs.Fronts.{size_least}
 use Rattle.frames.proofs.Answers.{front_was, front_was_none}
 use Rattle.frames.proofs.Runs.{frames_stop, frames_next}
 use Rattle.frames.proofs.Reading.{type_next, next_inside}
 use Rattle.modes.specs.Sample.{bit_set, all_set}
-
--- ---- one bit
-
--- the powers, as the code has them
-abbrev pub powers : List ℕ
-powers = 1 ∷ 2 ∷ 4 ∷ 8 ∷ 16 ∷ 32 ∷ 64 ∷ 128 ∷ 256 ∷ 512 ∷ 1024 ∷ 2048 ∷ 4096 ∷ 8192 ∷ 16384 ∷ 32768 ∷ []
-
-right : ℕ → ℕ → Bool
-right t x = every (is_eq x (2 ^ t) ∷ is_le 1 x ∷ [])
-
-tested : each right 0 powers ≡ true
-unfolding right every is_eq is_le
-tested = refl
-
-pub power_is : (t : ℕ) → t < 16 → (get_or powers t 0 ≡ 2 ^ t) × (1 ≤ get_or powers t 0)
-unfolding right
-power_is t h = let e = at right powers tested t h in (eq_is (get_or powers t 0) (2 ^ t) (clause 0 _ e), le_is 1 (get_or powers t 0) (clause 1 _ e))
-
-module _ (modes t : ℕ) where
-  pub bit_exempt : t ≡ 14 → 1 ≡ one_if (bit_set modes t)
-  unfolding bit_set
-  bit_exempt e = yea _ (eq_yea _ _ _ _ _ e refl)
-
-  module _ (h : t < 16) (e : t ≡ 14 → ⊥) where
-    pub bit_not : (modes / get_or powers t 0 % 2 ≡ 1 → ⊥) → 0 ≡ one_if (bit_set modes t)
-    unfolding bit_set
-    bit_not f = nay _ (eq_nay _ _ _ _ _ e (sym (not_eq _ _ (rw (power_is t h).0 at f))))
-
-    pub bit_there : modes / get_or powers t 0 % 2 ≡ 1 → 1 ≡ one_if (bit_set modes t)
-    unfolding bit_set
-    bit_there f = yea _ (eq_nay _ _ _ _ _ e (sym (is_eq_lem _ _ (rw (power_is t h).0 at f))))
 
 -- ---- the loop over the frames
 
@@ -65,11 +30,11 @@ setting_none modes k xs = record { same = refl; inside = omega arith }
 module _ {modes : ℕ} {k : Codec} {xs : List ℕ} {at : ℕ} (s : Setting modes k xs at) (ys : List ℕ) (o : Option ℕ) (y : ys ≡ drop at xs)
     (f : o ≡ pick (good k ys) (Some (frame_size k ys)) None) where
   -- no frame more
-  pub setting_all : o ≡ None → 1 ≡ one_if (all_set modes (frames k xs))
+  pub setting_all : o ≡ None → true ≡ all_set modes (frames k xs)
   unfolding all_set
   setting_all z =
       let g = front_was_none (good k (drop at xs)) (frame_size k (drop at xs)) o (rw y at f) z in
-      yea _ (sym (s.same ∙ rw (frames_stop k (drop at xs) g)))
+      sym (s.same ∙ rw (frames_stop k (drop at xs) g))
 
   module _ {size : ℕ} (z : o ≡ Some size) where
     was : (good k (drop at xs) ≡ true) × (size ≡ frame_size k (drop at xs))
@@ -89,9 +54,9 @@ module _ {modes : ℕ} {k : Codec} {xs : List ℕ} {at : ℕ} (s : Setting modes
         let t : type_of (take (frame_size k (drop at xs)) (drop at xs)) ≡ h / 8 % 16 = rw (was z).1 at (sym n) in
         s.same ∙ rw (frames_next k (drop at xs) (was z).0, t, d)
 
-    module _ {i : ℕ} (b : i ≡ one_if (bit_set modes (h / 8 % 16))) where
-      pub setting_not : i ≡ 0 → 0 ≡ one_if (all_set modes (frames k xs))
-      setting_not w = nay _ (sym (next ∙ rw (was_nay _ _ w b)))
+    module _ {i : Bool} (b : i ≡ bit_set modes (h / 8 % 16)) where
+      pub setting_not : i ≡ false → false ≡ all_set modes (frames k xs)
+      setting_not w = sym (next ∙ rw (sym b ∙ w))
 
-      pub setting_more : (i ≡ 0 → ⊥) → Setting modes k xs (at + size)
-      setting_more w = record { same = next ∙ rw (was_yea _ _ w b); inside = next_inside k xs at size (was z).0 (was z).1 s.inside }
+      pub setting_more : i ≡ true → Setting modes k xs (at + size)
+      setting_more w = record { same = next ∙ rw (sym b ∙ w); inside = next_inside k xs at size (was z).0 (was z).1 s.inside }

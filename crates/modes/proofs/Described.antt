@@ -6,11 +6,13 @@ use mathlib.Core.Bool.{Bool, true, false}
 use mathlib.Core.List.{List, [], ◌∷◌, ◌++◌}
 use mathlib.Core.Logic.{◌⊎◌, inl, inr, ⊎_elim}
 use lib.ListN.{length, get_or, take, drop}
+use lib.Dec.{leb}
+use borrow.Author.Tests.{le-leb, lt-leb}
 use Rattle.wire.specs.Numbers.{Bytes, word}
-use Rattle.wire.specs.Clauses.{is_eq, either, one_if}
+use Rattle.wire.specs.Clauses.{is_eq, either}
 use Rattle.wire.proofs.Numbers.{word_byte}
 use Rattle.wire.proofs.Tests.{eq_or, eq_yea, eq_nay}
-use Rattle.wire.proofs.Clauses.{is_eq_lem, not_eq, one, none, lacks, yea, nay}
+use Rattle.wire.proofs.Clauses.{is_eq_lem, not_eq, one, none, lacks}
 use Rattle.codes.specs.Codes.{SAMR, SAWB}
 use Rattle.boxes.specs.declared.walk.BoxAt.{BoxAt}
 use Rattle.boxes.specs.Box.{Box, header}
@@ -61,11 +63,8 @@ of_all (x ∷ l) =
     (of_code x.code)
 
 module _ (l : List Box) {a b n : ℕ} (e : a ≡ count SAMR l) (f : b ≡ count SAWB l) (g : n ≡ count ANY l) where
-  pub only_not : a + b < n → 0 ≡ one_if (speech_only l)
-  only_not h = nay _ (sym (⊎_elim (λ c. absurd (omega (arith, c.1))) (λ c. c.0) (of_all l)))
-
-  pub only_so : n ≤ a + b → 1 ≡ one_if (speech_only l)
-  only_so h = yea _ (sym (⊎_elim (λ c. c.0) (λ c. absurd (omega (arith, c.1))) (of_all l)))
+  pub only_is : leb n (a + b) ≡ speech_only l
+  only_is = ⊎_elim (λ c. rw c.0 (le-leb _ _ (omega (arith, c.1)))) (λ c. rw c.0 (lt-leb _ _ (omega (arith, c.1)))) (of_all l)
 
 -- ---- entry n
 

@@ -1,9 +1,9 @@
 -- A track as it is found in a file: its entries, and its first sample that fails. Assumes nothing.
 use Prim.Native.Nat.{ℕ}
 use mathlib.Core.Path.{◌≡◌, ap, ◌∙◌}
+use mathlib.Core.Bool.{Bool}
 use mathlib.Core.List.{List}
 use lib.ListN.{drop}
-use Rattle.wire.specs.Clauses.{one_if}
 use Rattle.codes.specs.Codes.{STSC, STSZ, STCO}
 use Rattle.boxes.specs.Boxes.{FRONT, boxes}
 use Rattle.movie.specs.Movie.{sample_table}
@@ -24,7 +24,7 @@ laid_list l e f = f ∙ ap (drop FRONT) (e ∙ l.stsd.is)
 
 -- of the track with payload b
 module _ (b : List ℕ) {list : List ℕ} (e : list ≡ list_in b) where
-  pub found_only : {i : ℕ} → i ≡ one_if (speech_only (boxes list)) → i ≡ one_if (speech_only (boxes (list_in b)))
+  pub found_only : {i : Bool} → i ≡ speech_only (boxes list) → i ≡ speech_only (boxes (list_in b))
   found_only o = rw e at o
 
   module _ (xs : List ℕ) {stsc stsz stco : List ℕ} (g : stsc ≡ sample_table STSC b) (h : stsz ≡ sample_table STSZ b) (i : stco ≡ sample_table STCO b) where

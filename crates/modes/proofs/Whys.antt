@@ -5,9 +5,7 @@ use mathlib.Core.Path.{◌≡◌, refl, sym, ◌∙◌}
 use mathlib.Core.Bool.{Bool, true, false}
 use mathlib.Core.List.{List, [], ◌∷◌}
 use lib.ListN.{length, length-drop}
-use Rattle.wire.specs.Clauses.{one_if}
-use Rattle.wire.proofs.Tests.{eq_yea, eq_nay}
-use Rattle.wire.proofs.Clauses.{is_eq_lem, not_eq, is_le_lem, not_le, fails, holds, done, yea, nay, was_yea, was_nay}
+use Rattle.wire.proofs.Clauses.{is_eq_lem, not_eq}
 use Rattle.frames.specs.declared.codec.Codec.{Codec}
 use Rattle.frames.specs.declared.run.Run.{Run}
 use Rattle.frames.specs.Frames.{frames_to, frames, joined, rest}
@@ -49,31 +47,6 @@ module _ (k : Codec) (xs : List ℕ) {r : Run} (u : RunOf (frames_to (length xs)
   unfolding whole_frames
   run_whole h = is_eq_lem _ _ (omega (arith, rest_length))
 
--- ---- how many
-
-module _ (most left n : ℕ) where
-  pub fits_none : n < 1 → 0 ≡ one_if (count_fits most left n)
-  unfolding count_fits
-  fits_none h = nay _ (fails 0 _ (not_le _ _ h))
-
-  module _ (h : 1 ≤ n) (z : left ≡ 0) where
-    pub fits_over : most < n → 0 ≡ one_if (count_fits most left n)
-    unfolding count_fits
-    fits_over l = nay _ (fails 1 _ (sym (eq_yea _ _ _ _ _ z (sym (not_le _ _ l)))))
-
-    pub fits_last : n ≤ most → 1 ≡ one_if (count_fits most left n)
-    unfolding count_fits
-    fits_last l = yea _ (holds _ _ (is_le_lem _ _ h) (holds _ _ (sym (eq_yea _ _ _ _ _ z (sym (is_le_lem _ _ l)))) done))
-
-  module _ (h : 1 ≤ n) (z : left ≡ 0 → ⊥) where
-    pub fits_other : (n ≡ most → ⊥) → 0 ≡ one_if (count_fits most left n)
-    unfolding count_fits
-    fits_other l = nay _ (fails 1 _ (sym (eq_nay _ _ _ _ _ z (sym (not_eq _ _ l)))))
-
-    pub fits_all : n ≡ most → 1 ≡ one_if (count_fits most left n)
-    unfolding count_fits
-    fits_all l = yea _ (holds _ _ (is_le_lem _ _ h) (holds _ _ (sym (eq_nay _ _ _ _ _ z (sym (is_eq_lem _ _ l)))) done))
-
 -- ---- all of it
 
 module _ (d : Speech) (left : ℕ) (xs : List ℕ) {r : Run} (u : RunOf (frames_to (length xs) d.codec xs) r) where
@@ -81,21 +54,21 @@ module _ (d : Speech) (left : ℕ) (xs : List ℕ) {r : Run} (u : RunOf (frames_
   unfolding why
   why_torn h = first_not_lem 1 _ _ (run_torn d.codec xs u h)
 
-  module _ (h : length xs ≤ r.bytes) {i : ℕ} (e : i ≡ one_if (count_fits d.frames left r.count)) where
-    counted : i ≡ one_if (count_fits d.frames left (length (frames d.codec xs)))
+  module _ (h : length xs ≤ r.bytes) {i : Bool} (e : i ≡ count_fits d.frames left r.count) where
+    counted : i ≡ count_fits d.frames left (length (frames d.codec xs))
     counted = rw (run_count d.codec xs u) at e
 
-    pub why_count : i ≡ 0 → 2 ≡ why d left xs
+    pub why_count : i ≡ false → 2 ≡ why d left xs
     unfolding why
-    why_count z = later 1 _ _ (run_whole d.codec xs u h) (first_not_lem 2 _ _ (was_nay _ _ z counted))
+    why_count z = later 1 _ _ (run_whole d.codec xs u h) (first_not_lem 2 _ _ (sym counted ∙ z))
 
-    module _ (z : i ≡ 0 → ⊥) {j : ℕ} (f : j ≡ one_if (all_set d.modes (frames d.codec xs))) where
+    module _ (z : i ≡ true) {j : Bool} (f : j ≡ all_set d.modes (frames d.codec xs)) where
       past_two : {n : ℕ} → n ≡ first_not ((3, all_set d.modes (frames d.codec xs)) ∷ []) → n ≡ why d left xs
       unfolding why
-      past_two e = later 1 _ _ (run_whole d.codec xs u h) (later 2 _ _ (was_yea _ _ z counted) e)
+      past_two e = later 1 _ _ (run_whole d.codec xs u h) (later 2 _ _ (sym counted ∙ z) e)
 
-      pub why_bits : j ≡ 0 → 3 ≡ why d left xs
-      why_bits y = past_two (first_not_lem 3 _ _ (was_nay _ _ y f))
+      pub why_bits : j ≡ false → 3 ≡ why d left xs
+      why_bits y = past_two (first_not_lem 3 _ _ (sym f ∙ y))
 
-      pub why_none : (j ≡ 0 → ⊥) → 0 ≡ why d left xs
-      why_none y = past_two (later 3 _ _ (was_yea _ _ y f) no_more)
+      pub why_none : j ≡ true → 0 ≡ why d left xs
+      why_none y = past_two (later 3 _ _ (sym f ∙ y) no_more)

@@ -89,7 +89,7 @@ fn modes_in(file: &[u8], track: usize, out: &mut [u64]) -> Answer
     let stsz = k.stsz;
     let stco = k.stco;
     let list = lend::rest(gather::bytes(file, stsd), walk::FRONT);
-    if speech::only(list) == 0 {
+    if !speech::only(list) {
         return Err(refusals::NO_SUCH);
     }
     let f = first_failing(

@@ -1,6 +1,5 @@
 // What the entry of a `samr` or a `sawb` says of its samples.
 ghost use Rattle.std.specs.Prelude.{◌≡◌};
-ghost use Rattle.wire.specs.Clauses.{one_if};
 ghost use Rattle.boxes.specs.Boxes.{boxes};
 ghost use Rattle.modes.specs.Sample.{codec_of, speech_of};
 ghost use Rattle.modes.specs.Track.{entry_bytes, speech_only};
@@ -18,16 +17,11 @@ pub struct Speech {
     pub frames: usize,
 }
 
-// Whether every entry of a list is a `samr` or a `sawb`: 1 or 0.
-pub fn only(list: &[u8]) -> usize
-    ensures { result ≡ one_if (speech_only (boxes list.now)) }
+// Whether every entry of a list is a `samr` or a `sawb`.
+pub fn only(list: &[u8]) -> bool
+    ensures { result ≡ speech_only (boxes list.now) }
 {
-    if seek::count(list, codes::SAMR) + seek::count(list, codes::SAWB)
-        < seek::count(list, seek::ANY)
-    {
-        return 0;
-    }
-    1
+    seek::count(list, seek::ANY) <= seek::count(list, codes::SAMR) + seek::count(list, codes::SAWB)
 }
 
 // The codec of an entry.

@@ -1,13 +1,13 @@
 -- Laws of printed lines. Assumes nothing.
 use Prim.Native.Nat.{ℕ, zero, suc, ◌-◌, ◌/◌, ◌%◌}
 use native.Mathlib.Omega.{arith}
-use mathlib.Core.Path.{◌≡◌, refl, sym}
+use mathlib.Core.Path.{◌≡◌, refl, sym, ◌∙◌}
+use mathlib.Core.Bool.{Bool, true, false}
 use mathlib.Core.List.{List, [], ◌∷◌, ◌++◌, map, append_assoc, append-nil}
-use Rattle.wire.specs.Clauses.{every, one_if}
+use Rattle.wire.specs.Clauses.{every}
 use Rattle.wire.specs.Numbers.{bytes}
 use Rattle.wire.specs.Text.{text}
 use Rattle.wire.specs.Writing.{Put}
-use Rattle.wire.proofs.Clauses.{was_yea, was_nay}
 use Rattle.wire.proofs.Writing.{pen_none, pen_then}
 use Rattle.outline.specs.Lines.{Line, prints, digit, hex, code_printed, line_text, printed}
 
@@ -25,14 +25,14 @@ hex_more (suc w) n z p e q = let s : suc w - 1 ≡ w = omega arith in pen_then (
 
 -- ---- a code
 
-module _ (c : ℕ) {i : ℕ} (e : i ≡ one_if (every (map prints (bytes 4 c)))) where
-  pub code_stands : (i ≡ 0 → ⊥) → bytes 4 c ≡ code_printed c
+module _ (c : ℕ) {i : Bool} (e : i ≡ every (map prints (bytes 4 c))) where
+  pub code_stands : i ≡ true → bytes 4 c ≡ code_printed c
   unfolding code_printed
-  code_stands z = rw (was_yea _ i z e)
+  code_stands z = rw (sym e ∙ z)
 
-  pub code_hex : i ≡ 0 → text "0x" ++ hex 8 c ≡ code_printed c
+  pub code_hex : i ≡ false → text "0x" ++ hex 8 c ≡ code_printed c
   unfolding code_printed
-  code_hex z = rw (was_nay _ i z e)
+  code_hex z = rw (sym e ∙ z)
 
 -- ---- a line alone, and one list of lines after another
 

@@ -1,6 +1,6 @@
 // Writers of one line and its parts. Each answers the place past its text, fit or not.
 ghost use Rattle.std.specs.Prelude.{◌≡◌, ◌+◌, ◌^◌, ◌≤◌, ◌<◌, map};
-ghost use Rattle.wire.specs.Clauses.{one_if, every};
+ghost use Rattle.wire.specs.Clauses.{every};
 ghost use Rattle.wire.specs.Numbers.{bytes};
 ghost use Rattle.wire.specs.Writing.{Put};
 ghost use Rattle.outline.specs.Lines.{prints as prints_of, digit as digit_of, hex, code_printed, box_text, broken_text};
@@ -8,33 +8,23 @@ ghost use Rattle.outline.specs.Lines.{prints as prints_of, digit as digit_of, he
 use decimal::put_labelled;
 use wire::pen;
 
-// Whether a byte prints as it is: 1 or 0.
-fn prints(b: usize) -> usize
-    ensures { result ≡ one_if (prints_of b) }
+// Whether a byte prints as it is.
+#[tactic(auto, unfolding(wire::specs::Clauses::every, wire::specs::Clauses::is_le))]
+fn prints(b: usize) -> bool
+    ensures { result ≡ prints_of b }
 {
-    if b < 0x20 {
-        return 0;
-    }
-    if 0x7E < b {
-        return 0;
-    }
-    1
+    0x20 <= b && b <= 0x7E
 }
 
-// Whether every byte of a code does: 1 or 0.
-fn all_print(c: usize) -> usize
-    ensures { result ≡ one_if (every (map prints_of (bytes 4 c))) }
+// Whether every byte of a code does.
+#[tactic(auto, unfolding(wire::specs::Clauses::every, wire::specs::Numbers::bytes, wire::specs::Numbers::bytes_on))]
+fn all_print(c: usize) -> bool
+    ensures { result ≡ every (map prints_of (bytes 4 c)) }
 {
-    if prints(c / 256 / 256 / 256 % 256) == 0 {
-        return 0;
-    }
-    if prints(c / 256 / 256 % 256) == 0 {
-        return 0;
-    }
-    if prints(c / 256 % 256) == 0 {
-        return 0;
-    }
-    prints(c % 256)
+    prints(c / 256 / 256 / 256 % 256)
+        && prints(c / 256 / 256 % 256)
+        && prints(c / 256 % 256)
+        && prints(c % 256)
 }
 
 // A digit of base 16.
@@ -65,7 +55,7 @@ fn put_code(out: &mut [u8], at: usize, c: usize) -> usize
     requires { at < 2 ^ 61 }
     ensures { Put (code_printed c) out.old at result out.new × (result ≤ at + 10) }
 {
-    if all_print(c) != 0 {
+    if all_print(c) {
         return pen::put_number(out, at, 4, c);
     }
     let m = pen::put_part(out, at, b"0x");

@@ -14,31 +14,33 @@ pub struct Samples<'a> {
     pub at: Stand,
 }
 
-// The walk over a file from where it stands.
-pub fn made<'a>(file: &'a [u8], at: Stand) -> Samples<'a>
-    ensures { (result.file ≡ file.entry) × (result.at ≡ at) }
-{
-    Samples { file, at }
-}
+impl<'a> Samples<'a> {
+    // The walk over a file from where it stands.
+    pub fn new(file: &'a [u8], at: Stand) -> Samples<'a>
+        ensures { (result.file ≡ file.entry) × (result.at ≡ at) }
+    {
+        Samples { file, at }
+    }
 
-// How many samples it has passed.
-pub fn number<'a>(s: Samples<'a>) -> usize
-    ensures { result ≡ s.entry.at.walk.number }
-{
-    s.at.walk.number
-}
+    // How many samples it has passed.
+    pub fn number(self) -> usize
+        ensures { result ≡ self.entry.at.walk.number }
+    {
+        self.at.walk.number
+    }
 
-// The next sample and where the walk stands after it.
-pub fn next<'a>(s: Samples<'a>) -> Option<(Sample, Stand)>
-    requires { StandsIn s.file.now s.at }
-    ensures { NextAs s.entry.file.now s.entry.at result }
-{
-    stand::next_at(s.file, s.at)
-}
+    // The next sample and where the walk stands after it.
+    pub fn next(self) -> Option<(Sample, Stand)>
+        requires { StandsIn self.file.now self.at }
+        ensures { NextAs self.entry.file.now self.entry.at result }
+    {
+        stand::next_at(self.file, self.at)
+    }
 
-// The bytes of a sample.
-pub fn bytes<'a>(s: Samples<'a>, sample: Sample) -> &'a [u8]
-    ensures { result.now ≡ sample_bytes s.entry.file.now sample }
-{
-    stand::bytes_of(s.file, sample)
+    // The bytes of a sample.
+    pub fn bytes(self, sample: Sample) -> &'a [u8]
+        ensures { result.now ≡ sample_bytes self.entry.file.now sample }
+    {
+        stand::bytes_of(self.file, sample)
+    }
 }

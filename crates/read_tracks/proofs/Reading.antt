@@ -4,14 +4,13 @@ use Prim.Native.Nat.{ℕ, zero, suc, ◌+◌, ◌-◌, ◌≤◌, ◌<◌}
 use native.Mathlib.Omega.{arith}
 use native.Mathlib.Numerals.{add-one}
 use mathlib.Core.Path.{◌≡◌, refl, sym, ap, ◌∙◌}
-use mathlib.Core.Bool.{Bool, false}
+use mathlib.Core.Bool.{Bool, true, false}
 use mathlib.Core.List.{List, [], ◌∷◌, ◌++◌}
 use lib.ListN.{length, get_or, drop, set, length-append}
 use lib.Seq.{drop-cons, set_at, sets-eq, append_snoc}
 use Rattle.wire.specs.Writing.{Wrote}
 use Rattle.wire.specs.Tests.{pick}
-use Rattle.wire.specs.Clauses.{one_if}
-use Rattle.wire.proofs.Clauses.{not_le, is_le_lem, le_is, fails, holds, done, clause, yea, nay, was_yea, was_nay}
+use Rattle.wire.proofs.Clauses.{le_is, clause}
 use Rattle.codes.specs.Codes.{STTS, STCO}
 use Rattle.sample_tables.specs.declared.time.MediaTicks.{MediaTicks}
 use Rattle.sample_tables.specs.Tables.{Table, items, field}
@@ -37,26 +36,14 @@ use Rattle.read_tracks.proofs.Accepted.{readable}
 -- ---- the track that is named
 
 module _ (xs : List ℕ) (t : ℕ) where
-  pub track_zero : t < 1 → 0 ≡ one_if (is_track xs t)
-  unfolding is_track
-  track_zero h = nay _ (fails 0 _ (not_le _ _ h))
-
-  pub track_past : {n : ℕ} → n ≡ tracks xs → n < t → 0 ≡ one_if (is_track xs t)
-  unfolding is_track
-  track_past e h = nay _ (fails 1 _ (not_le _ _ (omega arith)))
-
-  pub track_there : {n : ℕ} → n ≡ tracks xs → 1 ≤ t → t ≤ n → 1 ≡ one_if (is_track xs t)
-  unfolding is_track
-  track_there e h k = yea _ (holds _ _ (is_le_lem _ _ h) (holds _ _ (is_le_lem _ _ (omega arith)) done))
-
-  module _ {i : ℕ} (e : i ≡ one_if (is_track xs t)) (z : i ≡ 0 → ⊥) where
+  module _ {i : Bool} (e : i ≡ is_track xs t) (z : i ≡ true) where
     pub track_first : 1 ≤ t
     unfolding is_track
-    track_first = le_is _ _ (clause 0 _ (was_yea _ _ z e))
+    track_first = le_is _ _ (clause 0 _ (sym e ∙ z))
 
     pub track_last : t ≤ tracks xs
     unfolding is_track
-    track_last = le_is _ _ (clause 1 _ (was_yea _ _ z e))
+    track_last = le_is _ _ (clause 1 _ (sym e ∙ z))
 
     pub track_four : Meets xs → t - 1 < 4
     track_four m = omega (arith, track_first, track_last, (tracks_few xs m.three).1)
@@ -66,15 +53,15 @@ module _ (xs : List ℕ) (t : ℕ) where
     track_slot_lem m l e = rw e (slot_at l (t - 1) (track_four m))
 
     pub track_numbered : {s : Slot} → At xs (track xs (t - 1)) s → {k : Track} → Laid xs (slot_in xs s) k → Numbered xs t k
-    track_numbered a l = record { there = was_yea _ _ z e; first = track_first; last = track_last; laid = rw a.is at l }
+    track_numbered a l = record { there = sym e ∙ z; first = track_first; last = track_last; laid = rw a.is at l }
 
     -- it can be read
     pub track_readable : Meets xs → {b : List ℕ} → b ≡ track xs (t - 1) → Readable b
     track_readable m f = rw f (readable xs m (t - 1) (omega (arith, track_first, track_last)))
 
   -- none of that number
-  pub track_none : {i : ℕ} → i ≡ one_if (is_track xs t) → i ≡ 0 → is_track xs t ≡ false
-  track_none e z = was_nay _ _ z e
+  pub track_none : {i : Bool} → i ≡ is_track xs t → i ≡ false → is_track xs t ≡ false
+  track_none e z = sym e ∙ z
 
   -- back from the answer
   module _ (r : Option Track) (a : NumberedAs xs t r) where
@@ -91,12 +78,12 @@ module _ (xs : List ℕ) (t : ℕ) where
 
 -- ---- a choice that code made by the answer of a test
 
-module _ {A : Type 0} (t : Bool) (a b : A) {i : ℕ} (e : i ≡ one_if t) where
-  pub pick_nay : i ≡ 0 → b ≡ pick t a b
-  pick_nay z = rw (was_nay t _ z e)
+module _ {A : Type 0} (t : Bool) (a b : A) {i : Bool} (e : i ≡ t) where
+  pub pick_nay : i ≡ false → b ≡ pick t a b
+  pick_nay z = rw (sym e ∙ z)
 
-  pub pick_yea : (i ≡ 0 → ⊥) → {r : A} → r ≡ a → r ≡ pick t a b
-  pick_yea z f = rw (was_yea t _ z e) f
+  pub pick_yea : i ≡ true → {r : A} → r ≡ a → r ≡ pick t a b
+  pick_yea z f = rw (sym e ∙ z) f
 
 -- ---- what it says
 

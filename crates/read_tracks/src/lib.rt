@@ -5,7 +5,6 @@ mod offset;
 mod said;
 
 ghost use Rattle.std.specs.Prelude.{◌≡◌, [], ◌∷◌, Ok};
-ghost use Rattle.wire.specs.Clauses.{one_if};
 ghost use Rattle.wire.specs.Tests.{pick};
 ghost use Rattle.rule.specs.Results.{asked, Exact};
 ghost use Rattle.rule.specs.Results.ToWrite.{gives};
@@ -31,25 +30,20 @@ pub fn tracks(file: &[u8]) -> Answer
     Ok(movie::tracks(file))
 }
 
-// Whether a file has a track of a number, from 1: 1 or 0.
-fn is_track(file: &[u8], count: usize, track: usize) -> usize
+// Whether a file has a track of a number, from 1.
+#[tactic(auto, unfolding(crate::specs::Reads::is_track, wire::specs::Clauses::every, wire::specs::Clauses::is_le))]
+fn is_track(file: &[u8], count: usize, track: usize) -> bool
     requires { count ≡ tracks_of file.now }
-    ensures { result ≡ one_if (is_track file.now track) }
+    ensures { result ≡ is_track file.now track }
 {
-    if track < 1 {
-        return 0;
-    }
-    if count < track {
-        return 0;
-    }
-    1
+    1 <= track && track <= count
 }
 
 fn media_in(file: &[u8], e: Tracks, track: usize) -> Result<MediaTicks, Refusal>
     requires { Meets file.now × TracksAt file.now e }
     ensures { result ≡ pick (is_track file.now track) (Ok (media_of (track_body file.now track))) (Refused 20 0) }
 {
-    if is_track(file, e.count, track) == 0 {
+    if !is_track(file, e.count, track) {
         return Err(refusals::NO_SUCH);
     }
     let said = said::read(file, e, track - 1);
@@ -69,7 +63,7 @@ fn movie_in(file: &[u8], e: Tracks, track: usize) -> Result<MovieTicks, Refusal>
     requires { Meets file.now × TracksAt file.now e }
     ensures { result ≡ pick (is_track file.now track) (Ok (movie_of (track_body file.now track))) (Refused 20 0) }
 {
-    if is_track(file, e.count, track) == 0 {
+    if !is_track(file, e.count, track) {
         return Err(refusals::NO_SUCH);
     }
     let said = said::read(file, e, track - 1);
@@ -90,7 +84,7 @@ fn track_in(file: &[u8], e: Tracks, track: usize, out: &mut [u64]) -> Answer
     requires { Meets file.now × TracksAt file.now e }
     ensures { Exact (asked ((20, is_track file.now track) ∷ []) (gives (numbers_of (said_by (track_body file.now track))))) out.old result out.new }
 {
-    if is_track(file, e.count, track) == 0 {
+    if !is_track(file, e.count, track) {
         return Err(refusals::NO_SUCH);
     }
     if out.len() < 4 {
@@ -113,7 +107,7 @@ pub fn numbered_track(file: &[u8], track: usize) -> Option<Track>
     ensures { NumberedAs file.now track result }
 {
     let m = tracks::found(file);
-    if is_track(file, m.tracks, track) == 0 {
+    if !is_track(file, m.tracks, track) {
         return None;
     }
     let trak = tracks::track_slot(m, track - 1);

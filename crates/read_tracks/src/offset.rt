@@ -10,10 +10,8 @@ pub fn put(stco: &[u8], list: &mut [u32]) -> usize
     ensures { Wrote (offsets_to stco.now (items stco.now)) list.old result list.new }
 {
     let n = sample_tables::table::items(stco);
-    let mut i = 0;
-    while i < n {
+    for i in 0..n {
         list[i] = sample_tables::table::field(stco, 4, 0, i) as u32;
-        i += 1;
     }
     n
 }

@@ -14,6 +14,8 @@ use Rattle.frames.specs.declared.run.Run.{Run}
 use Rattle.frames.specs.Frames.{frames_to}
 use Rattle.frames.specs.Modes.{RunOf}
 use Rattle.from_amr.specs.Dump.{MOST_FRAMES}
+use Rattle.std.specs.declared.option.Option.{Option}
+use Rattle.std.specs.declared.option.Option.TheVariants.{Some}
 use Rattle.salvage.specs.Unfinished.{unfinished}
 use Rattle.salvage.specs.Salvage.{kept_frames, salvage_result, Salvages}
 use Rattle.salvage.specs.Found.{Found}
@@ -38,14 +40,14 @@ module _ (k : Codec) (xs out room : List ℕ) where
 -- ---- where they hold
 
 -- the run that code reads from where the payload starts
-pub run_kept : (k : Codec) (xs : List ℕ) {s : ℕ} {ys : List ℕ} {r : Run} → s ≡ start_of xs → (s ≡ 0 → ⊥) → ys ≡ drop s xs
+pub run_kept : (k : Codec) (xs : List ℕ) {o : Option ℕ} {s : ℕ} {ys : List ℕ} {r : Run} → o ≡ start_of xs → o ≡ Some s → ys ≡ drop s xs
     → RunOf (frames_to MOST_FRAMES k ys) r → RunOf (kept_frames k xs) r
 unfolding kept_frames
 run_kept k xs e z y p = rw (y ∙ payload_is xs (such xs e z).1) at p
 
-pub found : (k : Codec) (xs : List ℕ) {s : ℕ} {r : Run} → 8 ≤ length xs → length xs ≤ LONGEST → s ≡ start_of xs → s ≤ length xs → (s ≡ 0 → ⊥)
+pub found : (k : Codec) (xs : List ℕ) {o : Option ℕ} {s : ℕ} {r : Run} → 8 ≤ length xs → length xs ≤ LONGEST → o ≡ start_of xs → s ≤ length xs → o ≡ Some s
     → RunOf (kept_frames k xs) r → (r.count ≡ 0 → ⊥) → Found k xs s r
-found k xs {s} g m e l z p c =
+found k xs {s = s} g m e l z p c =
     let u = such xs e z in
     record {
       fine = length_fine_lem xs g m;

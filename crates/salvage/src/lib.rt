@@ -1,9 +1,8 @@
 // Flat battery: what is saved of a recording whose recorder died.
 #![tactic(auto)]
 
-ghost use Rattle.std.specs.Prelude.{◌≡◌, [], ◌∷◌, ◌+◌, ◌≤◌, length};
+ghost use Rattle.std.specs.Prelude.{◌≡◌, [], ◌∷◌, ◌+◌, ◌≤◌, length, Some, None, IfSome};
 ghost use Rattle.wire.specs.Tests.{pick};
-ghost use Rattle.wire.specs.Clauses.{one_if};
 ghost use Rattle.wire.specs.Writing.{Wrote};
 ghost use Rattle.boxes.specs.Boxes.{HEAD};
 ghost use Rattle.salvage.specs.Unfinished.{size_field, endless as endless_in, unfinished};
@@ -19,41 +18,33 @@ use from_amr::MOST_FRAMES;
 use rule::{Answer, refusals};
 use wire::number;
 
-// Whether an `mdat` stands at the front whose end isn't there: 1 or 0.
-fn endless(part: &[u8]) -> usize
-    ensures { result ≡ one_if (endless_in part.now) }
+// Whether an `mdat` stands at the front whose end isn't there.
+#[tactic(auto, unfolding(crate::specs::Unfinished::endless, wire::specs::Clauses::every, wire::specs::Clauses::either, wire::specs::Clauses::is_eq, wire::specs::Clauses::is_lt))]
+fn endless(part: &[u8]) -> bool
+    ensures { result ≡ endless_in part.now }
 {
-    if number::word32(part, 4) != codes::MDAT {
-        return 0;
-    }
     let size = number::word32(part, 0);
-    if size == 0 {
-        return 1;
-    }
-    if part.len() < size {
-        return 1;
-    }
-    0
+    number::word32(part, 4) == codes::MDAT && (size == 0 || part.len() < size)
 }
 
-// Where the payload of a file that wasn't finished starts; 0 where it is another file.
-fn payload_at(file: &[u8]) -> usize
-    ensures { (result ≡ pick (unfinished file.now) (size_field file.now + HEAD) 0) × (result ≤ length file.now) }
+// Where the payload of a file that wasn't finished starts; nothing where it is another file.
+fn payload_at(file: &[u8]) -> Option<usize>
+    ensures { (result ≡ pick (unfinished file.now) (Some (size_field file.now + HEAD)) None) × IfSome result (λ n. n ≤ length file.now) }
 {
     if number::word32(file, 4) != codes::FTYP {
-        return 0;
+        return None;
     }
     let size = number::word32(file, 0);
     if size < HEAD {
-        return 0;
+        return None;
     }
     if file.len() < size {
-        return 0;
+        return None;
     }
-    if endless(&file[size..]) == 0 {
-        return 0;
+    if !endless(&file[size..]) {
+        return None;
     }
-    size + HEAD
+    Some(size + HEAD)
 }
 
 // The four numbers of a report.
@@ -106,10 +97,9 @@ pub fn salvage(file: &[u8], codec: Codec, out: &mut [u8], report: &mut [u64]) ->
     if LONGEST < file.len() {
         return Err(refusals::LENGTH);
     }
-    let start = payload_at(file);
-    if start == 0 {
+    let Some(start) = payload_at(file) else {
         return Err(refusals::NOT_CUT_OFF);
-    }
+    };
     let run = run::read(codec, &file[start..], MOST_FRAMES);
     if run.count == 0 {
         return Err(refusals::NO_FRAME);

@@ -92,10 +92,8 @@ fn put_slots(out: &mut [u8], from: usize, file: &[u8], l: Lists, n: usize) -> us
     ensures { Put (slots_text (take n (entries file.now))) out.old from result out.new × (result ≤ from + 12 * n) }
 {
     let mut at = from;
-    let mut i = 0;
-    while i < n {
+    for i in 0..n {
         at = put_slot_at(out, at, file, l, i);
-        i += 1;
     }
     at
 }
@@ -117,11 +115,9 @@ fn put_bodies(out: &mut [u8], from: usize, file: &[u8], l: Lists) -> usize
 {
     let n = l.tracks;
     let mut at = from;
-    let mut t = 0;
-    while t < n {
+    for t in 0..n {
         let s = entries::list_slot(l, t);
         at = pen::put_part(out, at, gather::bytes(file, s));
-        t += 1;
     }
     at
 }

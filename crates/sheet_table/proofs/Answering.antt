@@ -2,21 +2,19 @@
 use Prim.Native.Nat.{ℕ, ◌+◌, ◌≤◌, ◌<◌}
 use native.Mathlib.Omega.{arith}
 use mathlib.Core.Path.{◌≡◌, sym, ◌∙◌}
-use mathlib.Core.Bool.{true}
+use mathlib.Core.Bool.{Bool, true, false}
 use mathlib.Core.List.{List, [], ◌∷◌}
 use lib.ListN.{length, length-append}
-use Rattle.wire.specs.Clauses.{one_if}
 use Rattle.codes.specs.Codes.{STSD}
 use Rattle.wire.specs.Numbers.{bytes}
 use Rattle.wire.specs.Writing.{Put}
-use Rattle.wire.proofs.Clauses.{was_yea}
 use Rattle.wire.proofs.Numbers.{length_bytes_lem}
 use Rattle.wire.proofs.Writing.{pen_then, pen_front}
 use Rattle.boxes.specs.Containers.{LONGEST}
 use Rattle.movie.specs.Entries.{Entry}
 use Rattle.rule.specs.Results.{asked, in_limit, Exact}
 use Rattle.rule.specs.Results.ToWrite.{gives}
-use Rattle.rule.proofs.Results.{exact_short, exact_wrote, test_not, test_so, test_nay, test_yea, over_limit, in_limit_lem}
+use Rattle.rule.proofs.Results.{exact_short, exact_wrote, test_not, test_so, over_limit, in_limit_lem}
 use Rattle.sheet.specs.Sheet.{bodies}
 use Rattle.sheet_table.specs.Form.{read, unsheet, steps, formed}
 use Rattle.sheet_table.specs.Table.{own_entries, table, track_table, table_result}
@@ -52,26 +50,26 @@ module _ (es : List Entry) (out : List ℕ) {start after : List ℕ} {span : ℕ
 
 -- ---- of a sheet
 
-module _ (s out : List ℕ) (t : ℕ) {f : ℕ} (e : f ≡ one_if (formed s)) where
-  pub sheet_torn : f ≡ 0 → Exact (table_result s t) out (Refused 30 0) out
+module _ (s out : List ℕ) (t : ℕ) {f : Bool} (e : f ≡ formed s) where
+  pub sheet_torn : f ≡ false → Exact (table_result s t) out (Refused 30 0) out
   unfolding table_result
-  sheet_torn z = test_nay 30 _ _ _ out e z
+  sheet_torn z = test_not 30 _ _ _ out (sym e ∙ z)
 
-  module _ (g : f ≡ 0 → ⊥) {n : ℕ} {xs ys : List ℕ} (o : Opened s n xs ys) {count : ℕ} (c : count ≡ length (own_entries t (read n xs ys))) where
+  module _ (g : f ≡ true) {n : ℕ} {xs ys : List ℕ} (o : Opened s n xs ys) {count : ℕ} (c : count ≡ length (own_entries t (read n xs ys))) where
     few : count ≡ length (own_entries t (unsheet s))
     few = c ∙ rw (opened o)
 
     stepped : steps 0 (unsheet s) ≡ true
-    stepped = formed_steps s (was_yea (formed s) f g e)
+    stepped = formed_steps s (sym e ∙ g)
 
     pub sheet_track : count ≡ 0 → Exact (table_result s t) out (Refused 20 0) out
     unfolding table_result
-    sheet_track z = test_yea 30 _ _ _ out e g (test_not 20 _ _ _ out (sym (no_track t (unsheet s) stepped (sym few ∙ z))))
+    sheet_track z = test_so 30 _ _ _ out (sym e ∙ g) (test_not 20 _ _ _ out (sym (no_track t (unsheet s) stepped (sym few ∙ z))))
 
     pub sheet_own : (count ≡ 0 → ⊥) → {r : Answer} {left : List ℕ}
         → Exact (asked ((24, in_limit (table (own_entries t (read n xs ys)))) ∷ []) (gives (table (own_entries t (read n xs ys))))) out r left
         → Exact (table_result s t) out r left
     unfolding table_result track_table
     sheet_own h x =
-        test_yea 30 _ _ _ out e g
+        test_so 30 _ _ _ out (sym e ∙ g)
         (test_so 20 _ _ _ out (sym (has_track_lem t (unsheet s) stepped (omega (arith, few)))) (rw (opened o) at x))

@@ -1,13 +1,12 @@
 -- A sheet that is made of entries says those entries, and a sheet of the right form is made of what it says. Assumes nothing.
 use Prim.Native.Nat.{ℕ, ◌-◌, ◌*◌, ◌^◌, ◌≤◌, ◌<◌}
-use native.Mathlib.Omega.{arith}
 use mathlib.Core.Path.{◌≡◌, refl, sym, ap, ◌∙◌}
 use mathlib.Core.Bool.{true}
 use mathlib.Core.List.{List, [], ◌∷◌, ◌++◌, append_assoc}
 use lib.ListN.{length, drop, get_or, replicate}
 use lib.Seq.{take-append_seam, drop-append_seam, drop_at}
 use Rattle.wire.specs.Numbers.{bytes, word}
-use Rattle.wire.proofs.Clauses.{is_eq_lem, is_le_lem, eq_is, holds, done, clause}
+use Rattle.wire.proofs.Clauses.{is_le_lem, holds, done, clause}
 use Rattle.wire.proofs.Numbers.{length_bytes_lem, word_bytes, word_right}
 use lib.Pointwise.{bytes_decides}
 use Rattle.movie.specs.Entries.{Entry}

@@ -1,7 +1,7 @@
 -- The form of a sheet, judged from its bytes alone.
 use Rattle.std.specs.Prelude.{ℕ, zero, suc, ◌+◌, Bool, true, false, None, List, [], ◌∷◌, take, drop, get_or}
 use Rattle.wire.specs.Tests.{pick}
-use Rattle.wire.specs.Clauses.{is_eq, is_le, every}
+use Rattle.wire.specs.Clauses.{is_le, every}
 use Rattle.wire.specs.Numbers.{word}
 use Rattle.std.specs.Str.{bytes_eq}
 use Rattle.movie.specs.Entries.{Entry}

@@ -1,6 +1,5 @@
 // The form of a sheet.
 ghost use Rattle.std.specs.Prelude.{◌≡◌, ◌≤◌, ◌<◌, get_or};
-ghost use Rattle.wire.specs.Clauses.{one_if};
 ghost use Rattle.std.specs.Str.{bytes_eq};
 ghost use Rattle.sheet.specs.Sheet.{SLOTS, sheet as sheet_text};
 ghost use Rattle.sheet_table.specs.Form.{read, unsheet, follows as follows_of, steps as steps_of, all_meet, formed as formed_of};
@@ -14,37 +13,26 @@ use wire::{lend, number};
 // The most tracks.
 const TRACKS: usize = 4;
 
-// 1 where a slot of a track may follow one of track `last`, else 0.
-fn follows(last: usize, track: usize) -> usize
+// Whether a slot of a track may follow one of track `last`.
+#[tactic(auto, unfolding(crate::specs::Form::follows, wire::specs::Clauses::every, wire::specs::Clauses::is_le))]
+fn follows(last: usize, track: usize) -> bool
     requires { last < 256 }
-    ensures { result ≡ one_if (follows_of last track) }
+    ensures { result ≡ follows_of last track }
 {
-    if track < last {
-        return 0;
-    }
-    if last + 1 < track {
-        return 0;
-    }
-    if track == 0 {
-        return 0;
-    }
-    if TRACKS < track {
-        return 0;
-    }
-    1
+    last <= track && track <= last + 1 && 1 <= track && track <= TRACKS
 }
 
-// 1 where the tracks of n slots go on rightly after track `last`, else 0.
-fn steps(slots: &[u8], bodies: &[u8], n: usize, last: usize) -> usize
+// Whether the tracks of n slots go on rightly after track `last`.
+fn steps(slots: &[u8], bodies: &[u8], n: usize, last: usize) -> bool
     requires { last < 256 }
-    ensures { result ≡ one_if (steps_of last (read n slots.now bodies.now)) }
+    ensures { result ≡ steps_of last (read n slots.now bodies.now) }
 {
     if n == 0 {
-        return 1;
+        return true;
     }
     let track = number::byte(slots, 1);
-    if follows(last, track) == 0 {
-        return 0;
+    if !follows(last, track) {
+        return false;
     }
     steps(
         lend::rest(slots, edition::SLOT),
@@ -54,15 +42,15 @@ fn steps(slots: &[u8], bodies: &[u8], n: usize, last: usize) -> usize
     )
 }
 
-// 1 where the bodies of n slots all meet their rule, the wider one, else 0.
-fn all_meet(slots: &[u8], bodies: &[u8], n: usize) -> usize
-    ensures { result ≡ one_if (all_meet (read n slots.now bodies.now)) }
+// Whether the bodies of n slots all meet their rule, the wider one.
+fn all_meet(slots: &[u8], bodies: &[u8], n: usize) -> bool
+    ensures { result ≡ all_meet (read n slots.now bodies.now) }
 {
     if n == 0 {
-        return 1;
+        return true;
     }
     if !entry::entry_rule(slots::body(slots, bodies), None, Release::Release4) {
-        return 0;
+        return false;
     }
     all_meet(
         lend::rest(slots, edition::SLOT),
@@ -87,24 +75,24 @@ fn made(sheet: &[u8], n: usize) -> bool
     slots::size(slots, bodies, n) == bodies.len()
 }
 
-// 1 where a sheet has the form, else 0.
-pub fn formed(sheet: &[u8]) -> usize
-    ensures { result ≡ one_if (formed_of sheet.now) }
+// Whether a sheet has the form.
+pub fn formed(sheet: &[u8]) -> bool
+    ensures { result ≡ formed_of sheet.now }
 {
     let n = number::byte(sheet, 1);
     if n == 0 {
-        return 0;
+        return false;
     }
     if edition::SLOTS < n {
-        return 0;
+        return false;
     }
     if !made(sheet, n) {
-        return 0;
+        return false;
     }
     let slots = lend::rest(sheet, edition::FRONT);
     let bodies = slots::bodies(sheet, n);
-    if steps(slots, bodies, n, 0) == 0 {
-        return 0;
+    if !steps(slots, bodies, n, 0) {
+        return false;
     }
     all_meet(slots, bodies, n)
 }

@@ -118,7 +118,7 @@ fn write_own(
 pub fn table(sheet: &[u8], track: usize, out: &mut [u8]) -> Answer
     ensures { Exact (table_result sheet.now track) out.old result out.new }
 {
-    if form::formed(sheet) == 0 {
+    if !form::formed(sheet) {
         return Err(refusals::BAD_SHEET);
     }
     let n = number::byte(sheet, 1);

@@ -7,15 +7,15 @@ use Rattle.edit_replace.proofs.Written.{head_least}
 use native.Mathlib.Omega.{arith}
 use Rattle.edit_replace.proofs.replace_entry.Goals as goal
 
-pub returns-then-takes-eq0 : goal.returns-then-takes-eq0
+pub returns-then-not-takes : goal.returns-then-not-takes
 unfolding place_text place_result
-returns-then-takes-eq0 c = test_nay _ _ _ _ _ (rw c.of_code-kind.ensures at c.takes.ensures) c.if-takes-eq0.true
+returns-then-not-takes c = test_not _ _ _ _ _ (sym (rw c.of_code-kind.ensures at c.takes.ensures) ∙ c.if-not-takes.true)
 
 pub returns-then-not-record_rule : goal.returns-then-not-record_rule
 unfolding place_text place_result
 returns-then-not-record_rule c =
     let kind = c.of_code-kind.ensures in
-    test_yea _ _ _ _ _ (rw kind at c.takes.ensures) c.if-takes-eq0.false (test_not _ _ _ _ _ (sym (rw (kind, c.of_file.ensures) at c.record_rule.ensures) ∙ c.if-not-record_rule.true))
+    test_so _ _ _ _ _ (sym (rw kind at c.takes.ensures) ∙ c.if-not-takes.false) (test_not _ _ _ _ _ (sym (rw (kind, c.of_file.ensures) at c.record_rule.ensures) ∙ c.if-not-record_rule.true))
 
 pub editable-requires : goal.editable-requires
 unfolding place_text place_result
@@ -25,7 +25,7 @@ pub returns-then-editable-eq0 : goal.returns-then-editable-eq0
 unfolding place_text place_result
 returns-then-editable-eq0 c =
     let kind = c.of_code-kind.ensures in
-    test_yea _ _ _ _ _ (rw kind at c.takes.ensures) c.if-takes-eq0.false
+    test_so _ _ _ _ _ (sym (rw kind at c.takes.ensures) ∙ c.if-not-takes.false)
     (test_so _ _ _ _ _ (sym (rw (kind, c.of_file.ensures) at c.record_rule.ensures) ∙ c.if-not-record_rule.false)
     (test_nay _ _ _ _ _ c.editable.ensures c.if-editable-eq0.true))
 
@@ -41,7 +41,7 @@ pub returns : goal.returns
 unfolding place_text place_result
 returns c =
     let kind = c.of_code-kind.ensures in
-    test_yea _ _ _ _ _ (rw kind at c.takes.ensures) c.if-takes-eq0.false
+    test_so _ _ _ _ _ (sym (rw kind at c.takes.ensures) ∙ c.if-not-takes.false)
     (test_so _ _ _ _ _ (sym (rw (kind, c.of_file.ensures) at c.record_rule.ensures) ∙ c.if-not-record_rule.false)
     (test_yea _ _ _ _ _ c.editable.ensures c.if-editable-eq0.false
     (rw (c.size.ensures, kind) at c.replace_at.ensures)))

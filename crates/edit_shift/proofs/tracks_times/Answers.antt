@@ -9,14 +9,14 @@ loop-b-init c = timely_none _
 pub body-requires : goal.body-requires
 body-requires c = let s = ran _ _ _ _ _ c.step.ensures c.in-Found.is in (s.least, omega arith)
 
-pub returns-then-box_times-eq0 : goal.returns-then-box_times-eq0
-returns-then-box_times-eq0 c = timely_bad _ c.loop-b.invariant (λ i. (c.type_inv.moov i).fits) (ran _ _ _ _ _ c.step.ensures c.in-Found.is) c.body.ensures c.box_times.ensures c.if-box_times-eq0.true
+pub returns-then-not-box_times : goal.returns-then-not-box_times
+returns-then-not-box_times c = timely_bad _ c.loop-b.invariant (λ i. (c.type_inv.moov i).fits) (ran _ _ _ _ _ c.step.ensures c.in-Found.is) c.body.ensures c.box_times.ensures c.if-not-box_times.true
 
 pub loop-b-smaller : goal.loop-b-smaller
 loop-b-smaller c = let s = ran _ _ _ _ _ c.step.ensures c.in-Found.is in omega arith
 
 pub loop-b-preserved : goal.loop-b-preserved
-loop-b-preserved c = timely_more _ c.loop-b.invariant (λ i. (c.type_inv.moov i).fits) (ran _ _ _ _ _ c.step.ensures c.in-Found.is) c.body.ensures c.box_times.ensures c.if-box_times-eq0.false
+loop-b-preserved c = timely_more _ c.loop-b.invariant (λ i. (c.type_inv.moov i).fits) (ran _ _ _ _ _ c.step.ensures c.in-Found.is) c.body.ensures c.box_times.ensures c.if-not-box_times.false
 
 pub returns-in-End : goal.returns-in-End
 returns-in-End c = timely_all _ c.loop-b.invariant (ended _ _ _ c.step.ensures c.in-End.is).0

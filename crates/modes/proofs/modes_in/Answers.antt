@@ -1,8 +1,9 @@
 -- 20, 25, or the first sample of the track that fails.
-use Rattle.rule.proofs.Results.{test_not, test_so, test_nay, test_yea, test_all}
+use Rattle.rule.proofs.Results.{test_not, test_so, test_all}
 use Rattle.read_tracks.proofs.Reading.{numbered_at, numbered_none, laid_offsets}
 use Rattle.read_samples.proofs.Tables.{numbered_walked, laid_runs, laid_sizes}
 use Rattle.read_samples.proofs.Counting.{found_walked}
+use mathlib.Core.Path.{sym, ◌∙◌}
 use Rattle.modes.proofs.Found.{laid_list, found_only, found_failing}
 use Rattle.modes.proofs.modes_in.Goals as goal
 
@@ -10,11 +11,11 @@ pub bytes-requires : goal.bytes-requires
 bytes-requires c =
     (numbered_at _ _ _ c.numbered_track.ensures c.in-Some.is).laid.stsd.lies
 
-pub returns-then-only-eq0 : goal.returns-then-only-eq0
-returns-then-only-eq0 c =
+pub returns-then-not-only : goal.returns-then-not-only
+returns-then-not-only c =
     let n = numbered_at _ _ _ c.numbered_track.ensures c.in-Some.is in
     let l = laid_list n.laid c.bytes.ensures c.rest-list.ensures in
-    test_so _ _ _ _ _ n.there (test_nay _ _ _ _ _ (found_only _ l c.only.ensures) c.if-only-eq0.true)
+    test_so _ _ _ _ _ n.there (test_not _ _ _ _ _ (sym (found_only _ l c.only.ensures) ∙ c.if-not-only.true))
 
 pub bytes-requires-2 : goal.bytes-requires-2
 bytes-requires-2 c =
@@ -40,7 +41,7 @@ returns c =
     let n = numbered_at _ _ _ c.numbered_track.ensures c.in-Some.is in
     let l = n.laid in
     let i = laid_list l c.bytes.ensures c.rest-list.ensures in
-    test_so _ _ _ _ _ n.there (test_yea _ _ _ _ _ (found_only _ i c.only.ensures) c.if-only-eq0.false (test_all _ _
+    test_so _ _ _ _ _ n.there (test_so _ _ _ _ _ (sym (found_only _ i c.only.ensures) ∙ c.if-not-only.false) (test_all _ _
     (found_failing _ i _ (laid_runs l c.bytes-2.ensures) (laid_sizes l c.bytes-3.ensures) (laid_offsets l c.bytes-4.ensures)
     c.first_failing-f.ensures c.put.ensures)))
 

@@ -1,5 +1,5 @@
 -- The invariant: the slots of the first i entries are written.
-use Prim.Native.Nat.{◌+◌, ◌-◌, ◌*◌, ◌≤◌}
+use Prim.Native.Nat.{◌+◌, ◌*◌, ◌≤◌}
 use Rattle.movie.specs.Entries.{entries}
 use Rattle.sheet.specs.Sheet.{slots}
 use Rattle.wire.specs.Writing.{Put}
@@ -8,6 +8,3 @@ use Rattle.sheet.proofs.put_slots.Given as goal
 
 abbrev pub invariant-loop-i : goal.invariant-loop-i
 invariant-loop-i l = Put (slots (take l.i (entries l.file))) l.initial.out l.from l.at l.out × (l.at ≤ l.from + 12 * l.i) × (l.i ≤ l.n)
-
-abbrev pub decreases-loop-i : goal.decreases-loop-i
-decreases-loop-i l = l.n - l.i

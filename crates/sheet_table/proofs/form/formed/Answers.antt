@@ -13,10 +13,10 @@ returns-then-n-gt-SLOTS c = form_over _ (omega arith)
 pub returns-then-not-made : goal.returns-then-not-made
 returns-then-not-made c = form_unlike _ (search rules)
 
-pub returns-then-steps-eq0 : goal.returns-then-steps-eq0
-returns-then-steps-eq0 c = form_skips _ record { count = c.byte-n.ensures.0; slots = c.rest-slots.ensures; bodies = c.bodies-bodies.ensures }
-    c.steps.ensures (omega arith)
+pub returns-then-not-steps : goal.returns-then-not-steps
+returns-then-not-steps c = form_skips _ record { count = c.byte-n.ensures.0; slots = c.rest-slots.ensures; bodies = c.bodies-bodies.ensures }
+    c.steps.ensures c.if-not-steps.true
 
 pub returns : goal.returns
 returns c = form_last _ record { count = c.byte-n.ensures.0; slots = c.rest-slots.ensures; bodies = c.bodies-bodies.ensures } c.steps.ensures
-    (omega arith) (omega arith) c.made.ensures (search rules) (λ e. omega arith) c.all_meet.ensures
+    (omega arith) (omega arith) c.made.ensures (search rules) c.if-not-steps.false c.all_meet.ensures
