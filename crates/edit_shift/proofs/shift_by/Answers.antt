@@ -1,9 +1,9 @@
 -- 22, 23, 25, or the times are shifted by the zone.
 use borrow.Author.Rules.{rules}
 use native.Mathlib.Omega.{arith}
-use mathlib.Core.Path.{◌∙◌}
+use mathlib.Core.Path.{sym, ◌∙◌}
 use Rattle.boxes.proofs.Cutting.{cut_payload}
-use Rattle.rule.proofs.Results.{exact_short, exact_wrote, test_nay, test_yea, test_all}
+use Rattle.rule.proofs.Results.{exact_short, exact_wrote, test_not, test_so, test_nay, test_yea, test_all}
 use Rattle.edit_shift.specs.Amount.{zone_text, zone_result}
 use Rattle.edit_shift.proofs.Answering.{text_length, zone_wrote}
 use Rattle.edit_shift.proofs.Asking.{times_moov}
@@ -13,13 +13,13 @@ pub returns-then-all_times-eq0 : goal.returns-then-all_times-eq0
 unfolding zone_text zone_result
 returns-then-all_times-eq0 c = test_nay _ _ _ _ _ (times_moov _ c.args.file.now (c.body.ensures ∙ cut_payload _ _ _ _ c.requires.2) c.all_times.ensures) c.if-all_times-eq0.true
 
-pub returns-then-editable-eq0 : goal.returns-then-editable-eq0
+pub returns-then-not-editable : goal.returns-then-not-editable
 unfolding zone_text zone_result
-returns-then-editable-eq0 c = test_yea _ _ _ _ _ (times_moov _ c.args.file.now (c.body.ensures ∙ cut_payload _ _ _ _ c.requires.2) c.all_times.ensures) c.if-all_times-eq0.false (test_nay _ _ _ _ _ c.editable.ensures c.if-editable-eq0.true)
+returns-then-not-editable c = test_yea _ _ _ _ _ (times_moov _ c.args.file.now (c.body.ensures ∙ cut_payload _ _ _ _ c.requires.2) c.all_times.ensures) c.if-all_times-eq0.false (test_not _ _ _ _ _ (sym c.editable.ensures ∙ c.if-not-editable.true))
 
 pub returns-then-out-file : goal.returns-then-out-file
 unfolding zone_text zone_result
-returns-then-out-file c = test_yea _ _ _ _ _ (times_moov _ c.args.file.now (c.body.ensures ∙ cut_payload _ _ _ _ c.requires.2) c.all_times.ensures) c.if-all_times-eq0.false (test_yea _ _ _ _ _ c.editable.ensures c.if-editable-eq0.false (test_all _ _ (exact_short _ _ (rw text_length (omega arith)))))
+returns-then-out-file c = test_yea _ _ _ _ _ (times_moov _ c.args.file.now (c.body.ensures ∙ cut_payload _ _ _ _ c.requires.2) c.all_times.ensures) c.if-all_times-eq0.false (test_so _ _ _ _ _ (sym c.editable.ensures ∙ c.if-not-editable.false) (test_all _ _ (exact_short _ _ (rw text_length (omega arith)))))
 
 pub put_shifted-requires : goal.put_shifted-requires
 unfolding zone_text zone_result
@@ -27,4 +27,4 @@ put_shifted-requires c = (record { low = omega arith; high = omega arith }, omeg
 
 pub returns : goal.returns
 unfolding zone_text zone_result
-returns c = test_yea _ _ _ _ _ (times_moov _ c.args.file.now (c.body.ensures ∙ cut_payload _ _ _ _ c.requires.2) c.all_times.ensures) c.if-all_times-eq0.false (test_yea _ _ _ _ _ c.editable.ensures c.if-editable-eq0.false (test_all _ _ (exact_wrote _ _ (rw text_length (omega arith)) (zone_wrote _ _ _ (search rules) c.put_shifted.ensures))))
+returns c = test_yea _ _ _ _ _ (times_moov _ c.args.file.now (c.body.ensures ∙ cut_payload _ _ _ _ c.requires.2) c.all_times.ensures) c.if-all_times-eq0.false (test_so _ _ _ _ _ (sym c.editable.ensures ∙ c.if-not-editable.false) (test_all _ _ (exact_wrote _ _ (rw text_length (omega arith)) (zone_wrote _ _ _ (search rules) c.put_shifted.ensures))))
