@@ -77,7 +77,7 @@ fn move_accepted(file: &[u8], out: &mut [u8]) -> Answer
     requires { Meets file.now }
     ensures { Exact (asked ((23, editable file.now) ∷ []) (gives (move_of file.now))) out.old result out.new }
 {
-    if judge::editable(file) == 0 {
+    if !judge::editable(file) {
         return Err(refusals::NOT_EDITABLE);
     }
     if out.len() < file.len() {

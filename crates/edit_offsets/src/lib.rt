@@ -40,6 +40,7 @@ pub fn shut(b: BoxAt) -> BoxAt
 }
 
 // Gives the `moov` b of a part its true size where it stands, if it is open.
+#[tactic(auto, unfolding(crate::specs::Close::closed_at))]
 pub fn close(out: &mut [u8], b: BoxAt)
     requires { b.at + 8 ≤ length out.old }
     ensures { out.new ≡ closed_at b out.old }

@@ -52,7 +52,7 @@ fn replace_entry(file: &[u8], b: BoxAt, p: Place, new: &[u8], out: &mut [u8]) ->
     if !decoder::record_rule(kind, release::of_file(file), new) {
         return Err(refusals::BAD_RECORD);
     }
-    if judge::editable(file) == 0 {
+    if !judge::editable(file) {
         return Err(refusals::NOT_EDITABLE);
     }
     replace_at(file, b, p, head::size(kind) - walk::HEAD, new, out)

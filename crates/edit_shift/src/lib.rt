@@ -122,7 +122,7 @@ fn shift_by(file: &[u8], b: BoxAt, zone: Zone, out: &mut [u8]) -> Answer
     if !all_times(walk::body(file, b), zone) {
         return Err(refusals::BAD_TIME);
     }
-    if judge::editable(file) == 0 {
+    if !judge::editable(file) {
         return Err(refusals::NOT_EDITABLE);
     }
     if out.len() < file.len() {

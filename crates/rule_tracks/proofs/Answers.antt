@@ -1,6 +1,6 @@
 -- What the answers of rules 6 and 7 say. Assumes nothing.
 use Prim.Native.Nat.{ℕ}
-use mathlib.Core.Path.{◌≡◌}
+use mathlib.Core.Path.{◌≡◌, ap, ◌∙◌}
 use mathlib.Core.Bool.{Bool, true, false}
 use mathlib.Core.List.{List}
 use borrow.Author.Tests.{eq-eqb, ne_eqb}
@@ -8,7 +8,7 @@ use Rattle.wire.specs.Tests.{if_eq}
 use Rattle.wire.specs.Numbers.{word}
 use Rattle.wire.specs.Clauses.{one_if}
 use Rattle.codes.specs.Codes.{STSD, STTS, STSC, STSZ, STCO}
-use Rattle.wire.proofs.Clauses.{clause}
+use Rattle.wire.proofs.Clauses.{clause, was_nay, was_yea}
 use Rattle.boxes.specs.Box.{Box}
 use Rattle.boxes.specs.Seek.{find}
 use Rattle.sample_tables.specs.Rules.{tables_agree, Six}
@@ -25,6 +25,15 @@ answer_yea m n a b h e = rw (eq-eqb m n h) e
 pub answer_nay : (m n : ℕ) (a b : Bool) {r : ℕ} → (m ≡ n → ⊥) → r ≡ one_if b → r ≡ one_if (if_eq m n a b)
 unfolding if_eq
 answer_nay m n a b h e = rw (ne_eqb m n h) e
+
+-- ---- what was asked of a payload is asked of what was found
+
+module _ (t : List ℕ → Bool) {r : ℕ} {b : List ℕ} (e : r ≡ one_if (t b)) where
+  pub found_nay : (d : List ℕ) → b ≡ d → r ≡ 0 → t d ≡ false
+  found_nay d q z = was_nay (t d) r z (e ∙ ap (λ (u : List ℕ). one_if (t u)) q)
+
+  pub found_yea : (d : List ℕ) → b ≡ d → (r ≡ 0 → ⊥) → t d ≡ true
+  found_yea d q z = was_yea (t d) r z (e ∙ ap (λ (u : List ℕ). one_if (t u)) q)
 
 -- rule 6 of the four tables, as facts
 pub six_is : (l : List Box) → six_holds l ≡ true → Six (find STTS l) (find STSC l) (find STSZ l) (find STCO l)

@@ -21,13 +21,13 @@ pub editable-requires : goal.editable-requires
 unfolding place_text place_result
 editable-requires c = c.requires.0.most
 
-pub returns-then-editable-eq0 : goal.returns-then-editable-eq0
+pub returns-then-not-editable : goal.returns-then-not-editable
 unfolding place_text place_result
-returns-then-editable-eq0 c =
+returns-then-not-editable c =
     let kind = c.of_code-kind.ensures in
     test_so _ _ _ _ _ (sym (rw kind at c.takes.ensures) ∙ c.if-not-takes.false)
     (test_so _ _ _ _ _ (sym (rw (kind, c.of_file.ensures) at c.record_rule.ensures) ∙ c.if-not-record_rule.false)
-    (test_nay _ _ _ _ _ c.editable.ensures c.if-editable-eq0.true))
+    (test_not _ _ _ _ _ (sym c.editable.ensures ∙ c.if-not-editable.true)))
 
 pub overflow_sub-size : goal.overflow_sub-size
 unfolding place_text place_result
@@ -43,5 +43,5 @@ returns c =
     let kind = c.of_code-kind.ensures in
     test_so _ _ _ _ _ (sym (rw kind at c.takes.ensures) ∙ c.if-not-takes.false)
     (test_so _ _ _ _ _ (sym (rw (kind, c.of_file.ensures) at c.record_rule.ensures) ∙ c.if-not-record_rule.false)
-    (test_yea _ _ _ _ _ c.editable.ensures c.if-editable-eq0.false
+    (test_so _ _ _ _ _ (sym c.editable.ensures ∙ c.if-not-editable.false)
     (rw (c.size.ensures, kind) at c.replace_at.ensures)))

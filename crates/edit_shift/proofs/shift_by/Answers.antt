@@ -13,13 +13,13 @@ pub returns-then-not-all_times : goal.returns-then-not-all_times
 unfolding zone_text zone_result
 returns-then-not-all_times c = test_not _ _ _ _ _ (sym (times_moov _ c.args.file.now (c.body.ensures ∙ cut_payload _ _ _ _ c.requires.2) c.all_times.ensures) ∙ c.if-not-all_times.true)
 
-pub returns-then-editable-eq0 : goal.returns-then-editable-eq0
+pub returns-then-not-editable : goal.returns-then-not-editable
 unfolding zone_text zone_result
-returns-then-editable-eq0 c = test_so _ _ _ _ _ (sym (times_moov _ c.args.file.now (c.body.ensures ∙ cut_payload _ _ _ _ c.requires.2) c.all_times.ensures) ∙ c.if-not-all_times.false) (test_nay _ _ _ _ _ c.editable.ensures c.if-editable-eq0.true)
+returns-then-not-editable c = test_so _ _ _ _ _ (sym (times_moov _ c.args.file.now (c.body.ensures ∙ cut_payload _ _ _ _ c.requires.2) c.all_times.ensures) ∙ c.if-not-all_times.false) (test_not _ _ _ _ _ (sym c.editable.ensures ∙ c.if-not-editable.true))
 
 pub returns-then-out-file : goal.returns-then-out-file
 unfolding zone_text zone_result
-returns-then-out-file c = test_so _ _ _ _ _ (sym (times_moov _ c.args.file.now (c.body.ensures ∙ cut_payload _ _ _ _ c.requires.2) c.all_times.ensures) ∙ c.if-not-all_times.false) (test_yea _ _ _ _ _ c.editable.ensures c.if-editable-eq0.false (test_all _ _ (exact_short _ _ (rw text_length (omega arith)))))
+returns-then-out-file c = test_so _ _ _ _ _ (sym (times_moov _ c.args.file.now (c.body.ensures ∙ cut_payload _ _ _ _ c.requires.2) c.all_times.ensures) ∙ c.if-not-all_times.false) (test_so _ _ _ _ _ (sym c.editable.ensures ∙ c.if-not-editable.false) (test_all _ _ (exact_short _ _ (rw text_length (omega arith)))))
 
 pub put_shifted-requires : goal.put_shifted-requires
 unfolding zone_text zone_result
@@ -27,4 +27,4 @@ put_shifted-requires c = (record { low = omega arith; high = omega arith }, omeg
 
 pub returns : goal.returns
 unfolding zone_text zone_result
-returns c = test_so _ _ _ _ _ (sym (times_moov _ c.args.file.now (c.body.ensures ∙ cut_payload _ _ _ _ c.requires.2) c.all_times.ensures) ∙ c.if-not-all_times.false) (test_yea _ _ _ _ _ c.editable.ensures c.if-editable-eq0.false (test_all _ _ (exact_wrote _ _ (rw text_length (omega arith)) (zone_wrote _ _ _ (search rules) c.put_shifted.ensures))))
+returns c = test_so _ _ _ _ _ (sym (times_moov _ c.args.file.now (c.body.ensures ∙ cut_payload _ _ _ _ c.requires.2) c.all_times.ensures) ∙ c.if-not-all_times.false) (test_so _ _ _ _ _ (sym c.editable.ensures ∙ c.if-not-editable.false) (test_all _ _ (exact_wrote _ _ (rw text_length (omega arith)) (zone_wrote _ _ _ (search rules) c.put_shifted.ensures))))
