@@ -23,7 +23,7 @@ ghost use Rattle.from_amr.specs.Dump.{from_amr};
 ghost use Rattle.salvage.specs.Salvage.{report_of, salvage_result};
 ghost use Rattle.threegp.specs.Answers.{pair as pair_of, packed, judge_answer, ForC, ReportsForC, newer_result, Told};
 
-use frames::codec;
+use frames::codec::Codec;
 use newer::{FileRefusal, Part};
 use release::Release;
 use rule::{Answer, Refusal, refusals};

@@ -4,4 +4,4 @@ use Rattle.threegp.proofs.threegp_salvage.Goals as goal
 
 pub returns : goal.returns
 returns c =
-    reports_for_c c.pack.ensures (rw c.of_number.ensures at c.salvage.ensures)
+    reports_for_c c.pack.ensures (rw c.from.ensures at c.salvage.ensures)
