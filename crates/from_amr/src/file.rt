@@ -6,8 +6,10 @@ ghost use Rattle.boxes.specs.Box.{plain_box, write};
 ghost use Rattle.frames.specs.Frames.{frames, joined};
 ghost use Rattle.frames.specs.Modes.{RunOf};
 ghost use Rattle.from_amr.specs.Boxes.{dref as dref_of};
+ghost use Rattle.from_amr.specs.Chunks.{ChunkOf};
 ghost use Rattle.from_amr.specs.File.{dinf_boxes, minf_boxes, mdia_boxes, trak_boxes, ftyp_box, moov_box, file_of, StartsAt};
 
+use crate::chunk::Chunk;
 use crate::{field, header, table};
 use boxes::walk::Form;
 use boxes::way;
@@ -37,26 +39,26 @@ fn put_dinf(out: &mut [u8], at: usize) -> usize
 }
 
 // The media's information.
-fn put_minf(out: &mut [u8], at: usize, codec: Codec, part: &[u8], run: Run, offset: usize) -> usize
-    requires { (at < 2 ^ 38) × (RunOf (frames codec part.now) run) × (run.count ≤ 65536) }
-    ensures { Put (write (plain_box MINF (write (minf_boxes codec (frames codec part.now) offset)) ∷ []))
+fn put_minf(out: &mut [u8], at: usize, part: &[u8], k: Chunk) -> usize
+    requires { (at < 2 ^ 38) × ChunkOf (frames k.codec part.now) k }
+    ensures { Put (write (plain_box MINF (write (minf_boxes k.codec (frames k.codec part.now) k.offset)) ∷ []))
         out.old at result out.new × (at ≤ result) × (result < 2 ^ 40) }
 {
     let a = field::put_box(out, at + 8, codes::SMHD, &[4, 0, 2, 0, 2, 0]);
     let b = put_dinf(out, a);
-    let r = table::put_stbl(out, b, codec, part, run, offset);
+    let r = table::put_stbl(out, b, part, k);
     way::put_header(out, at, r, Form::Plain, codes::MINF);
     r
 }
 
 // The media.
-fn put_mdia(out: &mut [u8], at: usize, codec: Codec, part: &[u8], run: Run, offset: usize) -> usize
-    requires { (at < 2 ^ 37) × (RunOf (frames codec part.now) run) × (run.count ≤ 65536) }
-    ensures { Put (write (plain_box MDIA (write (mdia_boxes codec (frames codec part.now) offset)) ∷ []))
+fn put_mdia(out: &mut [u8], at: usize, part: &[u8], k: Chunk) -> usize
+    requires { (at < 2 ^ 37) × ChunkOf (frames k.codec part.now) k }
+    ensures { Put (write (plain_box MDIA (write (mdia_boxes k.codec (frames k.codec part.now) k.offset)) ∷ []))
         out.old at result out.new × (at ≤ result) × (result < 2 ^ 40) }
 {
-    let scale = table::scale_by(codec);
-    let ticks = table::ticks_of(codec, run.count);
+    let scale = table::scale_by(k.codec);
+    let ticks = table::ticks_of(k.codec, k.run.count);
     let a = field::put_box(
         out,
         at + 8,
@@ -69,34 +71,34 @@ fn put_mdia(out: &mut [u8], at: usize, codec: Codec, part: &[u8], run: Run, offs
         codes::HDLR,
         &[4, 0, 4, 0, 4, codes::SOUN, 12, 0, 1, 0],
     );
-    let r = put_minf(out, b, codec, part, run, offset);
+    let r = put_minf(out, b, part, k);
     way::put_header(out, at, r, Form::Plain, codes::MDIA);
     r
 }
 
 // The track.
-fn put_trak(out: &mut [u8], at: usize, codec: Codec, part: &[u8], run: Run, offset: usize) -> usize
-    requires { (at < 2 ^ 36) × (RunOf (frames codec part.now) run) × (run.count ≤ 65536) }
-    ensures { Put (write (plain_box TRAK (write (trak_boxes codec (frames codec part.now) offset)) ∷ []))
+fn put_trak(out: &mut [u8], at: usize, part: &[u8], k: Chunk) -> usize
+    requires { (at < 2 ^ 36) × ChunkOf (frames k.codec part.now) k }
+    ensures { Put (write (plain_box TRAK (write (trak_boxes k.codec (frames k.codec part.now) k.offset)) ∷ []))
         out.old at result out.new × (at ≤ result) × (result < 2 ^ 40) }
 {
-    let ticks = table::ticks_of(codec, run.count);
+    let ticks = table::ticks_of(k.codec, k.run.count);
     let a = header::put_tkhd(out, at + 8, ticks);
-    let r = put_mdia(out, a, codec, part, run, offset);
+    let r = put_mdia(out, a, part, k);
     way::put_header(out, at, r, Form::Plain, codes::TRAK);
     r
 }
 
 // The movie.
-fn put_moov(out: &mut [u8], at: usize, codec: Codec, part: &[u8], run: Run, offset: usize) -> usize
-    requires { (at < 2 ^ 35) × (RunOf (frames codec part.now) run) × (run.count ≤ 65536) }
-    ensures { Put (write (moov_box codec (frames codec part.now) offset ∷ [])) out.old at result out.new
+fn put_moov(out: &mut [u8], at: usize, part: &[u8], k: Chunk) -> usize
+    requires { (at < 2 ^ 35) × ChunkOf (frames k.codec part.now) k }
+    ensures { Put (write (moov_box k.codec (frames k.codec part.now) k.offset ∷ [])) out.old at result out.new
         × (at ≤ result) × (result < 2 ^ 40) }
 {
-    let scale = table::scale_by(codec);
-    let ticks = table::ticks_of(codec, run.count);
+    let scale = table::scale_by(k.codec);
+    let ticks = table::ticks_of(k.codec, k.run.count);
     let a = header::put_mvhd(out, at + 8, scale, ticks);
-    let r = put_trak(out, a, codec, part, run, offset);
+    let r = put_trak(out, a, part, k);
     way::put_header(out, at, r, Form::Plain, codes::MOOV);
     r
 }
@@ -140,8 +142,12 @@ pub fn put(out: &mut [u8], codec: Codec, part: &[u8], run: Run) -> usize
     requires { (RunOf (frames codec part.now) run) × (joined (frames codec part.now) ≡ part.now) × (run.count ≤ 65536) × (length part.now < 2 ^ 40) }
     ensures { Put (file_of codec (frames codec part.now)) out.old 0 result out.new }
 {
-    let offset = start(run.count);
+    let k = Chunk {
+        codec,
+        run,
+        offset: start(run.count),
+    };
     let a = put_ftyp(out, 0);
-    let b = put_moov(out, a, codec, part, run, offset);
+    let b = put_moov(out, a, part, k);
     put_mdat(out, b, part)
 }

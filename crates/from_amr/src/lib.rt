@@ -14,6 +14,7 @@ use frames::run::Run;
 use rule::{Answer, Refusal, refusals};
 use wire::lend;
 
+mod chunk;
 mod field;
 pub mod file;
 mod header;

@@ -7,12 +7,13 @@ ghost use Rattle.wire.specs.Writing.{Put};
 ghost use Rattle.boxes.specs.Box.{plain_box, write};
 ghost use Rattle.entry_records.specs.Texts.{amr_text};
 ghost use Rattle.frames.specs.Frames.{frames};
-ghost use Rattle.frames.specs.Modes.{RunOf};
 ghost use Rattle.from_amr.specs.Fields.{fields, span};
 ghost use Rattle.from_amr.specs.Boxes.{kind_by, scale_by, sample_ticks, entry_by, sizes_of};
 ghost use Rattle.from_amr.specs.Boxes.{stsd as stsd_of, stts as stts_of, stsc as stsc_of, stsz as stsz_of, stco as stco_of};
+ghost use Rattle.from_amr.specs.Chunks.{ChunkOf};
 ghost use Rattle.from_amr.specs.File.{stbl_boxes};
 
+use crate::chunk::Chunk;
 use crate::field;
 use boxes::walk::Form;
 use boxes::way;
@@ -21,7 +22,6 @@ use entry_records::field::Amr;
 use entry_records::text;
 use frames::codec::Codec;
 use frames::run;
-use frames::run::Run;
 use wire::{number, pen};
 
 // The kind of a codec's entry.
@@ -170,25 +170,19 @@ fn put_stsz(out: &mut [u8], at: usize, codec: Codec, part: &[u8], n: usize) -> u
     r
 }
 
-// The tables of a part's good frames, whose run is told, as the one chunk at an offset.
-pub fn put_stbl(
-    out: &mut [u8],
-    at: usize,
-    codec: Codec,
-    part: &[u8],
-    run: Run,
-    offset: usize,
-) -> usize
-    requires { (at < 2 ^ 39) × (RunOf (frames codec part.now) run) × (run.count ≤ 65536) }
-    ensures { Put (write (plain_box STBL (write (stbl_boxes codec (frames codec part.now) offset)) ∷ []))
+// The tables of a part's good frames, as the one chunk.
+pub fn put_stbl(out: &mut [u8], at: usize, part: &[u8], k: Chunk) -> usize
+    requires { (at < 2 ^ 39) × ChunkOf (frames k.codec part.now) k }
+    ensures { Put (write (plain_box STBL (write (stbl_boxes k.codec (frames k.codec part.now) k.offset)) ∷ []))
         out.old at result out.new × (at ≤ result) × (result < 2 ^ 40) }
 {
-    let n = run.count;
-    let a = put_stsd(out, at + 8, codec, run.modes);
+    let codec = k.codec;
+    let n = k.run.count;
+    let a = put_stsd(out, at + 8, codec, k.run.modes);
     let b = put_stts(out, a, codec, n);
     let c = put_stsc(out, b, n);
     let d = put_stsz(out, c, codec, part, n);
-    let r = put_stco(out, d, n, offset);
+    let r = put_stco(out, d, n, k.offset);
     way::put_header(out, at, r, Form::Plain, codes::STBL);
     r
 }

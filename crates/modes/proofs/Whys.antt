@@ -10,21 +10,25 @@ use Rattle.frames.specs.declared.codec.Codec.{Codec}
 use Rattle.frames.specs.declared.run.Run.{Run}
 use Rattle.frames.specs.Frames.{frames_to, frames, joined, rest}
 use Rattle.frames.specs.Modes.{RunOf}
+use Rattle.std.specs.declared.option.Option.{Option}
+use Rattle.std.specs.declared.option.Option.TheVariants.{Some, None}
+use Rattle.modes.specs.declared.reason.Reason.{Reason}
+use Rattle.modes.specs.declared.reason.Reason.TheVariants.{BadFrame, WrongCount, BitNotSet}
 use Rattle.modes.specs.declared.speech.Speech.{Speech}
 use Rattle.modes.specs.Sample.{whole_frames, count_fits, all_set, first_not, why}
 
 -- ---- tests in their order
 
-module _ (n : ℕ) (t : Bool) (ts : List (ℕ × Bool)) where
-  pub first_not_lem : t ≡ false → n ≡ first_not ((n, t) ∷ ts)
+module _ (n : Reason) (t : Bool) (ts : List (Reason × Bool)) where
+  pub first_not_lem : t ≡ false → Some n ≡ first_not ((n, t) ∷ ts)
   unfolding first_not
   first_not_lem e = rw e
 
-  pub later : {r : ℕ} → t ≡ true → r ≡ first_not ts → r ≡ first_not ((n, t) ∷ ts)
+  pub later : {r : Option Reason} → t ≡ true → r ≡ first_not ts → r ≡ first_not ((n, t) ∷ ts)
   unfolding first_not
   later e f = rw e f
 
-pub no_more : 0 ≡ first_not []
+pub no_more : None ≡ first_not []
 unfolding first_not
 no_more = refl
 
@@ -50,25 +54,25 @@ module _ (k : Codec) (xs : List ℕ) {r : Run} (u : RunOf (frames_to (length xs)
 -- ---- all of it
 
 module _ (d : Speech) (left : ℕ) (xs : List ℕ) {r : Run} (u : RunOf (frames_to (length xs) d.codec xs) r) where
-  pub why_torn : r.bytes < length xs → 1 ≡ why d left xs
+  pub why_torn : r.bytes < length xs → Some BadFrame ≡ why d left xs
   unfolding why
-  why_torn h = first_not_lem 1 _ _ (run_torn d.codec xs u h)
+  why_torn h = first_not_lem BadFrame _ _ (run_torn d.codec xs u h)
 
   module _ (h : length xs ≤ r.bytes) {i : Bool} (e : i ≡ count_fits d.frames left r.count) where
     counted : i ≡ count_fits d.frames left (length (frames d.codec xs))
     counted = rw (run_count d.codec xs u) at e
 
-    pub why_count : i ≡ false → 2 ≡ why d left xs
+    pub why_count : i ≡ false → Some WrongCount ≡ why d left xs
     unfolding why
-    why_count z = later 1 _ _ (run_whole d.codec xs u h) (first_not_lem 2 _ _ (sym counted ∙ z))
+    why_count z = later BadFrame _ _ (run_whole d.codec xs u h) (first_not_lem WrongCount _ _ (sym counted ∙ z))
 
     module _ (z : i ≡ true) {j : Bool} (f : j ≡ all_set d.modes (frames d.codec xs)) where
-      past_two : {n : ℕ} → n ≡ first_not ((3, all_set d.modes (frames d.codec xs)) ∷ []) → n ≡ why d left xs
+      past_two : {n : Option Reason} → n ≡ first_not ((BitNotSet, all_set d.modes (frames d.codec xs)) ∷ []) → n ≡ why d left xs
       unfolding why
-      past_two e = later 1 _ _ (run_whole d.codec xs u h) (later 2 _ _ (sym counted ∙ z) e)
+      past_two e = later BadFrame _ _ (run_whole d.codec xs u h) (later WrongCount _ _ (sym counted ∙ z) e)
 
-      pub why_bits : j ≡ false → 3 ≡ why d left xs
-      why_bits y = past_two (first_not_lem 3 _ _ (sym f ∙ y))
+      pub why_bits : j ≡ false → Some BitNotSet ≡ why d left xs
+      why_bits y = past_two (first_not_lem BitNotSet _ _ (sym f ∙ y))
 
-      pub why_none : j ≡ true → 0 ≡ why d left xs
-      why_none y = past_two (later 3 _ _ (sym f ∙ y) no_more)
+      pub why_none : j ≡ true → None ≡ why d left xs
+      why_none y = past_two (later BitNotSet _ _ (sym f ∙ y) no_more)

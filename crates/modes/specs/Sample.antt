@@ -1,6 +1,6 @@
 -- One sample of speech: "whole frames, as many as frames_per_sample except fewer in the last sample of the track, never none, each type's
 -- bit set (type 14 exempt)".
-use Rattle.std.specs.Prelude.{ℕ, ◌/◌, ◌%◌, ◌^◌, Bool, true, false, List, [], ◌∷◌, length}
+use Rattle.std.specs.Prelude.{ℕ, ◌/◌, ◌%◌, ◌^◌, Bool, true, false, List, [], ◌∷◌, length, Option, Some, None}
 use Rattle.wire.specs.Tests.{pick, if_eq}
 use Rattle.wire.specs.Clauses.{is_eq, is_le, every}
 use Rattle.wire.specs.Numbers.{word}
@@ -9,6 +9,8 @@ use Rattle.frames.specs.declared.codec.Codec.TheVariants.{Amr, Wideband}
 use Rattle.frames.specs.Frames.{type_of, frames, rest}
 use Rattle.entry_heads.specs.Kinds.{SamrKind, kind_of}
 use Rattle.entry_records.specs.Fields.{amr_in}
+use Rattle.modes.specs.declared.reason.Reason.{Reason}
+use Rattle.modes.specs.declared.reason.Reason.TheVariants.{BadFrame, WrongCount, BitNotSet}
 use Rattle.modes.specs.declared.speech.Speech.{Speech}
 
 -- ---- what its description says, an entry whose bytes are xs
@@ -39,16 +41,22 @@ all_set modes (f ∷ l) = pick (bit_set modes (type_of f)) (all_set modes l) fal
 
 -- ---- why it fails
 
--- the number of the first test that fails, 0 where all hold
-unfoldable pub first_not : List (ℕ × Bool) → ℕ
-first_not [] = 0
-first_not (t ∷ ts) = pick t.1 (first_not ts) t.0
+-- 1 "a bad frame (as in 41)", 2 "a wrong count", 3 "a bit not set"
+abbrev pub reason_number : Reason → ℕ
+reason_number BadFrame = 1
+reason_number WrongCount = 2
+reason_number BitNotSet = 3
 
--- 1 "a bad frame (as in 41)", 2 "a wrong count", 3 "a bit not set, tested in that order"
-unfoldable pub why : Speech → ℕ → List ℕ → ℕ
+-- the reason of the first test that fails, nothing where all hold
+unfoldable pub first_not : List (Reason × Bool) → Option Reason
+first_not [] = None
+first_not (t ∷ ts) = pick t.1 (first_not ts) (Some t.0)
+
+-- "tested in that order"
+unfoldable pub why : Speech → ℕ → List ℕ → Option Reason
 why d left xs =
     first_not
-    ((1, whole_frames d.codec xs)
-    ∷ (2, count_fits d.frames left (length (frames d.codec xs)))
-    ∷ (3, all_set d.modes (frames d.codec xs))
+    ((BadFrame, whole_frames d.codec xs)
+    ∷ (WrongCount, count_fits d.frames left (length (frames d.codec xs)))
+    ∷ (BitNotSet, all_set d.modes (frames d.codec xs))
     ∷ [])

@@ -1,6 +1,5 @@
 -- K11: "Answer the first sample that fails and why".
-use Rattle.std.specs.Prelude.{ℕ, ◌+◌, ◌-◌, Bool, true, List, [], ◌∷◌, ◌++◌, length}
-use Rattle.wire.specs.Tests.{if_eq}
+use Rattle.std.specs.Prelude.{ℕ, ◌+◌, ◌-◌, Bool, true, List, [], ◌∷◌, ◌++◌, length, Option, Some, None}
 use Rattle.wire.specs.Clauses.{is_eq, either}
 use Rattle.codes.specs.Codes.{SAMR, SAWB}
 use Rattle.boxes.specs.Box.{Box, header}
@@ -14,8 +13,9 @@ use Rattle.judge.specs.Calls.{result_on}
 use Rattle.read_tracks.specs.Reads.{is_track, track_body}
 use Rattle.sample_walk.specs.declared.walk.Sample.{Sample}
 use Rattle.read_samples.specs.Reads.{track_samples}
+use Rattle.modes.specs.declared.reason.Reason.{Reason}
 use Rattle.modes.specs.declared.Failing.{Failing}
-use Rattle.modes.specs.Sample.{speech_of, why}
+use Rattle.modes.specs.Sample.{speech_of, why, reason_number}
 
 -- ---- the entries of a track
 
@@ -31,21 +31,26 @@ entry_bytes (x ∷ l) n = by_number n (header x ++ x.body) (λ m. entry_bytes l 
 -- ---- its samples
 
 -- why a sample of the file xs fails, by "the mode_set in their own description"; it has so many samples after it
-unfoldable pub why_of : List ℕ → List Box → Sample → ℕ → ℕ
+unfoldable pub why_of : List ℕ → List Box → Sample → ℕ → Option Reason
 why_of xs l s left = why (speech_of (entry_bytes l (s.description - 1))) left (sample_bytes xs s)
 
 -- the first that fails, counted from n, and why
-unfoldable pub failing_from : (Sample → ℕ → ℕ) → ℕ → List Sample → Failing
-failing_from f n [] = record { number = 0; why = 0 }
-failing_from f n (s ∷ l) = if_eq (f s (length l)) 0 (failing_from f (n + 1) l) (record { number = n; why = f s (length l) })
+abbrev pub named : ℕ → Option Reason → Option Failing → Option Failing
+named n None later = later
+named n (Some w) later = Some (record { number = n; why = w })
+
+unfoldable pub failing_from : (Sample → ℕ → Option Reason) → ℕ → List Sample → Option Failing
+failing_from f n [] = None
+failing_from f n (s ∷ l) = named n (f s (length l)) (failing_from f (n + 1) l)
 
 -- of the track with payload b
-unfoldable pub failing_in : List ℕ → List ℕ → Failing
+unfoldable pub failing_in : List ℕ → List ℕ → Option Failing
 failing_in xs b = failing_from (why_of xs (boxes (list_in b))) 1 (track_samples b)
 
 -- nothing where none fails
-unfoldable pub failing_numbers : Failing → List ℕ
-failing_numbers f = if_eq f.why 0 [] (f.number ∷ f.why ∷ [])
+unfoldable pub failing_numbers : Option Failing → List ℕ
+failing_numbers None = []
+failing_numbers (Some f) = f.number ∷ reason_number f.why ∷ []
 
 -- ---- the call: 20, 25
 

@@ -1,6 +1,7 @@
 // The frames of speech in a track's samples, against the modes that their descriptions allow.
 #![tactic(auto)]
 
+mod reason;
 mod sample;
 mod speech;
 
@@ -15,6 +16,7 @@ ghost use Rattle.sample_walk.specs.Samples.{samples_at};
 ghost use Rattle.sample_walk.specs.Walks.{Sampled};
 ghost use Rattle.modes.specs.Track.{speech_only, why_of, failing_from, failing_numbers, failing_in, modes_result};
 
+use crate::reason::Reason;
 use boxes::walk;
 use layout::gather;
 use rule::{Answer, refusals};
@@ -22,15 +24,15 @@ use sample_tables::size;
 use sample_walk::walk::{Sample, SampleWalk};
 use wire::lend;
 
-// The first sample that fails, from 1, and why; 0 and 0 where none does.
+// The first sample that fails, from 1, and why.
 #[derive(Clone, Copy)]
 pub struct Failing {
     pub number: usize,
-    pub why: usize,
+    pub why: Reason,
 }
 
-// Why a sample fails that has so many after it, by the entries that describe the track's samples; 0 where it passes.
-fn why_of(file: &[u8], list: &[u8], s: Sample, left: usize) -> usize
+// Why a sample fails that has so many after it, by the entries that describe the track's samples; nothing where it passes.
+fn why_of(file: &[u8], list: &[u8], s: Sample, left: usize) -> Option<Reason>
     requires { 1 ≤ s.description }
     ensures { result ≡ why_of file.now (boxes list.now) s left }
 {
@@ -42,37 +44,37 @@ fn why_of(file: &[u8], list: &[u8], s: Sample, left: usize) -> usize
 }
 
 // The samples in turn, up to the first that fails.
-fn first_failing(file: &[u8], list: &[u8], stsc: &[u8], stsz: &[u8], stco: &[u8]) -> Failing
+fn first_failing(file: &[u8], list: &[u8], stsc: &[u8], stsz: &[u8], stco: &[u8]) -> Option<Failing>
     requires { Sampled stsc.now stsz.now stco.now }
     ensures { result ≡ failing_from (why_of file.now (boxes list.now)) 1 (samples_at stsc.now stsz.now stco.now) }
 {
     let n = size::samples(stsz);
     let mut walk = SampleWalk::start();
     while let Some((s, next)) = walk.step(stsc, stsz, stco) {
-        let why = why_of(file, list, s, n - next.number);
-        if why != 0 {
-            return Failing {
+        if let Some(why) = why_of(file, list, s, n - next.number) {
+            return Some(Failing {
                 number: next.number,
                 why,
-            };
+            });
         }
         walk = next;
     }
-    Failing { number: 0, why: 0 }
+    None
 }
 
 // Nothing where none fails, else the two numbers.
-fn put(f: Failing, out: &mut [u64]) -> Answer
-    ensures { Exact (gives (failing_numbers f)) out.old result out.new }
+fn put(failing: Option<Failing>, out: &mut [u64]) -> Answer
+    ensures { Exact (gives (failing_numbers failing)) out.old result out.new }
 {
-    if f.why == 0 {
+    let Some(f) = failing else {
         return Ok(0);
-    }
+    };
     if out.len() < 2 {
         return Err(refusals::NO_ROOM);
     }
+    let why = f.why;
     out[0] = f.number as u64;
-    out[1] = f.why as u64;
+    out[1] = usize::from(why) as u64;
     Ok(2)
 }
 

@@ -3,6 +3,7 @@ ghost use Rattle.std.specs.Prelude.{◌≡◌, ◌<◌};
 ghost use Rattle.frames.specs.Frames.{frames};
 ghost use Rattle.modes.specs.Sample.{count_fits, bit_set, all_set, why};
 
+use crate::reason::Reason;
 use crate::speech::Speech;
 use frames::codec::Codec;
 use frames::run;
@@ -39,20 +40,20 @@ fn all_set(modes: usize, codec: Codec, part: &[u8]) -> bool
     true
 }
 
-// Why a sample fails that has so many after it; 0 where it passes.
-pub fn why(speech: Speech, part: &[u8], left: usize) -> usize
+// Why a sample fails that has so many after it; nothing where it passes.
+pub fn why(speech: Speech, part: &[u8], left: usize) -> Option<Reason>
     ensures { result ≡ why speech left part.now }
 {
     let codec = speech.codec;
     let run = run::read(codec, part, part.len());
     if run.bytes < part.len() {
-        return 1;
+        return Some(Reason::BadFrame);
     }
     if !count_fits(speech.frames, left, run.count) {
-        return 2;
+        return Some(Reason::WrongCount);
     }
     if !all_set(speech.modes, codec, part) {
-        return 3;
+        return Some(Reason::BitNotSet);
     }
-    0
+    None
 }

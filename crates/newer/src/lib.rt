@@ -85,13 +85,13 @@ fn zoned(first: &[u8], y: i64, second: &[u8], z: i64, i: usize) -> Result<Part, 
     requires { (length first.now ≤ LONGEST) × (length second.now ≤ LONGEST) }
     ensures { result ≡ in_zones first.now y second.now z i }
 {
-    match clocks::zone_of(y) {
-        Some(a) => match clocks::zone_of(z) {
-            Some(b) => compared(first, a, second, b, i),
-            None => Err(BAD_TIME),
-        },
-        None => Err(BAD_TIME),
-    }
+    let Some(a) = clocks::zone_of(y) else {
+        return Err(BAD_TIME);
+    };
+    let Some(b) = clocks::zone_of(z) else {
+        return Err(BAD_TIME);
+    };
+    compared(first, a, second, b, i)
 }
 
 // What the first of two files is, and where entry i of the later one is.

@@ -1,5 +1,7 @@
 -- Laws of reading a track. Assumes nothing.
-use Rattle.std.specs.Prelude.{Option, Some, None}
+use Rattle.std.specs.Prelude.{Option, Some, None, Result, Ok, Err}
+use Rattle.rule.specs.declared.Refusal.{Refusal}
+use Rattle.rule.specs.Answers.{refusal, Refused}
 use Prim.Native.Nat.{ℕ, zero, suc, ◌+◌, ◌-◌, ◌≤◌, ◌<◌}
 use native.Mathlib.Omega.{arith}
 use native.Mathlib.Numerals.{add-one}
@@ -84,6 +86,22 @@ module _ {A : Type 0} (t : Bool) (a b : A) {i : Bool} (e : i ≡ t) where
 
   pub pick_yea : i ≡ true → {r : A} → r ≡ a → r ≡ pick t a b
   pick_yea z f = rw (sym e ∙ z) f
+
+-- what a track said, or that there is none, back from the answer
+module _ (t : Bool) (s : Said) {r : Result Said Refusal} (e : r ≡ pick t (Ok s) (Refused 20 0)) where
+  pub said_ok : {v : Said} → r ≡ Ok v → (t ≡ true) × (v ≡ s)
+  said_ok {v} z = go t e z
+    where
+      go : (b : Bool) → r ≡ pick b (Ok s) (Refused 20 0) → r ≡ Ok v → (b ≡ true) × (v ≡ s)
+      go true e z = (refl, cc)
+      go false e z = (cc, cc)
+
+  pub said_err : {f : Refusal} → r ≡ Err f → (t ≡ false) × (f ≡ refusal 20 0)
+  said_err {f} z = go t e z
+    where
+      go : (b : Bool) → r ≡ pick b (Ok s) (Refused 20 0) → r ≡ Err f → (b ≡ false) × (f ≡ refusal 20 0)
+      go true e z = (cc, cc)
+      go false e z = (refl, cc)
 
 -- ---- what it says
 

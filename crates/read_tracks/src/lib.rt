@@ -12,7 +12,7 @@ ghost use Rattle.movie.specs.Movie.{tracks as tracks_of};
 ghost use Rattle.layout.specs.Every.{TracksAt};
 ghost use Rattle.judge.specs.Acceptance.{Meets};
 ghost use Rattle.read_tracks.specs.Tracks.{NumberedAs};
-ghost use Rattle.read_tracks.specs.Reads.{tracks_answer, is_track, track_body, media_of, movie_of, media_length, movie_length, said_by, numbers_of, track_result, offsets_of, offsets_result};
+ghost use Rattle.read_tracks.specs.Reads.{tracks_answer, is_track, track_body, media_length, movie_length, said_by, numbers_of, track_result, offsets_of, offsets_result};
 ghost use Rattle.rule.specs.Answers.{Refused};
 
 use layout::every::Tracks;
@@ -20,6 +20,7 @@ use layout::track::Track;
 use layout::{gather, track, tracks};
 use movie::MovieTicks;
 use rule::{Answer, Refusal, refusals};
+use said::Said;
 use sample_tables::time::MediaTicks;
 
 // How many tracks a file has.
@@ -39,16 +40,15 @@ fn is_track(file: &[u8], count: usize, track: usize) -> bool
     1 <= track && track <= count
 }
 
-fn media_in(file: &[u8], e: Tracks, track: usize) -> Result<MediaTicks, Refusal>
+// What the track of a number, from 1, of an accepted file says.
+fn said_in(file: &[u8], e: Tracks, track: usize) -> Result<Said, Refusal>
     requires { Meets file.now × TracksAt file.now e }
-    ensures { result ≡ pick (is_track file.now track) (Ok (media_of (track_body file.now track))) (Refused 20 0) }
+    ensures { result ≡ pick (is_track file.now track) (Ok (said_by (track_body file.now track))) (Refused 20 0) }
 {
     if !is_track(file, e.count, track) {
         return Err(refusals::NO_SUCH);
     }
-    let said = said::read(file, e, track - 1);
-    let media = said.media;
-    Ok(media)
+    Ok(said::read(file, e, track - 1))
 }
 
 // A track's length in media ticks.
@@ -56,19 +56,8 @@ pub fn media_ticks(file: &[u8], track: usize) -> Result<MediaTicks, Refusal>
     ensures { result ≡ media_length file.now track }
 {
     let tracks = judge::judge_tracks(file)?;
-    media_in(file, tracks, track)
-}
-
-fn movie_in(file: &[u8], e: Tracks, track: usize) -> Result<MovieTicks, Refusal>
-    requires { Meets file.now × TracksAt file.now e }
-    ensures { result ≡ pick (is_track file.now track) (Ok (movie_of (track_body file.now track))) (Refused 20 0) }
-{
-    if !is_track(file, e.count, track) {
-        return Err(refusals::NO_SUCH);
-    }
-    let said = said::read(file, e, track - 1);
-    let movie = said.movie;
-    Ok(movie)
+    let said = said_in(file, tracks, track)?;
+    Ok(said.media)
 }
 
 // A track's length in movie ticks.
@@ -76,7 +65,8 @@ pub fn movie_ticks(file: &[u8], track: usize) -> Result<MovieTicks, Refusal>
     ensures { result ≡ movie_length file.now track }
 {
     let tracks = judge::judge_tracks(file)?;
-    movie_in(file, tracks, track)
+    let said = said_in(file, tracks, track)?;
+    Ok(said.movie)
 }
 
 // Of a file that is accepted.
@@ -84,13 +74,11 @@ fn track_in(file: &[u8], e: Tracks, track: usize, out: &mut [u64]) -> Answer
     requires { Meets file.now × TracksAt file.now e }
     ensures { Exact (asked ((20, is_track file.now track) ∷ []) (gives (numbers_of (said_by (track_body file.now track))))) out.old result out.new }
 {
-    if !is_track(file, e.count, track) {
-        return Err(refusals::NO_SUCH);
-    }
+    let said = said_in(file, e, track)?;
     if out.len() < 4 {
         return Err(refusals::NO_ROOM);
     }
-    Ok(said::put(said::read(file, e, track - 1), out))
+    Ok(said::put(said, out))
 }
 
 // What a track says: its handler, media ticks, time scale and movie ticks.

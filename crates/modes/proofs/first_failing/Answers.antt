@@ -19,16 +19,16 @@ overflow_sub-n c =
     let g = step_gives _ _ _ _ c.step.ensures c.in-Some.is in
     omega (arith, g.number, gives_more _ _ _ g, samples_count _ _ _ p, i.0)
 
-pub why_of-why-requires : goal.why_of-why-requires
-why_of-why-requires c =
+pub why_of-requires : goal.why_of-requires
+why_of-requires c =
     (step_gives _ _ _ _ c.step.ensures c.in-Some.is).described
 
-pub returns-then-why-ne0 : goal.returns-then-why-ne0
-returns-then-why-ne0 c =
+pub returns-in-Some-why_of : goal.returns-in-Some-why_of
+returns-in-Some-why_of c =
     let i = c.loop-s.invariant in
     let p = c.requires in
     let g = step_gives _ _ _ _ c.step.ensures c.in-Some.is in
-    passing_not _ _ _ i.2 g.is (omega (arith, g.number, samples_count _ _ _ p, i.0)) c.why_of-why.ensures c.if-why-ne0.true g.number
+    passing_not _ _ _ i.2 g.is (omega (arith, g.number, samples_count _ _ _ p, i.0)) c.why_of.ensures c.in-Some-why_of.is g.number
 
 pub loop-s-smaller : goal.loop-s-smaller
 loop-s-smaller c =
@@ -40,7 +40,7 @@ loop-s-preserved c =
     let i = c.loop-s.invariant in
     let p = c.requires in
     let g = step_gives _ _ _ _ c.step.ensures c.in-Some.is in
-    (i.0, g.walk, passing_more _ _ _ i.2 g.is (omega (arith, g.number, samples_count _ _ _ p, i.0)) c.why_of-why.ensures c.if-why-ne0.false g.number)
+    (i.0, g.walk, passing_more _ _ _ i.2 g.is (omega (arith, g.number, samples_count _ _ _ p, i.0)) c.why_of.ensures c.in_default-why_of.is g.number)
 
 pub returns : goal.returns
 returns c =

@@ -3,11 +3,11 @@ use native.Mathlib.Omega.{arith}
 use Rattle.modes.proofs.Failings.{none_fails, fails_short, fails_told}
 use Rattle.modes.proofs.put.Goals as goal
 
-pub returns-then-f-eq0 : goal.returns-then-f-eq0
-returns-then-f-eq0 c = none_fails _ _ c.if-f-eq0.true
+pub returns-in_default : goal.returns-in_default
+returns-in_default c = rw c.in_default.is (none_fails _)
 
 pub returns-then-out-lt2 : goal.returns-then-out-lt2
-returns-then-out-lt2 c = fails_short _ _ c.if-f-eq0.false (omega arith)
+returns-then-out-lt2 c = rw c.in-Some.is (fails_short _ _ (omega arith))
 
 pub returns : goal.returns
-returns c = fails_told _ _ c.if-f-eq0.false (omega arith)
+returns c = rw c.in-Some.is (fails_told _ _ (omega arith) c.from.ensures)

@@ -9,22 +9,22 @@ pub compared-requires : goal.compared-requires
 compared-requires c =
     let b = to_z-of_z w64 c.args.y c.ranges.y in
     let d = to_z-of_z w64 c.args.z c.ranges.z in
-    ((zone_found c.args.y (rw b at c.zone_of.ensures) _ c.in-Some.is).2, (zone_found c.args.z (rw d at c.zone_of-in-Some.ensures) _ c.in-Some-zone_of.is).2, c.requires.0, c.requires.1)
+    ((zone_found c.args.y (rw b at c.zone_of.ensures) _ c.in-Some.is).2, (zone_found c.args.z (rw d at c.zone_of-2.ensures) _ c.in-Some-zone_of.is).2, c.requires.0, c.requires.1)
 
-pub returns-in-Some-zone_of : goal.returns-in-Some-zone_of
-returns-in-Some-zone_of c =
+pub returns : goal.returns
+returns c =
     let b = to_z-of_z w64 c.args.y c.ranges.y in
     let d = to_z-of_z w64 c.args.z c.ranges.z in
-    zone_both _ c.args.y _ c.args.z _ (rw b at c.zone_of.ensures) c.in-Some.is (rw d at c.zone_of-in-Some.ensures) c.in-Some-zone_of.is c.compared.ensures
+    zone_both _ c.args.y _ c.args.z _ (rw b at c.zone_of.ensures) c.in-Some.is (rw d at c.zone_of-2.ensures) c.in-Some-zone_of.is c.compared.ensures
 
-pub returns-in-None-zone_of : goal.returns-in-None-zone_of
-returns-in-None-zone_of c =
+pub returns-in_default-zone_of : goal.returns-in_default-zone_of
+returns-in_default-zone_of c =
     let b = to_z-of_z w64 c.args.y c.ranges.y in
     let d = to_z-of_z w64 c.args.z c.ranges.z in
-    zone_second _ c.args.y _ c.args.z _ (rw d at c.zone_of-in-Some.ensures) c.in-None-zone_of.is
+    zone_second _ c.args.y _ c.args.z _ (rw d at c.zone_of-2.ensures) c.in_default-zone_of.is
 
-pub returns-in-None : goal.returns-in-None
-returns-in-None c =
+pub returns-in_default : goal.returns-in_default
+returns-in_default c =
     let b = to_z-of_z w64 c.args.y c.ranges.y in
     let d = to_z-of_z w64 c.args.z c.ranges.z in
-    zone_first _ c.args.y _ c.args.z _ (rw b at c.zone_of.ensures) c.in-None.is
+    zone_first _ c.args.y _ c.args.z _ (rw b at c.zone_of.ensures) c.in_default.is

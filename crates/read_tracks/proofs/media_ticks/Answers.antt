@@ -1,16 +1,27 @@
 -- The judgement, and then the media ticks of the track.
-use mathlib.Core.Path.{refl}
+use Rattle.std.specs.Prelude.{Ok, Err}
+use borrow.Author.Rules.{rules}
+use mathlib.Core.Path.{◌≡◌, refl, ap}
+use Rattle.read_tracks.specs.declared.said.Said.{Said}
+use Rattle.read_tracks.proofs.Reading.{said_ok, said_err}
 use Rattle.judge.proofs.Calls.{met, when_accepted_lem, when_passed}
 use Rattle.read_tracks.specs.Reads.{media_length}
 use Rattle.read_tracks.proofs.media_ticks.Goals as goal
 
-pub media_in-requires : goal.media_in-requires
+pub said_in-requires : goal.said_in-requires
 unfolding media_length
-media_in-requires c = let a = c.in_ok-tracks.ensures in (met _ refl a.0, a.1)
+said_in-requires c = let a = c.in_ok-tracks.ensures in (met _ refl a.0, a.1)
 
 pub returns : goal.returns
 unfolding media_length
-returns c = when_accepted_lem _ refl _ _ c.in_ok-tracks.ensures.0 c.media_in.ensures
+returns c = let p = said_ok _ _ c.said_in.ensures c.in_ok-said.was in
+    when_accepted_lem _ refl _ _ c.in_ok-tracks.ensures.0 (rw p.0 (ap (λ (s : Said). Ok s.media) p.1))
+
+pub returns-in_err-said : goal.returns-in_err-said
+unfolding media_length
+returns-in_err-said c = let p = said_err _ _ c.said_in.ensures c.in_err-said.was in
+    let f : c.from_residual-in_err-said.result ≡ Err c.in_err-said.field-0.0 = search rules in
+    when_accepted_lem _ refl _ _ c.in_ok-tracks.ensures.0 (rw (f, p.0, p.1))
 
 pub returns-in_err-tracks : goal.returns-in_err-tracks
 unfolding media_length

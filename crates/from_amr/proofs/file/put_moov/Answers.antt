@@ -5,7 +5,7 @@ use Rattle.from_amr.proofs.file.put_moov.Goals as goal
 
 pub returns : goal.returns
 returns c =
-    let q = c.requires.1 in (
+    let q = c.requires.1.told in (
       pen_close _ (pen_boxes _ _ (rw (c.scale_by-scale.ensures, c.ticks_of-ticks.ensures, q.count) at c.put_mvhd-a.ensures.0) c.put_trak-r.ensures.0)
           c.put_header.ensures,
       omega arith,
