@@ -1,4 +1,4 @@
-// The four-byte codes of the format, as numbers.
+// The four-byte codes of the format. Numbers and no enum, since a file may hold any other and what is read is compared as it stands.
 #![tactic(auto)]
 
 // The boxes of rule 3, and `mdat`.

@@ -50,6 +50,7 @@ pub fn fall_in_months(y: usize, n: usize) -> Fall
     requires { n < year_days y }
     ensures { FallsIn (month_days y) n result }
 {
+    // Nor here.
     let mut m = 1;
     let mut since = n;
     let mut days = 31;

@@ -68,7 +68,7 @@ pub fn entries(file: &[u8]) -> usize
     }
 }
 
-// 1 for a `trak`, else 0.
+// How many tracks a box of a code is: a number, since it is added up.
 fn one_track(code: usize) -> usize
     ensures { (result ≡ meant TRAK code) × (result ≤ 1) }
 {

@@ -21,7 +21,7 @@ pub struct Part {
     pub span: usize,
 }
 
-// Why two files have no newer one: 1 to 10 name the file, 1 or 2; any other number has file 0.
+// Why two files have no newer one: 1 to 10 name the file, 1 or 2; any other number has file 0. The file is a number as C gets it.
 #[derive(Clone, Copy, Debug, PartialEq, Eq)]
 pub struct FileRefusal {
     pub file: usize,
