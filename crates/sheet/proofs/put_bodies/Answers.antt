@@ -24,8 +24,7 @@ pub loop-t-preserved : goal.loop-t-preserved
 loop-t-preserved c = let p = c.requires in
     let i = c.loop-t.invariant in
     let a = list_got p.2 c.loop-t.t (omega (arith, i.3, p.1.tracks)) c.list_slot-s.ensures in
-    let q = c.put_part-at.ensures in
-    (
+    let q = c.put_part-at.ensures in (
       bodies_more c.args.file.now c.loop-t.t (λ j. (c.type_inv.file j).fits) (omega arith) (p.1.tiled _ (omega arith))
           (c.bytes.ensures ∙ a.is) i.0 q,
       omega (
