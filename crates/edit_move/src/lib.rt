@@ -38,14 +38,7 @@ fn shift(out: &mut [u8], file: &[u8], f: usize, b: BoxAt) -> usize
     ensures { Wrote (move_of file.now) out.old result out.new }
 {
     let n = arrange(out, file, f, b);
-    let form = b.form;
-    let moov = BoxAt {
-        at: f,
-        form,
-        head: b.head,
-        span: b.span,
-        code: b.code,
-    };
+    let moov = BoxAt { at: f, ..b };
     edit_offsets::close(out, moov);
     edit_offsets::settle(
         out,

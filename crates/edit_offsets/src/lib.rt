@@ -31,11 +31,8 @@ pub fn shut(b: BoxAt) -> BoxAt
 {
     let form = b.form;
     BoxAt {
-        at: b.at,
         form: shut_form(form),
-        head: b.head,
-        span: b.span,
-        code: b.code,
+        ..b
     }
 }
 

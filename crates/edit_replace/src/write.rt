@@ -71,13 +71,9 @@ pub fn replaced(out: &mut [u8], file: &[u8], b: BoxAt, p: Place, keep: usize, ne
         high: span,
         less: file.len(),
     };
-    let form = b.form;
     let moov = BoxAt {
-        at: b.at,
-        form,
-        head: b.head,
         span: b.span + span - file.len(),
-        code: b.code,
+        ..b
     };
     edit_offsets::settle(out, moov, by);
     span

@@ -14,12 +14,12 @@ use wire::number;
 fn count_fits(most: usize, left: usize, count: usize) -> bool
     ensures { result ≡ count_fits most left count }
 {
-    1 <= count
-        && if left == 0 {
-            count <= most
-        } else {
-            count == most
-        }
+    let fits = if left == 0 {
+        count <= most
+    } else {
+        count == most
+    };
+    1 <= count && fits
 }
 
 // Whether the bit of a type is set in a mode set, which 14 needs not.
