@@ -1,4 +1,5 @@
 // Refusal 23 by one walk over each container, those in `moov` where their boxes are plain. A yes says that an edit takes it.
+// The tests return early: as one `&&` of them the proof was tried, and didn't close.
 ghost use Rattle.codes.specs.Codes.{MOOV, TRAK, MDIA, STBL};
 ghost use Rattle.boxes.specs.Containers.{FILE, DEPTH};
 ghost use Rattle.layout.specs.Slots.{slot_in, Lies};
