@@ -89,14 +89,6 @@ pen_body c e p = rw e at p
 
 -- ---- parts of a table
 
--- a number of four bytes, where it fits and where not
-module _ (n : ℕ) (out : List ℕ) {at r : ℕ} (e : r ≡ at + 4) where
-  pub word_put : r ≤ length out → {after : List ℕ} → after ≡ put out at (bytes 4 n) → Put (bytes 4 n) out at r after
-  word_put h p = pen_put (bytes 4 n) out (rw (length_bytes_lem 4 n) e) h p
-
-  pub word_past : length out < r → Put (bytes 4 n) out at r out
-  word_past h = pen_past (bytes 4 n) out (rw (length_bytes_lem 4 n) e) h
-
 -- what fills a buffer is all that it holds
 pub pen_whole : {xs out after : List ℕ} {r : ℕ} → Put xs out 0 r after → length xs ≡ length out → after ≡ xs
 pen_whole {xs} {out} {r = r} p h =

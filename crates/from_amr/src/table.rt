@@ -22,7 +22,7 @@ use entry_records::field::Amr;
 use entry_records::text;
 use frames::codec::Codec;
 use frames::run;
-use wire::{number, pen};
+use wire::pen;
 
 // The kind of a codec's entry.
 fn kind_by(codec: Codec) -> usize
@@ -130,19 +130,6 @@ fn put_stco(out: &mut [u8], at: usize, n: usize, offset: usize) -> usize
     put_one(out, at, codes::STCO, n, &[4, 0, 4, 1, 4, offset])
 }
 
-// Writes a number of 32 bits.
-fn put_word(out: &mut [u8], at: usize, n: usize) -> usize
-    requires { at < 2 ^ 50 }
-    ensures { Put (bytes 4 n) out.old at result out.new × (result ≡ at + 4) }
-{
-    let r = at + 4;
-    if r <= out.len() {
-        number::put32(out, at, n);
-        return r;
-    }
-    r
-}
-
 // Writes the size of each good frame from the front of a part on.
 fn put_sizes(out: &mut [u8], at: usize, codec: Codec, part: &[u8]) -> usize
     requires { (at < 2 ^ 45) × (length (frames codec part.now) ≤ 65536) }
@@ -152,7 +139,7 @@ fn put_sizes(out: &mut [u8], at: usize, codec: Codec, part: &[u8]) -> usize
     let mut to = at;
     let mut i = 0;
     while let Some(size) = run::front(codec, &part[i..]) {
-        to = put_word(out, to, size);
+        to = pen::put_word(out, to, size);
         i += size;
     }
     to

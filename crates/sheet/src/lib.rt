@@ -25,25 +25,12 @@ use movie::entry::EntryAt;
 use rule::{Answer, refusals};
 use wire::{number, pen};
 
-// Writes the last four bytes of a number.
-fn put_word(out: &mut [u8], at: usize, n: usize) -> usize
-    requires { at < 2 ^ 62 }
-    ensures { Put (bytes 4 n) out.old at result out.new × (result ≡ at + 4) }
-{
-    let r = at + 4;
-    if r <= out.len() {
-        number::put32(out, at, n);
-        return r;
-    }
-    r
-}
-
 // Writes two bytes and two zeros.
 pub fn put_two(out: &mut [u8], at: usize, a: usize, b: usize) -> usize
     requires { (at < 2 ^ 62) × (a < 256) × (b < 256) }
     ensures { Put (a ∷ b ∷ 0 ∷ 0 ∷ []) out.old at result out.new × (result ≡ at + 4) }
 {
-    put_word(out, at, a * 16777216 + b * 65536)
+    pen::put_word(out, at, a * 16777216 + b * 65536)
 }
 
 // Writes a slot.
@@ -59,8 +46,8 @@ pub fn put_slot(
     ensures { Put (slot_text kind track place span) out.old at result out.new × (result ≡ at + 12) }
 {
     let a = put_two(out, at, kind, track);
-    let b = put_word(out, a, place);
-    put_word(out, b, span)
+    let b = pen::put_word(out, a, place);
+    pen::put_word(out, b, span)
 }
 
 // Writes the slot of an entry that was looked up.

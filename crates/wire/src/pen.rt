@@ -3,6 +3,8 @@ ghost use Rattle.std.specs.Prelude.{◌≡◌, [], ◌∷◌, ◌+◌, ◌^◌, 
 ghost use Rattle.wire.specs.Numbers.{bytes};
 ghost use Rattle.wire.specs.Writing.{put, Wrote, Put};
 
+use crate::number;
+
 // Copies src to a place.
 fn copy_at(out: &mut [u8], at: usize, src: &[u8])
     requires { at + length src.now ≤ length out.old }
@@ -30,6 +32,19 @@ pub fn put_byte(out: &mut [u8], at: usize, b: u8) -> usize
         return at + 1;
     }
     at + 1
+}
+
+// Writes the last four bytes of a number, all at once.
+pub fn put_word(out: &mut [u8], at: usize, n: usize) -> usize
+    requires { at < 2 ^ 62 }
+    ensures { Put (bytes 4 n) out.old at result out.new × (result ≡ at + 4) }
+{
+    let r = at + 4;
+    if r <= out.len() {
+        number::put32(out, at, n);
+        return r;
+    }
+    r
 }
 
 // Writes a part.

@@ -3,7 +3,7 @@ use Rattle.wire.proofs.Numbers.{length_bytes_lem}
 use Rattle.wire.proofs.Writing.{pen_put, pen_past}
 use mathlib.Core.Path.{refl}
 use native.Mathlib.Omega.{arith}
-use Rattle.sheet.proofs.put_word.Goals as goal
+use Rattle.wire.proofs.pen.put_word.Goals as goal
 
 pub returns-then-r-out : goal.returns-then-r-out
 returns-then-r-out c = let a = c.args in
