@@ -132,7 +132,7 @@ fn early(file: &[u8], l: Lists, few: bool) -> bool
     few && no_avc1_in(file, l)
 }
 
-// The code of the second box, 0 where there is none.
+// The code of the second box, 0 where there is none: a number, since the definition has one there.
 fn second(file: &[u8]) -> usize
     ensures { result ≡ second_of (boxes file.now) }
 {

@@ -5,7 +5,7 @@ ghost use Rattle.edit_replace.specs.Replace.{record_code, takes as takes_of};
 use entry_heads::kind;
 use wire::number;
 
-// The code of the record of a kind, and 0 for a kind that isn't editable.
+// The code of the record of a kind, and 0 for a kind that isn't editable: a number, since the definition has one there.
 #[tactic(auto, unfolding(crate::specs::Replace::record_code, wire::specs::Tests::if_eq))]
 fn record_code(kind: usize) -> usize
     ensures { result ≡ record_code kind }

@@ -13,7 +13,7 @@ use boxes::{containers, walk};
 // The depth at which no container is opened.
 const DEEPEST: usize = 16;
 
-// The kind of container that a box of a code opens wherever it stands, and 0 where it opens none.
+// The kind of container that a box of a code opens wherever it stands, and 0 where it opens none: a number, since the definition has one there.
 fn opens_as(c: usize) -> usize
     ensures { result ≡ opens_as c }
 {
