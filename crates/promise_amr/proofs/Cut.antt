@@ -9,6 +9,7 @@ use lib.Seq.{get_or-take, take_all, take-append-le}
 use Rattle.wire.specs.Tests.{if_le}
 use Rattle.wire.specs.Numbers.{bytes_on, bytes, word}
 use Rattle.wire.proofs.Tests.{le_yea, le_nay, lt_or}
+use Rattle.wire.proofs.Clauses.{is_eq_lem, holds, done, one}
 use Rattle.wire.proofs.Lists.{take_past, drop_past}
 use Rattle.wire.proofs.Numbers.{word_left}
 use Rattle.codes.specs.Codes.{FTYP, MDAT}
@@ -22,10 +23,15 @@ use Rattle.from_amr.specs.Fields.{fields}
 use Rattle.from_amr.specs.Boxes.{ftyp}
 use Rattle.from_amr.specs.File.{ftyp_box}
 use Rattle.from_amr.specs.Dump.{MOST_FRAMES}
-use Rattle.salvage.specs.Unfinished.{size_field, code_field, behind_ftyp, unfinished}
+use Rattle.salvage.specs.Unfinished.{size_field, code_field, behind_ftyp, endless, unfinished}
 use Rattle.salvage.specs.Salvage.{payload_of, kept_frames}
-use Rattle.salvage.proofs.Fronts.{is_such, size_zero}
+use Rattle.salvage.proofs.Fronts.{is_such}
 use Rattle.promise_amr.specs.Salvaged.{cut_after, whole_in}
+
+-- an `mdat` with size 0 has no end
+size_zero : (ys : List ℕ) → code_field ys ≡ MDAT → size_field ys ≡ 0 → true ≡ endless ys
+unfolding endless
+size_zero ys m h = holds _ _ (is_eq_lem _ _ m) (holds _ _ (sym (one 0 _ (is_eq_lem _ _ h))) done)
 
 -- ---- frames that are cut
 
