@@ -60,10 +60,11 @@ module _ {xs : List ℕ} {trak mdia minf dinf stbl : Slot} {t : Track} (g : Stan
   pub stbl_is : slot_in xs stbl ≡ find STBL (minf_of b)
   stbl_is = (at_in g.right minf_is).is
 
-  pub laid : Laid xs b t
+  pub laid : (t.shaped ≡ true → Shaped b) → Laid xs b t
   unfolding follow
-  laid =
+  laid h =
       record {
+        shaped = h;
         tkhd = at_in g.tkhd refl;
         mdhd = at_in g.mdhd mdia_is;
         hdlr = at_in g.hdlr mdia_is;
@@ -101,7 +102,7 @@ module _ {xs : List ℕ} {trak : Slot} {t m i d s : Five}
     (gs : Gathered xs i.b (first_with STSD) (first_with STTS) (first_with STSC) (first_with STSZ) (first_with STCO) s)
     (gd : Gathered xs i.a (first_with DREF) (first_with DREF) (first_with DREF) (first_with DREF) (first_with DREF) d) where
   abbrev gathered : Track
-  gathered = record { tkhd = t.a; mdhd = m.a; hdlr = m.b; dref = d.a; stsd = s.a; stts = s.b; stsc = s.c; stsz = s.d; stco = s.e }
+  gathered = record { shaped = true; tkhd = t.a; mdhd = m.a; hdlr = m.b; dref = d.a; stsd = s.a; stts = s.b; stsc = s.c; stsz = s.d; stco = s.e }
 
   standing : Standing xs trak t.b m.c i.a i.b gathered
   standing =
@@ -124,14 +125,12 @@ module _ {xs : List ℕ} {trak : Slot} {t m i d s : Five}
   pub all_laid : alone_of t ≡ true → alone_of m ≡ true → alone_of i ≡ true → alone_of s ≡ true → alone_of d ≡ true
       → Shaped (slot_in xs trak) × Laid xs (slot_in xs trak) gathered × StsdPlaced xs trak gathered
   all_laid ot om oi os od =
-      let g = standing in (
-        record {
-          trak = gathered_has gt ot TRAK (λ a b c d e. trak_shape _ a b);
-          mdia = subst (Has MDIA) (mdia_is g) (gathered_has gm om MDIA (λ a b c d e. mdia_shape _ a b c));
-          minf = subst (Has MINF) (minf_is g) (gathered_has gi oi MINF (λ a b c d e. minf_shape _ a b));
-          dinf = subst (Has DINF) (dinf_is g) (gathered_has gd od DINF (λ a b c d e. dinf_shape _ a));
-          stbl = subst (Has STBL) (stbl_is g) (gathered_has gs os STBL (λ a b c d e. stbl_shape _ a b c d e));
-        },
-        laid g,
-        listed g,
-      )
+      let g = standing in
+      let s : Shaped (slot_in xs trak) = record {
+        trak = gathered_has gt ot TRAK (λ a b c d e. trak_shape _ a b);
+        mdia = subst (Has MDIA) (mdia_is g) (gathered_has gm om MDIA (λ a b c d e. mdia_shape _ a b c));
+        minf = subst (Has MINF) (minf_is g) (gathered_has gi oi MINF (λ a b c d e. minf_shape _ a b));
+        dinf = subst (Has DINF) (dinf_is g) (gathered_has gd od DINF (λ a b c d e. dinf_shape _ a));
+        stbl = subst (Has STBL) (stbl_is g) (gathered_has gs os STBL (λ a b c d e. stbl_shape _ a b c d e));
+      } in
+      (s, laid g (λ z. s), listed g)

@@ -32,6 +32,7 @@ pub record Shaped (b : List ℕ) : Type 0 where
   pub stbl : Has STBL (find STBL (minf_of b))
 
 pub record Laid (xs b : List ℕ) (t : Track) : Type 0 where
+  pub shaped : t.shaped ≡ true → Shaped b
   pub tkhd : At xs (find TKHD (boxes b)) t.tkhd
   pub mdhd : At xs (find MDHD (mdia_of b)) t.mdhd
   pub hdlr : At xs (find HDLR (mdia_of b)) t.hdlr

@@ -6,9 +6,10 @@ ghost use Rattle.layout.specs.Track.{Laid, LaidAs, StsdPlaced};
 use crate::gather::Slot;
 use crate::{gather, plain};
 
-// The boxes that rule 3 names.
+// The boxes that rule 3 names, and whether all is as rules 2 and 3 want it, and plain.
 #[derive(Clone, Copy, Debug, PartialEq, Eq)]
 pub struct Track {
+    pub shaped: bool,
     pub tkhd: Slot,
     pub mdhd: Slot,
     pub hdlr: Slot,
@@ -63,6 +64,7 @@ pub fn lay(file: &[u8], trak: Slot) -> Option<Track>
     let stsz = s.d;
     let stco = s.e;
     Some(Track {
+        shaped: true,
         tkhd,
         mdhd,
         hdlr,
@@ -95,6 +97,7 @@ fn any(file: &[u8], trak: Slot) -> Track
     let dinf = first(file, minf, codes::DINF);
     let stbl = first(file, minf, codes::STBL);
     Track {
+        shaped: false,
         tkhd: first(file, trak, codes::TKHD),
         mdhd: first(file, mdia, codes::MDHD),
         hdlr: first(file, mdia, codes::HDLR),

@@ -1,7 +1,7 @@
 // Where the tracks of a file stand, by one walk over its boxes and one over those of `moov`.
 #![tactic(auto, unfolding(crate::specs::Tracks::track_slot, wire::specs::Clauses::every, wire::specs::Clauses::is_eq, wire::specs::Clauses::is_le, wire::specs::Tests::if_eq))]
 
-ghost use Rattle.std.specs.Prelude.{◌≡◌};
+ghost use Rattle.std.specs.Prelude.{◌≡◌, Some, IfOk};
 ghost use Rattle.layout.specs.Slots.{Lies};
 ghost use Rattle.layout.specs.Tracks.{whole_of, wanted, track_slot, framed_by, LaidOut, LaidOutAs, Spread};
 
@@ -49,21 +49,31 @@ fn framed(file: &[u8], f: Five, m: Five) -> bool
         && rule_shape::first_code(file) == codes::FTYP
 }
 
-// Those of a file where all is as rules 2 and 3 want it and plain.
-pub fn lay(file: &[u8]) -> Option<Movie>
-    ensures { LaidOutAs file.now result }
+// Why plain boxes say nothing of a file: rule 2 or 3 is broken, or a walk stopped at a box that isn't plain, and others may say more.
+#[derive(Clone, Copy, Debug, PartialEq, Eq)]
+pub enum Unlaid {
+    Broken,
+    Stopped,
+}
+
+// Those of a file where all is as rules 2 and 3 want it and plain. `moov` is looked at only where there is one.
+pub fn lay(file: &[u8]) -> Result<Movie, Unlaid>
+    ensures { IfOk result (λ m. LaidOutAs file.now (Some m)) }
 {
     let f = plain::three(file, whole(file), codes::FTYP, codes::MOOV, codes::MDAT);
     if !f.tiled {
-        return None;
+        return Err(Unlaid::Stopped);
+    }
+    if f.a.n != 1 || f.b.n != 1 {
+        return Err(Unlaid::Broken);
     }
     let moov = f.b;
     let m = moov::with_tracks(file, moov, codes::MVHD);
     if !m.tiled {
-        return None;
+        return Err(Unlaid::Stopped);
     }
     if !framed(file, f, m) {
-        return None;
+        return Err(Unlaid::Broken);
     }
     let ftyp = f.a;
     let mdat = f.c;
@@ -72,7 +82,7 @@ pub fn lay(file: &[u8]) -> Option<Movie>
     let two = m.c;
     let three = m.d;
     let four = m.e;
-    Some(Movie {
+    Ok(Movie {
         shaped: true,
         tracks: m.b.n,
         ftyp,
@@ -146,8 +156,8 @@ pub fn found(file: &[u8]) -> Movie
     ensures { LaidOut file.now result × Spread file.now result }
 {
     match lay(file) {
-        Some(m) => m,
-        None => any(file),
+        Ok(m) => m,
+        Err(_) => any(file),
     }
 }
 

@@ -10,7 +10,7 @@ ghost use Rattle.codes.specs.Codes.{FTYP, MOOV, MVHD};
 ghost use Rattle.boxes.specs.Containers.{FILE, LONGEST};
 ghost use Rattle.movie.specs.Movie.{tracks};
 ghost use Rattle.layout.specs.Slots.{slot_in, Lies};
-ghost use Rattle.layout.specs.Tracks.{LaidOut, Spread};
+ghost use Rattle.layout.specs.Tracks.{LaidOut, LaidOutAs, Spread};
 ghost use Rattle.rule_headers.specs.Forms.{form};
 ghost use Rattle.rule_lists.specs.Five.{MOST};
 ghost use Rattle.rule_all.specs.All.{SureBefore};
@@ -18,7 +18,7 @@ ghost use Rattle.rule_all.specs.Tracks.{Again, SureWith, Joined, Tracked, Tracks
 
 use boxes::containers;
 use layout::every::Tracks;
-use layout::tracks::Movie;
+use layout::tracks::{Movie, Unlaid};
 use layout::{every, gather, tracks};
 use rule_headers::forms;
 use rule_lists::total;
@@ -159,15 +159,36 @@ fn tracks_told(file: &[u8], m: Movie) -> SureTracks
     }
 }
 
+// Where the boxes of a file stand, by boxes of any form; none where they aren't as rules 2 and 3 want them.
+fn any_shaped(file: &[u8]) -> Option<Movie>
+    ensures { LaidOutAs file.now result }
+{
+    let m = tracks::any(file);
+    if !m.shaped {
+        return None;
+    }
+    Some(m)
+}
+
+// The same, by plain boxes, and by any only where a walk stopped at one that isn't plain.
+fn shaped(file: &[u8]) -> Option<Movie>
+    ensures { LaidOutAs file.now result }
+{
+    match tracks::lay(file) {
+        Ok(m) => Some(m),
+        Err(Unlaid::Broken) => None,
+        Err(Unlaid::Stopped) => any_shaped(file),
+    }
+}
+
 // A number of 2, 10 or 11, by where the boxes of a file stand: the rules from 2 on and before it hold.
 pub fn sure_before(file: &[u8]) -> usize
     requires { length file.now ≤ LONGEST }
     ensures { SureBefore file.now result }
 {
-    let m = tracks::found(file);
-    if !m.shaped {
+    let Some(m) = shaped(file) else {
         return 2;
-    }
+    };
     if !heads_fine(file, m) {
         return 2;
     }
@@ -179,10 +200,9 @@ pub fn sure_tracks(file: &[u8]) -> SureTracks
     requires { length file.now ≤ LONGEST }
     ensures { SureBefore file.now result.sure × TracksTold file.now result }
 {
-    let m = tracks::found(file);
-    if !m.shaped {
+    let Some(m) = shaped(file) else {
         return doubted();
-    }
+    };
     if !heads_fine(file, m) {
         return doubted();
     }

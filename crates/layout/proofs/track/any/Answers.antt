@@ -1,5 +1,6 @@
 -- Thirteen boxes, each looked for in a container that was found before.
 use native.Mathlib.Omega.{arith}
+use mathlib.Core.Bool.{false≢true}
 use Rattle.layout.proofs.Laying.{Standing, laid, listed}
 use Rattle.layout.proofs.track.any.Goals as goal
 
@@ -56,4 +57,4 @@ returns c =
       stsz = c.first-8.ensures;
       stco = c.first-9.ensures;
     } in
-    (laid s, listed s)
+    (laid s (λ z. absurd (false≢true z)), listed s)
