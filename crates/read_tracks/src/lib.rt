@@ -74,11 +74,13 @@ fn track_in(file: &[u8], e: Tracks, track: usize, out: &mut [u64]) -> Answer
     requires { Meets file.now × TracksAt file.now e }
     ensures { Exact (asked ((20, is_track file.now track) ∷ []) (gives (numbers_of (said_by (track_body file.now track))))) out.old result out.new }
 {
-    let said = said_in(file, e, track)?;
+    if !is_track(file, e.count, track) {
+        return Err(refusals::NO_SUCH);
+    }
     if out.len() < 4 {
         return Err(refusals::NO_ROOM);
     }
-    Ok(said::put(said, out))
+    Ok(said::put(said::read(file, e, track - 1), out))
 }
 
 // What a track says: its handler, media ticks, time scale and movie ticks.
