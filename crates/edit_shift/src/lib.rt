@@ -34,9 +34,11 @@ fn track_times(track: &[u8], zone: Zone) -> bool
     requires { Near zone }
     ensures { result ≡ track_times (leaves zone) track.now }
 {
-    let mdia = seek::payload(track, codes::MDIA, 0);
     both(seek::payload(track, codes::TKHD, 0), zone)
-        && both(seek::payload(mdia, codes::MDHD, 0), zone)
+        && both(
+            seek::payload(seek::payload(track, codes::MDIA, 0), codes::MDHD, 0),
+            zone,
+        )
 }
 
 // Those of a box of `moov`: only a track has any.
