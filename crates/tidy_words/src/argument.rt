@@ -1,4 +1,6 @@
 // The arguments that a program is started with; argument 0 is its own name.
+ghost use Rattle.std.specs.Prelude.{◌≤◌, length};
+
 use std::env::{Env, FillError};
 
 // Room for any name of a file.
@@ -9,7 +11,9 @@ pub fn room() -> [u8; ROOM] {
 }
 
 // Argument i, which the room takes: empty where it is missing or too long.
-pub fn fetch(rt: HostRuntime, i: usize, room: &mut [u8]) -> &[u8] {
+pub fn fetch(rt: HostRuntime, i: usize, room: &mut [u8]) -> &[u8]
+    ensures { length result.now ≤ length room.old }
+{
     match rt.arg(i, room) {
         Ok(n) => &room[..n],
         Err(_) => &[],
