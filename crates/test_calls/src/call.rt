@@ -1,5 +1,4 @@
 // What a call says: which it is, the room that it is lent, three numbers, a name, and more bytes.
-use std::io::{Error, ErrorKind};
 use wire::{lend, number};
 
 // The functions for C, and the newer of two as a part of a file.
@@ -27,33 +26,30 @@ pub enum What {
     Modes,
 }
 
-// By its number, as tests/calls.py counts them.
-impl TryFrom<usize> for What {
-    type Error = Error;
-
-    fn try_from(number: usize) -> Result<What, Error> {
+// By its number, as tests/calls.py counts them; a number that it doesn't have asks for an outline.
+impl From<usize> for What {
+    fn from(number: usize) -> What {
         match number {
-            1 => Ok(What::Judge),
-            2 => Ok(What::Tracks),
-            3 => Ok(What::Brand),
-            4 => Ok(What::Track),
-            5 => Ok(What::RecordRead),
-            6 => Ok(What::Newer),
-            7 => Ok(What::Offsets),
-            8 => Ok(What::NewerPart),
-            9 => Ok(What::Sheet),
-            10 => Ok(What::Table),
-            11 => Ok(What::RecordWrite),
-            12 => Ok(What::Listing),
-            13 => Ok(What::Shift),
-            14 => Ok(What::Replace),
-            15 => Ok(What::Move),
-            16 => Ok(What::FromAmr),
-            17 => Ok(What::Salvage),
-            18 => Ok(What::Outline),
-            19 => Ok(What::Samples),
-            20 => Ok(What::Modes),
-            _ => Err(ErrorKind::InvalidData.into()),
+            1 => What::Judge,
+            2 => What::Tracks,
+            3 => What::Brand,
+            4 => What::Track,
+            5 => What::RecordRead,
+            6 => What::Newer,
+            7 => What::Offsets,
+            8 => What::NewerPart,
+            9 => What::Sheet,
+            10 => What::Table,
+            11 => What::RecordWrite,
+            12 => What::Listing,
+            13 => What::Shift,
+            14 => What::Replace,
+            15 => What::Move,
+            16 => What::FromAmr,
+            17 => What::Salvage,
+            19 => What::Samples,
+            20 => What::Modes,
+            _ => What::Outline,
         }
     }
 }
@@ -78,18 +74,18 @@ pub fn wide(part: &[u8], at: usize) -> u64 {
 }
 
 impl<'a> Call<'a> {
-    pub fn read(call: &'a [u8]) -> Result<Call<'a>, Error> {
+    pub fn read(call: &'a [u8]) -> Call<'a> {
         let n = number::byte(call, 29);
         let rest = lend::rest(call, 30);
-        Ok(Call {
-            what: What::try_from(number::byte(call, 0))?,
+        Call {
+            what: What::from(number::byte(call, 0)),
             asked: number::word32(call, 1),
             first: wide(call, 5),
             second: wide(call, 13),
             third: wide(call, 21),
             name: lend::front(rest, n),
             more: lend::rest(rest, n),
-        })
+        }
     }
 }
 

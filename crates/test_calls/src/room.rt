@@ -4,19 +4,28 @@ use crate::{call, print};
 use std::io::Result;
 use wire::{lend, number};
 
-// The longest room whose numbers are all written.
+// The longest room whose numbers are all written; but for samples none is longer.
 const SHOWN: usize = 16;
+
+// The longest room for samples, and for bytes.
+const MANY: usize = 131080;
+const LONGEST: usize = 1050000;
 
 // What stands in a room before.
 const FRESH: u64 = 0xAAAAAAAAAAAAAAAA;
 
-// Those that write numbers: where there are more than are shown, their sum.
-fn numbers<F: FnOnce(&mut [u64]) -> u64>(rt: HostRuntime, asked: usize, ask: F) -> Result<()>
+// Those that write numbers, into a room of at most so many: where there are more than are shown, their sum.
+fn numbers<F: FnOnce(&mut [u64]) -> u64>(
+    rt: HostRuntime,
+    asked: usize,
+    most: usize,
+    ask: F,
+) -> Result<()>
     requires { F.IsAlwaysCallable ask }
 {
-    let mut room = vec![in rt.alloc(); FRESH; asked]?;
+    let mut room = vec![in rt.alloc(); FRESH; asked.min(most)]?;
     print::answer(rt, ask(room.as_mut_slice()));
-    if asked <= SHOWN {
+    if room.len() <= SHOWN {
         print::all(rt, room.as_slice());
     } else {
         print::sum_halves(rt, room.as_slice());
@@ -74,7 +83,7 @@ fn bytes<F: FnOnce(&mut [u8]) -> u64>(
 ) -> Result<()>
     requires { F.IsAlwaysCallable ask }
 {
-    let mut room = vec![in rt.alloc(); 0xAAu8; asked]?;
+    let mut room = vec![in rt.alloc(); 0xAAu8; asked.min(LONGEST)]?;
     let answer = ask(room.as_mut_slice());
     print::answer(rt, answer);
     print::sum(rt, room.as_slice());
@@ -96,7 +105,7 @@ fn record_write(part: &[u8], release: u64, out: &mut [u8]) -> u64 {
 
 // The one with two rooms: its second number says how long that of the report is, 16 at most.
 fn salvage(rt: HostRuntime, file: &[u8], call: Call<'_>) -> Result<()> {
-    let mut room = vec![in rt.alloc(); 0xAAu8; call.asked]?;
+    let mut room = vec![in rt.alloc(); 0xAAu8; call.asked.min(LONGEST)]?;
     let mut report = vec![in rt.alloc(); FRESH; call.second.min(16) as usize]?;
     let answer = threegp::threegp_salvage(
         file,
@@ -132,13 +141,19 @@ fn make_what(rt: HostRuntime, file: &[u8], call: Call<'_>) -> Result<()> {
             let code = (first & 0xFFFFFFFF) as u32;
             answered(rt, threegp::threegp_brand(file, code))
         }
-        What::Track => numbers(rt, asked, |out| threegp::threegp_track(file, first, out)),
-        What::RecordRead => numbers(rt, asked, |out| {
+        What::Track => numbers(rt, asked, SHOWN, |out| {
+            threegp::threegp_track(file, first, out)
+        }),
+        What::RecordRead => numbers(rt, asked, SHOWN, |out| {
             threegp::threegp_record_read(file, first, out)
         }),
-        What::Newer => numbers(rt, asked, |out| newer(file, call, out)),
-        What::Samples => numbers(rt, asked, |out| threegp::threegp_samples(file, first, out)),
-        What::Modes => numbers(rt, asked, |out| threegp::threegp_modes(file, first, out)),
+        What::Newer => numbers(rt, asked, SHOWN, |out| newer(file, call, out)),
+        What::Samples => numbers(rt, asked, MANY, |out| {
+            threegp::threegp_samples(file, first, out)
+        }),
+        What::Modes => numbers(rt, asked, SHOWN, |out| {
+            threegp::threegp_modes(file, first, out)
+        }),
         What::Offsets => {
             offsets(rt, file, call);
             Ok(())
