@@ -5,10 +5,9 @@ use mathlib.Core.Path.{◌≡◌, refl, sym, ap, ◌∙◌}
 use mathlib.Core.Bool.{Bool, true, false}
 use mathlib.Core.List.{List, [], ◌∷◌, ◌++◌}
 use lib.Dec.{ltb}
-use lib.ListN.{length, get_or, drop}
+use lib.ListN.{length, drop}
 use Rattle.wire.specs.Tests.{pick, if_lt}
 use Rattle.release.specs.declared.Release.{Release}
-use Rattle.entry_records.specs.declared.field.Rates.{Rates}
 use Rattle.entry_records.specs.declared.field.Record.{Record}
 use Rattle.std.specs.Prelude.{Option, Some, None}
 use Rattle.std.specs.Prelude as written
@@ -16,11 +15,11 @@ use Rattle.entry_records.specs.declared.record.WriteError.{WriteError}
 use Rattle.entry_records.specs.declared.record.WriteError.TheVariants.{BadFields, TooShort}
 use Rattle.entry_records.specs.Fields.{fields_rule}
 use Rattle.entry_records.specs.Texts.{text_of}
-use Rattle.entry_records.specs.Records.{rate_numbers, fields_of, written_number, written_value, read_of, written_of, out_of}
+use Rattle.entry_records.specs.Records.{fields_of, written_number, written_value, read_of, written_of, out_of}
 use Rattle.rule.specs.Results.{asked, answer_in, left_in, Exact}
 use Rattle.rule.specs.Results.ToWrite.{gives}
 use Rattle.rule.proofs.Results.{exact_refuses, exact_wrote}
-use Rattle.entry_fields.specs.Numbers.{record_of, read_result, record_result, write_result}
+use Rattle.entry_fields.specs.Numbers.{record_of, read_result, write_result}
 use Rattle.rule.specs.Answers.{Answer, Done, Refused}
 
 -- ---- numbers into a list
@@ -29,21 +28,11 @@ use Rattle.rule.specs.Answers.{Answer, Done, Refused}
 pub front_fits : (ns out : List ℕ) {n : ℕ} → n ≡ length ns → n ≤ length out → {xs : List ℕ} → xs ≡ ns → Exact (gives ns) out (Done n) (xs ++ drop n out)
 front_fits ns out {n} e h q = exact_wrote ns out (omega arith) (record { span = e; is = ap (λ (ys : List ℕ). ys ++ drop n out) q })
 
--- three of them are of the rates
-pub rates_length : (o : Option Rates) → length (rate_numbers o) ≡ 3
-rates_length (Some r) = refl
-rates_length None = refl
-
--- read one by one, behind eight others
-pub rates_last : (a b c d e f g h : ℕ) (o : Option Rates) {xs : List ℕ} → xs ≡ rate_numbers o
-    → a ∷ b ∷ c ∷ d ∷ e ∷ f ∷ g ∷ h ∷ get_or xs 0 0 ∷ get_or xs 1 0 ∷ get_or xs 2 0 ∷ [] ≡ a ∷ b ∷ c ∷ d ∷ e ∷ f ∷ g ∷ h ∷ rate_numbers o
-rates_last a b c d e f g h (Some r) q = rw q
-rates_last a b c d e f g h None q = rw q
-
 -- ---- the reader
 
 module _ (release : Release) (xs out : List ℕ) {r : Option Record} (e : r ≡ read_of release xs) where
-  pub read_some : (s : Record) → r ≡ Some s → {a : Answer} {left : List ℕ} → Exact (gives (fields_of s)) out a left → Exact (read_result release xs) out a left
+  pub read_some : (s : Record) → r ≡ Some s → {a : Answer} {left : List ℕ} → Exact (gives (fields_of (Some s))) out a left
+      → Exact (read_result release xs) out a left
   unfolding read_result asked
   read_some s g x = let f : read_of release xs ≡ Some s = sym e ∙ g in rw f x
 
@@ -58,7 +47,7 @@ abbrev pub written_answer : written.Result ℕ WriteError → Answer
 written_answer (written.Ok n) = Done n
 written_answer (written.Err e) = Refused (written_number (written.Err e)) (written_value (written.Err e))
 
-writes : (t : Bool) (r : Record) (out : List ℕ)
+writes : (t : Bool) (r : Option Record) (out : List ℕ)
     → Exact (asked ((21, t) ∷ []) (gives (text_of r))) out
     (written_answer (pick t (if_lt (length out) (length (text_of r)) (written.Err TooShort) (written.Ok (length (text_of r)))) (written.Err BadFields)))
     (pick t (if_lt (length out) (length (text_of r)) out (text_of r ++ drop (length (text_of r)) out)) out)
@@ -70,18 +59,9 @@ writes true r out = record { answers = go (ltb (length out) (length (text_of r))
     go true = refl
     go false = refl
 
-pub write_as : (release : Release) (r : Record) (out : List ℕ) {w v : written.Result ℕ WriteError} {left : List ℕ} → (w ≡ written_of release r out) × (left ≡ out_of release r out) → w ≡ v
-    → Exact (record_result release r) out (written_answer v) left
-unfolding record_result written_of out_of
-write_as release r out (p, q) g =
-    let x = writes (fields_rule release r) r out in record { answers = ap written_answer (sym g ∙ p) ∙ x.answers; leaves = q ∙ x.leaves }
-
--- of numbers
-module _ (release : Release) (ns out : List ℕ) {o : Option Record} (e : o ≡ record_of ns) where
-  pub write_some : (r : Record) → o ≡ Some r → {a : Answer} {left : List ℕ} → Exact (record_result release r) out a left → Exact (write_result release ns) out a left
-  unfolding write_result record_result
-  write_some r g x = let f : record_of ns ≡ Some r = sym e ∙ g in rw f x
-
-  pub write_none : o ≡ None → Exact (write_result release ns) out (Refused 21 0) out
-  unfolding write_result asked
-  write_none g = let f : record_of ns ≡ None = sym e ∙ g in rw f (exact_refuses 21 0 out)
+pub write_as : (release : Release) (ns out : List ℕ) {r : Option Record} {w v : written.Result ℕ WriteError} {left : List ℕ} → r ≡ record_of ns
+    → (w ≡ written_of release r out) × (left ≡ out_of release r out) → w ≡ v → Exact (write_result release ns) out (written_answer v) left
+unfolding write_result written_of out_of
+write_as release ns out e (p, q) g =
+    let x = writes (fields_rule release (record_of ns)) (record_of ns) out in
+    record { answers = ap written_answer (sym g ∙ p) ∙ rw e x.answers; leaves = q ∙ rw e x.leaves }

@@ -1,7 +1,6 @@
 -- The record reader and writer over lists of numbers: the fields of a record in order, kind first.
-use Rattle.std.specs.Prelude.{ℕ, Bool, false, Option, Some, None, Err, is_some, List, [], ◌∷◌, length, get_or}
-use Rattle.wire.specs.Tests.{pick, if_eq}
-use Rattle.wire.specs.Clauses.{is_eq, every}
+use Rattle.std.specs.Prelude.{ℕ, Bool, Option, Some, None, Err, is_some, List, [], ◌∷◌, length, get_or}
+use Rattle.wire.specs.Tests.{if_eq}
 use Rattle.release.specs.declared.Release.{Release}
 use Rattle.entry_heads.specs.Kinds.{S263Kind}
 use Rattle.entry_records.specs.declared.field.Amr.{Amr}
@@ -38,10 +37,10 @@ amr_of ns =
 
 -- of eleven, the first of them the kind of an `s263`
 abbrev pub rates_of : List ℕ → Rates
-rates_of ns = record { average = at ns 9; maximum = at ns 10 }
+rates_of ns = record { given = at ns 8; average = at ns 9; maximum = at ns 10 }
 
-abbrev pub h263_of : Option Rates → List ℕ → H263
-h263_of rates ns =
+abbrev pub h263_of : List ℕ → H263
+h263_of ns =
     record {
       reference = at ns 1;
       width = at ns 2;
@@ -50,46 +49,22 @@ h263_of rates ns =
       version = at ns 5;
       level = at ns 6;
       profile = at ns 7;
-      rates = rates;
+      rates = rates_of ns;
     }
-
--- 1 stands before the rates of a `bitr`; without one there are three times 0, and any other three are those of no record
-unfoldable pub picture_of : List ℕ → Option Record
-picture_of ns =
-    if_eq (at ns 8) 1 (Some (Picture (h263_of (Some (rates_of ns)) ns)))
-    (pick (every (is_eq (at ns 8) 0 ∷ is_eq (at ns 9) 0 ∷ is_eq (at ns 10) 0 ∷ [])) (Some (Picture (h263_of None ns))) None)
 
 -- any other count of numbers is that of no record
 unfoldable pub record_of : List ℕ → Option Record
-record_of ns = if_eq (length ns) 8 (Some (Speech (amr_of ns))) (if_eq (length ns) 11 (if_eq (at ns 0) S263Kind (picture_of ns) None) None)
+record_of ns = if_eq (length ns) 8 (Some (Speech (amr_of ns))) (if_eq (length ns) 11 (if_eq (at ns 0) S263Kind (Some (Picture (h263_of ns))) None) None)
 
 -- ---- the two calls: each number is that of the answer behind it
 
 abbrev pub is_record : Option Record → Bool
 is_record r = is_some r
 
--- the fields of a record, where there is one
-abbrev pub fields_in : Option Record → List ℕ
-fields_in (Some r) = fields_of r
-fields_in None = []
-
--- whether they meet the rule, and the bytes that they make
-abbrev pub record_rule_in : Release → Option Record → Bool
-record_rule_in release (Some r) = fields_rule release r
-record_rule_in release None = false
-
-abbrev pub text_in : Option Record → List ℕ
-text_in (Some r) = text_of r
-text_in None = []
-
 -- the fields of an entry of a release: 21, 25
 unfoldable pub read_result : Release → List ℕ → ToWrite
-read_result release xs = asked ((read_number None, is_record (read_of release xs)) ∷ []) (gives (fields_in (read_of release xs)))
-
--- the entry of a record, of a release: 21, 25
-unfoldable pub record_result : Release → Record → ToWrite
-record_result release r = asked ((written_number (Err BadFields), fields_rule release r) ∷ []) (gives (text_of r))
+read_result release xs = asked ((read_number None, is_record (read_of release xs)) ∷ []) (gives (fields_of (read_of release xs)))
 
 -- the entry of fields, of a release: 21, 25
 unfoldable pub write_result : Release → List ℕ → ToWrite
-write_result release ns = asked ((written_number (Err BadFields), record_rule_in release (record_of ns)) ∷ []) (gives (text_in (record_of ns)))
+write_result release ns = asked ((written_number (Err BadFields), fields_rule release (record_of ns)) ∷ []) (gives (text_of (record_of ns)))

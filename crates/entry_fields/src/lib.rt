@@ -2,7 +2,7 @@
 #![tactic(auto)]
 
 ghost use Rattle.rule.specs.Results.{Exact};
-ghost use Rattle.entry_fields.specs.Numbers.{read_result, record_result, write_result};
+ghost use Rattle.entry_fields.specs.Numbers.{read_result, write_result};
 
 use entry_records::field::Record;
 use entry_records::record;
@@ -23,23 +23,13 @@ pub fn read(entry: &[u8], release: Release, out: &mut [u64]) -> Answer
     }
 }
 
-// Writes the entry of a record, of a release.
-fn write_record(fields: Record, release: Release, out: &mut [u8]) -> Answer
-    ensures { Exact (record_result release fields) out.old result out.new }
-{
-    match record::write(fields, release, out) {
-        Ok(n) => Ok(n),
-        Err(WriteError::BadFields) => Err(refusals::BAD_RECORD),
-        Err(WriteError::TooShort) => Err(refusals::NO_ROOM),
-    }
-}
-
 // The entry of fields, of a release.
 pub fn write(fields: &[u64], release: Release, out: &mut [u8]) -> Answer
     ensures { Exact (write_result release fields.now) out.old result out.new }
 {
-    match numbers::record_of(fields) {
-        Some(f) => write_record(f, release, out),
-        None => Err(refusals::BAD_RECORD),
+    match record::write(numbers::record_of(fields), release, out) {
+        Ok(n) => Ok(n),
+        Err(WriteError::BadFields) => Err(refusals::BAD_RECORD),
+        Err(WriteError::TooShort) => Err(refusals::NO_ROOM),
     }
 }

@@ -1,12 +1,12 @@
 // The fields of a record as numbers, and back.
-#![tactic(auto, unfolding(crate::specs::Numbers::picture_of, crate::specs::Numbers::record_of, wire::specs::Clauses::every, wire::specs::Clauses::is_eq, wire::specs::Tests::if_eq))]
+#![tactic(auto, unfolding(crate::specs::Numbers::record_of, wire::specs::Tests::if_eq))]
 
-ghost use Rattle.std.specs.Prelude.{◌≤◌, ◌≡◌, length};
+ghost use Rattle.std.specs.Prelude.{Some, ◌≤◌, ◌≡◌, length};
 ghost use Rattle.entry_records.specs.declared.field.Record.TheVariants.{Speech, Picture};
-ghost use Rattle.entry_records.specs.Records.{rate_numbers, fields_of};
+ghost use Rattle.entry_records.specs.Records.{fields_of};
 ghost use Rattle.rule.specs.Results.{Exact};
 ghost use Rattle.rule.specs.Results.ToWrite.{gives};
-ghost use Rattle.entry_fields.specs.Numbers.{amr_of, h263_of, picture_of, record_of};
+ghost use Rattle.entry_fields.specs.Numbers.{amr_of, h263_of, record_of};
 
 use entry_heads::kind;
 use entry_records::field::{Amr, H263, Rates, Record};
@@ -14,7 +14,7 @@ use rule::{Answer, refusals};
 
 // The eight fields of a `samr` or `sawb`.
 pub fn put_amr(f: Amr, out: &mut [u64]) -> Answer
-    ensures { Exact (gives (fields_of (Speech f))) out.old result out.new }
+    ensures { Exact (gives (fields_of (Some (Speech f)))) out.old result out.new }
 {
     if out.len() < 8 {
         return Err(refusals::NO_ROOM);
@@ -32,24 +32,13 @@ pub fn put_amr(f: Amr, out: &mut [u64]) -> Answer
     Ok(8)
 }
 
-// 1 and the rates of a `bitr`, or three times 0 where none follows.
-fn rate_numbers(rates: Option<Rates>) -> [u64; 3]
-    ensures { result ≡ rate_numbers rates }
-{
-    match rates {
-        Some(r) => [1, r.average as u64, r.maximum as u64],
-        None => [0, 0, 0],
-    }
-}
-
 // The eleven fields of an `s263`.
 pub fn put_h263(f: H263, out: &mut [u64]) -> Answer
-    ensures { Exact (gives (fields_of (Picture f))) out.old result out.new }
+    ensures { Exact (gives (fields_of (Some (Picture f)))) out.old result out.new }
 {
     if out.len() < 11 {
         return Err(refusals::NO_ROOM);
     }
-    let rates = rate_numbers(f.rates);
     out[..11].copy_from_slice(&[
         kind::S263 as u64,
         f.reference as u64,
@@ -59,9 +48,9 @@ pub fn put_h263(f: H263, out: &mut [u64]) -> Answer
         f.version as u64,
         f.level as u64,
         f.profile as u64,
-        rates[0],
-        rates[1],
-        rates[2],
+        f.rates.given as u64,
+        f.rates.average as u64,
+        f.rates.maximum as u64,
     ]);
     Ok(11)
 }
@@ -83,10 +72,10 @@ fn amr_of(fields: &[u64]) -> Amr
     }
 }
 
-// The fields of an `s263` in eleven numbers, apart from its rates.
-fn h263_of(rates: Option<Rates>, fields: &[u64]) -> H263
+// The fields of an `s263` in eleven numbers.
+fn h263_of(fields: &[u64]) -> H263
     requires { 11 ≤ length fields.now }
-    ensures { result ≡ h263_of rates fields.now }
+    ensures { result ≡ h263_of fields.now }
 {
     H263 {
         reference: fields[1] as usize,
@@ -96,26 +85,12 @@ fn h263_of(rates: Option<Rates>, fields: &[u64]) -> H263
         version: fields[5] as usize,
         level: fields[6] as usize,
         profile: fields[7] as usize,
-        rates,
-    }
-}
-
-// The record of an `s263` in eleven numbers, the last three of them 1 and two rates, or 0.
-fn picture_of(fields: &[u64]) -> Option<Record>
-    requires { 11 ≤ length fields.now }
-    ensures { result ≡ picture_of fields.now }
-{
-    if fields[8] == 1 {
-        let rates = Rates {
+        rates: Rates {
+            given: fields[8] as usize,
             average: fields[9] as usize,
             maximum: fields[10] as usize,
-        };
-        return Some(Record::Picture(h263_of(Some(rates), fields)));
+        },
     }
-    if fields[8] == 0 && fields[9] == 0 && fields[10] == 0 {
-        return Some(Record::Picture(h263_of(None, fields)));
-    }
-    None
 }
 
 // The record of numbers, where they are those of one.
@@ -127,7 +102,7 @@ pub fn record_of(fields: &[u64]) -> Option<Record>
     }
     if fields.len() == 11 {
         if fields[0] as usize == kind::S263 {
-            return picture_of(fields);
+            return Some(Record::Picture(h263_of(fields)));
         }
     }
     None

@@ -5,7 +5,6 @@ use lib.ListN.{length}
 use Rattle.wire.specs.Numbers.{bytes_on, bytes}
 use Rattle.entry_heads.specs.Heads.{box_header, common_head, audio_head, visual_start, visual_head}
 use Rattle.entry_records.specs.declared.field.Amr.{Amr}
-use Rattle.entry_records.specs.declared.field.Rates.{Rates}
 use Rattle.entry_records.specs.declared.field.H263.{H263}
 use Rattle.entry_records.specs.Texts.{amr_text, plain_text, rated_text}
 
@@ -17,6 +16,6 @@ pub plain_length : (span inner : ℕ) (f : H263) → length (plain_text span inn
 unfolding plain_text visual_head visual_start common_head box_header bytes bytes_on
 plain_length span inner f = refl
 
-pub rated_length : (f : H263) (r : Rates) → length (rated_text f r) ≡ 117
+pub rated_length : (f : H263) → length (rated_text f) ≡ 117
 unfolding rated_text plain_text visual_head visual_start common_head box_header bytes bytes_on
-rated_length f r = refl
+rated_length f = refl

@@ -2,7 +2,7 @@
 use Prim.Native.Nat.{ℕ}
 use native.Mathlib.Omega.{arith}
 use mathlib.Core.Path.{◌≡◌, refl, sym, ap, ◌∙◌}
-use mathlib.Core.Bool.{true}
+use mathlib.Core.Bool.{true, false≢true}
 use mathlib.Core.List.{List}
 use mathlib.Core.Logic.{inl, inr, ⊎_elim}
 use Rattle.wire.specs.Tests.{if_eq}
@@ -18,12 +18,11 @@ use Rattle.entry_rules.specs.Entries.{rule_as, entry_rule}
 use Rattle.entry_rules.proofs.Speech.{Spoken, speech_is}
 use Rattle.entry_rules.proofs.Picture.{picture_is, rated_is}
 use Rattle.entry_records.specs.declared.field.Amr.{Amr}
-use Rattle.entry_records.specs.declared.field.Rates.{Rates}
 use Rattle.entry_records.specs.declared.field.H263.{H263}
 use Rattle.entry_records.specs.declared.field.Record.{Record}
 use Rattle.entry_records.specs.declared.field.Record.TheVariants.{Speech, Picture}
-use Rattle.entry_records.specs.Fields.{amr_in, h263_in, record_in, amr_rule, rates_rule, h263_rule, fields_rule}
-use Rattle.entry_records.specs.Texts.{amr_text, plain_text, rated_text, picture_text, h263_text, text_of}
+use Rattle.entry_records.specs.Fields.{amr_in, h263_in, record_in, amr_rule, h263_rule, fields_rule}
+use Rattle.entry_records.specs.Texts.{amr_text, plain_text, rated_text, h263_text, text_of}
 use Rattle.entry_records.specs.Records.{read_of}
 use Rattle.entry_records.proofs.Fitting.{rates_met}
 use Rattle.entry_records.proofs.Speaking.{amr_words, amr_at, amr_back}
@@ -59,22 +58,26 @@ read_speech release f e =
     ∙ sym (record_speech f.kind (amr_text f) s) ∙ ap (λ (g : Amr). Some (Speech g)) (amr_back release f s e)
 
 -- a picture's text that shows the fields
-read_text : (release : Release) (n : ℕ) (f : H263) (xs : List ℕ) → Shows n f xs → rule_as S263Kind None release xs ≡ true → read_of release xs ≡ Some (Picture f)
-read_text release n f xs p e = sym (read_as release S263Kind xs (ap kind_of p.code ∙ kind_s263) e) ∙ sym (record_picture xs) ∙ ap (λ (g : H263). Some (Picture g)) p.back
+read_text : (release : Release) (n : ℕ) (f : H263) (xs : List ℕ) → Shows n f xs → rule_as S263Kind None release xs ≡ true
+    → read_of release xs ≡ Some (Picture f)
+read_text release n f xs p e =
+    sym (read_as release S263Kind xs (ap kind_of p.code ∙ kind_s263) e) ∙ sym (record_picture xs) ∙ ap (λ (g : H263). Some (Picture g)) p.back
 
 read_picture : (release : Release) (f : H263) → h263_rule f ≡ true → read_of release (h263_text f) ≡ Some (Picture f)
 unfolding h263_text h263_rule
-read_picture release f e = by_rates f.rates refl
-  where
-    by_rates : (o : Option Rates) → f.rates ≡ o → read_of release (h263_text f) ≡ Some (Picture f)
-    by_rates (Some r) q =
-        let m = rates_met r (sym (ap rates_rule q) ∙ clause 7 _ e) in
-        ap (λ (o : Option Rates). read_of release (picture_text f o)) q ∙ read_text release 31 f (rated_text f r) (rated_shows f e r q m) (rated_is release (rated_text f r) None refl (rated_at f e r q m))
-    by_rates None q =
-        let p = plain_shows f e q in
-        ap (λ (o : Option Rates). read_of release (picture_text f o)) q ∙ read_text release 15 f (plain_text 101 15 f) p (picture_is release (plain_text 101 15 f) None refl p.start)
+read_picture release f e =
+    ⊎_elim
+    (λ r.
+    let t : rated_text f ≡ if_eq f.rates.given 1 (rated_text f) (plain_text 101 15 f) = eq_yea _ _ _ _ _ r.flag refl in
+    rw (← t) (read_text release 31 f (rated_text f) (rated_shows f e r) (rated_is release (rated_text f) None refl (rated_at f e r))))
+    (λ r.
+    let t : plain_text 101 15 f ≡ if_eq f.rates.given 1 (rated_text f) (plain_text 101 15 f) = eq_nay _ _ _ _ _ (λ z. omega (arith, r.flag)) refl in
+    let p = plain_shows f e r in
+    rw (← t) (read_text release 15 f (plain_text 101 15 f) p (picture_is release (plain_text 101 15 f) None refl p.start)))
+    (rates_met f.rates (clause 7 _ e))
 
 -- a record that the writer takes reads back as itself
-pub written_reads : (release : Release) (r : Record) → fields_rule release r ≡ true → read_of release (text_of r) ≡ Some r
-written_reads release (Speech f) e = read_speech release f e
-written_reads release (Picture f) e = read_picture release f e
+pub written_reads : (release : Release) (r : Option Record) → fields_rule release r ≡ true → read_of release (text_of r) ≡ r
+written_reads release (Some (Speech f)) e = read_speech release f e
+written_reads release (Some (Picture f)) e = read_picture release f e
+written_reads release None e = absurd (false≢true e)

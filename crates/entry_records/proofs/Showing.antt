@@ -6,20 +6,18 @@ use mathlib.Core.Bool.{true}
 use mathlib.Core.List.{List, []}
 use lib.ListN.{length, take}
 use lib.Seq.{take_all}
-use Rattle.wire.specs.Tests.{if_le}
+use Rattle.wire.specs.Tests.{if_eq, if_le}
 use Rattle.wire.specs.Numbers.{bytes_on, bytes, word}
 use Rattle.codes.specs.Codes.{S263, BITR}
 use Rattle.wire.proofs.Tests.{eq_yea, eq_nay}
-use Rattle.wire.proofs.Numbers.{word_bytes}
+use Rattle.wire.proofs.Numbers.{word_bytes, word_out}
 use Rattle.entry_heads.specs.Heads.{box_header, common_head, visual_start, visual_head}
 use Rattle.entry_rules.proofs.Picture.{PictureAt, RatedAt}
-use Rattle.std.specs.Prelude.{Some, None}
-use Rattle.entry_records.specs.declared.field.Rates.{Rates}
 use Rattle.entry_records.specs.declared.field.H263.{H263}
 use Rattle.entry_records.specs.Fields.{rates_in, h263_in, h263_rule}
 use Rattle.entry_records.specs.Texts.{plain_text, rated_text}
 use Rattle.entry_records.proofs.Lengths.{plain_length, rated_length}
-use Rattle.entry_records.proofs.Fitting.{Rated}
+use Rattle.entry_records.proofs.Fitting.{Rated, Plain}
 use Rattle.entry_records.proofs.Starting.{picture_words, picture_at, picture_back}
 
 -- a picture's text that meets its rule and holds its fields
@@ -33,27 +31,27 @@ module _ (f : H263) (a : h263_rule f ≡ true) (n : ℕ) (h : n < 100) (m : 15 �
   shows r = record { code = (picture_words f a n h xs t l m).code; start = picture_at f a n h xs t l m; back = picture_back f a n h xs t l m r }
 
 module _ (f : H263) (a : h263_rule f ≡ true) where
-  pub plain_shows : f.rates ≡ None → Shows 15 f (plain_text 101 15 f)
-  unfolding rates_in
-  plain_shows q =
+  pub plain_shows : Plain f.rates → Shows 15 f (plain_text 101 15 f)
+  plain_shows r =
       let l = plain_length 101 15 f in
-      let c : rates_in (plain_text 101 15 f) ≡ None = sym (eq_nay _ _ _ _ _ (λ e. omega arith) refl) in
-      shows f a 15 (omega arith) (omega arith) _ (take_all 101 _ (rw plain_length (omega arith))) l (c ∙ sym q)
+      let c : if_eq (length (plain_text 101 15 f)) 117 1 0 ≡ f.rates.given = sym (eq_nay _ _ _ _ _ (λ e. omega arith) r.flag) in
+      let v : word 4 (plain_text 101 15 f) 109 ≡ f.rates.average = word_out 4 _ 109 (omega arith) ∙ sym r.average in
+      let x : word 4 (plain_text 101 15 f) 113 ≡ f.rates.maximum = word_out 4 _ 113 (omega arith) ∙ sym r.maximum in
+      shows f a 15 (omega arith) (omega arith) _ (take_all 101 _ (rw plain_length (omega arith))) l (rw (c, v, x))
 
-  module _ (r : Rates) (q : f.rates ≡ Some r) (m : Rated r) where
-    start : take 101 (rated_text f r) ≡ plain_text 117 31 f
+  module _ (r : Rated f.rates) where
+    start : take 101 (rated_text f) ≡ plain_text 117 31 f
     unfolding rated_text plain_text visual_head visual_start common_head box_header bytes bytes_on
     start = refl
 
-    rates : (word 4 (rated_text f r) 101 ≡ 16) × (word 4 (rated_text f r) 105 ≡ BITR) × (word 4 (rated_text f r) 109 ≡ r.average) × (word 4 (rated_text f r) 113 ≡ r.maximum)
+    rates : (word 4 (rated_text f) 101 ≡ 16) × (word 4 (rated_text f) 105 ≡ BITR) × (word 4 (rated_text f) 109 ≡ f.rates.average) × (word 4 (rated_text f) 113 ≡ f.rates.maximum)
     unfolding rated_text plain_text visual_head visual_start common_head box_header bytes bytes_on word if_le
-    rates = (refl, refl, word_bytes 4 r.average [] m.average, word_bytes 4 r.maximum [] m.maximum)
+    rates = (refl, refl, word_bytes 4 f.rates.average [] r.average, word_bytes 4 f.rates.maximum [] r.maximum)
 
-    pub rated_shows : Shows 31 f (rated_text f r)
-    unfolding rates_in
+    pub rated_shows : Shows 31 f (rated_text f)
     rated_shows =
-        let c : rates_in (rated_text f r) ≡ Some r = sym (eq_yea _ _ _ _ _ (rated_length f r) (rw (rates.2, rates.3))) in
-        shows f a 31 (omega arith) (omega arith) _ start (rated_length f r) (c ∙ sym q)
+        let c : if_eq (length (rated_text f)) 117 1 0 ≡ f.rates.given = sym (eq_yea _ _ _ _ _ (rated_length f) r.flag) in
+        shows f a 31 (omega arith) (omega arith) _ start (rated_length f) (rw (c, rates.2, rates.3))
 
-    pub rated_at : RatedAt (rated_text f r)
+    pub rated_at : RatedAt (rated_text f)
     rated_at = record { start = rated_shows.start; span = rates.0; code = rates.1 }

@@ -1,5 +1,5 @@
 -- The fields of a record, read from where they stand in an entry, and the rule that they meet.
-use Rattle.std.specs.Prelude.{ℕ, Bool, true, Option, Some, None, List, [], ◌∷◌, length}
+use Rattle.std.specs.Prelude.{ℕ, Bool, false, Option, Some, None, List, [], ◌∷◌, length}
 use Rattle.wire.specs.Tests.{if_eq}
 use Rattle.wire.specs.Clauses.{is_eq, is_lt, every, either}
 use Rattle.wire.specs.Numbers.{word}
@@ -27,9 +27,9 @@ amr_in kind xs =
       frames = word 1 xs 52;
     }
 
--- those of the `bitr`, where one follows
-unfoldable pub rates_in : List ℕ → Option Rates
-rates_in xs = if_eq (length xs) 117 (Some (record { average = word 4 xs 109; maximum = word 4 xs 113 })) None
+-- given is 1 where a `bitr` follows; where none does, both rates are 0
+abbrev pub rates_in : List ℕ → Rates
+rates_in xs = record { given = if_eq (length xs) 117 1 0; average = word 4 xs 109; maximum = word 4 xs 113 }
 
 abbrev pub h263_in : List ℕ → H263
 h263_in xs =
@@ -67,10 +67,13 @@ amr_rule release f =
     ∷ frames_rule f.kind release f.modes f.period f.frames
     ∷ [])
 
--- the rates of a `bitr` fit their places
-abbrev pub rates_rule : Option Rates → Bool
-rates_rule (Some r) = every (is_lt r.average 4294967296 ∷ is_lt r.maximum 4294967296 ∷ [])
-rates_rule None = true
+-- the rates of a `bitr` fit their places; without one they are 0
+unfoldable pub rates_rule : Rates → Bool
+rates_rule r =
+    either
+    (every (is_eq r.given 1 ∷ is_lt r.average 4294967296 ∷ is_lt r.maximum 4294967296 ∷ [])
+    ∷ every (is_eq r.given 0 ∷ is_eq r.average 0 ∷ is_eq r.maximum 0 ∷ [])
+    ∷ [])
 
 -- an `s263`
 unfoldable pub h263_rule : H263 → Bool
@@ -86,6 +89,8 @@ h263_rule f =
     ∷ rates_rule f.rates
     ∷ [])
 
-abbrev pub fields_rule : Release → Record → Bool
-fields_rule release (Speech f) = amr_rule release f
-fields_rule release (Picture f) = h263_rule f
+-- what is no record breaks it
+abbrev pub fields_rule : Release → Option Record → Bool
+fields_rule release (Some (Speech f)) = amr_rule release f
+fields_rule release (Some (Picture f)) = h263_rule f
+fields_rule release None = false

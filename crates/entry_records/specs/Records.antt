@@ -7,7 +7,6 @@ use Rattle.entry_heads.specs.Kinds.{S263Kind, kind_of}
 use Rattle.entry_rules.specs.Entries.{entry_rule}
 use Rattle.entry_records.specs.declared.field.Record.{Record}
 use Rattle.entry_records.specs.declared.field.Record.TheVariants.{Speech, Picture}
-use Rattle.entry_records.specs.declared.field.Rates.{Rates}
 use Rattle.entry_records.specs.declared.record.WriteError.{WriteError}
 use Rattle.entry_records.specs.declared.record.WriteError.TheVariants.{BadFields, TooShort}
 use Rattle.entry_records.specs.Fields.{record_in, fields_rule}
@@ -15,17 +14,13 @@ use Rattle.entry_records.specs.Texts.{text_of}
 
 -- ---- the answers, in the paper's numbers and values
 
--- 1 and the rates where a `bitr` follows; where none does, three times 0
-abbrev pub rate_numbers : Option Rates → List ℕ
-rate_numbers (Some r) = 1 ∷ r.average ∷ r.maximum ∷ []
-rate_numbers None = 0 ∷ 0 ∷ 0 ∷ []
-
 -- the fields in order, kind first
-abbrev pub fields_of : Record → List ℕ
-fields_of (Speech f) = f.kind ∷ f.reference ∷ f.scale ∷ f.vendor ∷ f.version ∷ f.modes ∷ f.period ∷ f.frames ∷ []
-fields_of (Picture f) =
+abbrev pub fields_of : Option Record → List ℕ
+fields_of (Some (Speech f)) = f.kind ∷ f.reference ∷ f.scale ∷ f.vendor ∷ f.version ∷ f.modes ∷ f.period ∷ f.frames ∷ []
+fields_of (Some (Picture f)) =
     S263Kind ∷ f.reference ∷ f.width ∷ f.height ∷ f.vendor ∷ f.version ∷ f.level ∷ f.profile
-    ∷ rate_numbers f.rates
+    ∷ f.rates.given ∷ f.rates.average ∷ f.rates.maximum ∷ []
+fields_of None = []
 
 -- 0, or the refusal
 abbrev pub read_number : Option Record → ℕ
@@ -51,11 +46,11 @@ read_of release xs = pick (entry_rule None release xs) (record_in (kind_of (word
 -- ---- the writer
 
 -- fields that break the rule are refused first, then a buffer that is too short
-unfoldable pub written_of : Release → Record → List ℕ → Result ℕ WriteError
+unfoldable pub written_of : Release → Option Record → List ℕ → Result ℕ WriteError
 written_of release r out =
     pick (fields_rule release r) (if_lt (length out) (length (text_of r)) (Err TooShort) (Ok (length (text_of r)))) (Err BadFields)
 
 -- a refusal writes nothing; else the entry stands at the front, and what lies past it stays
-unfoldable pub out_of : Release → Record → List ℕ → List ℕ
+unfoldable pub out_of : Release → Option Record → List ℕ → List ℕ
 out_of release r out =
     pick (fields_rule release r) (if_lt (length out) (length (text_of r)) out (text_of r ++ drop (length (text_of r)) out)) out

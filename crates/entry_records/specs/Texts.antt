@@ -1,11 +1,11 @@
 -- The bytes that fields make.
-use Rattle.std.specs.Prelude.{ℕ, Option, Some, None, List, ◌++◌}
+use Rattle.std.specs.Prelude.{ℕ, Option, Some, None, List, [], ◌++◌}
+use Rattle.wire.specs.Tests.{if_eq}
 use Rattle.wire.specs.Numbers.{bytes}
 use Rattle.codes.specs.Codes.{S263, DAMR, D263, BITR}
 use Rattle.entry_heads.specs.Kinds.{code_of}
 use Rattle.entry_heads.specs.Heads.{box_header, audio_head, visual_head}
 use Rattle.entry_records.specs.declared.field.Amr.{Amr}
-use Rattle.entry_records.specs.declared.field.Rates.{Rates}
 use Rattle.entry_records.specs.declared.field.H263.{H263}
 use Rattle.entry_records.specs.declared.field.Record.{Record}
 use Rattle.entry_records.specs.declared.field.Record.TheVariants.{Speech, Picture}
@@ -23,16 +23,13 @@ plain_text span inner f =
     ++ bytes 4 f.vendor ++ bytes 1 f.version ++ bytes 1 f.level ++ bytes 1 f.profile
 
 -- then nothing, or a `bitr`
-unfoldable pub rated_text : H263 → Rates → List ℕ
-rated_text f r = plain_text 117 31 f ++ box_header 16 BITR ++ bytes 4 r.average ++ bytes 4 r.maximum
-
-abbrev pub picture_text : H263 → Option Rates → List ℕ
-picture_text f (Some r) = rated_text f r
-picture_text f None = plain_text 101 15 f
+unfoldable pub rated_text : H263 → List ℕ
+rated_text f = plain_text 117 31 f ++ box_header 16 BITR ++ bytes 4 f.rates.average ++ bytes 4 f.rates.maximum
 
 unfoldable pub h263_text : H263 → List ℕ
-h263_text f = picture_text f f.rates
+h263_text f = if_eq f.rates.given 1 (rated_text f) (plain_text 101 15 f)
 
-abbrev pub text_of : Record → List ℕ
-text_of (Speech f) = amr_text f
-text_of (Picture f) = h263_text f
+abbrev pub text_of : Option Record → List ℕ
+text_of (Some (Speech f)) = amr_text f
+text_of (Some (Picture f)) = h263_text f
+text_of None = []

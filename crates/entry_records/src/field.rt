@@ -1,5 +1,5 @@
 // The fields of a record, and their rule.
-#![tactic(auto, using(wire::proofs::Numbers::word_byte), unfolding(crate::specs::Fields::rates_in, crate::specs::Fields::record_in, crate::specs::Fields::amr_rule, crate::specs::Fields::h263_rule, wire::specs::Clauses::every, wire::specs::Clauses::either, wire::specs::Clauses::is_eq, wire::specs::Clauses::is_lt, wire::specs::Tests::if_eq))]
+#![tactic(auto, using(wire::proofs::Numbers::word_byte), unfolding(crate::specs::Fields::record_in, crate::specs::Fields::amr_rule, crate::specs::Fields::rates_rule, crate::specs::Fields::h263_rule, wire::specs::Clauses::every, wire::specs::Clauses::either, wire::specs::Clauses::is_eq, wire::specs::Clauses::is_lt, wire::specs::Tests::if_eq))]
 
 ghost use Rattle.std.specs.Prelude.{◌≡◌, [], ◌∷◌};
 ghost use Rattle.wire.specs.Clauses.{is_eq, either};
@@ -24,9 +24,11 @@ pub struct Amr {
     pub frames: usize,
 }
 
-// The rates of a `bitr`.
+// The rates of a `bitr`: given is 1 where one follows, and else 0, and so are the two rates.
+// It stays a number beside them: the writer takes any numbers, and refuses those of no record, which a type would keep out.
 #[derive(Clone, Copy, Debug, PartialEq, Eq)]
 pub struct Rates {
+    pub given: usize,
     pub average: usize,
     pub maximum: usize,
 }
@@ -41,7 +43,7 @@ pub struct H263 {
     pub version: usize,
     pub level: usize,
     pub profile: usize,
-    pub rates: Option<Rates>,
+    pub rates: Rates,
 }
 
 // A record.
@@ -67,17 +69,15 @@ fn read_amr(kind: usize, entry: &[u8]) -> Amr
     }
 }
 
-// The rates in an `s263` entry, where a `bitr` follows its profile.
-fn read_rates(entry: &[u8]) -> Option<Rates>
+// The rates in an `s263` entry.
+fn read_rates(entry: &[u8]) -> Rates
     ensures { result ≡ rates_in entry.now }
 {
-    if entry.len() != 117 {
-        return None;
-    }
-    Some(Rates {
+    Rates {
+        given: usize::from(entry.len() == 117),
         average: number::word32(entry, 109),
         maximum: number::word32(entry, 113),
-    })
+    }
 }
 
 // The fields of an `s263` entry.
@@ -129,13 +129,14 @@ fn amr_rule(release: Release, f: Amr) -> bool
         && decoder::frames_rule(f.kind, release, f.modes, f.period, f.frames)
 }
 
-// Whether the rates of a `bitr` fit their places, where one follows.
-fn rates_rule(rates: Option<Rates>) -> bool
+// Whether rates fit their places, or are 0 where no `bitr` follows.
+fn rates_rule(rates: Rates) -> bool
     ensures { result ≡ rates_rule rates }
 {
-    match rates {
-        Some(r) => r.average < 4294967296 && r.maximum < 4294967296,
-        None => true,
+    match rates.given {
+        1 => rates.average < 4294967296 && rates.maximum < 4294967296,
+        0 => rates.average == 0 && rates.maximum == 0,
+        _ => false,
     }
 }
 
@@ -154,11 +155,12 @@ fn h263_rule(f: H263) -> bool
 }
 
 // Whether fields meet the rule.
-pub fn rule(release: Release, fields: Record) -> bool
+pub fn rule(release: Release, fields: Option<Record>) -> bool
     ensures { result ≡ fields_rule release fields }
 {
     match fields {
-        Record::Speech(f) => amr_rule(release, f),
-        Record::Picture(f) => h263_rule(f),
+        Some(Record::Speech(f)) => amr_rule(release, f),
+        Some(Record::Picture(f)) => h263_rule(f),
+        None => false,
     }
 }

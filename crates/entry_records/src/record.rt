@@ -28,8 +28,8 @@ pub fn read(entry: &[u8], release: Release) -> Option<Record>
     field::inside(kind::of_code(number::word32(entry, 4)), entry)
 }
 
-// Writes an entry of a release.
-pub fn write(fields: Record, release: Release, out: &mut [u8]) -> Result<usize, WriteError>
+// Writes an entry of a release. What is no record has bad fields.
+pub fn write(fields: Option<Record>, release: Release, out: &mut [u8]) -> Result<usize, WriteError>
     ensures { (result ≡ written_of release fields out.old) × (out.new ≡ out_of release fields out.old) }
 {
     if !field::rule(release, fields) {

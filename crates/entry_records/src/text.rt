@@ -1,11 +1,11 @@
 // The bytes that fields make.
-#![tactic(auto, using(crate::proofs::Lengths::amr_length, crate::proofs::Lengths::plain_length, crate::proofs::Lengths::rated_length), unfolding(crate::specs::Texts::h263_text))]
+#![tactic(auto, using(crate::proofs::Lengths::amr_length, crate::proofs::Lengths::plain_length, crate::proofs::Lengths::rated_length, wire::proofs::Writing::pen_none), unfolding(crate::specs::Texts::h263_text, wire::specs::Tests::if_eq))]
 
 ghost use Rattle.std.specs.Prelude.{◌≡◌, length};
 ghost use Rattle.wire.specs.Writing.{Put};
 ghost use Rattle.entry_records.specs.Texts.{amr_text, plain_text, rated_text, h263_text, text_of};
 
-use crate::field::{Amr, H263, Rates, Record};
+use crate::field::{Amr, H263, Record};
 use entry_heads::{head, kind, put};
 use wire::pen;
 
@@ -43,32 +43,34 @@ fn put_plain(out: &mut [u8], span: usize, inner: usize, f: H263) -> usize
 }
 
 // Writes an `s263` entry with a `bitr`.
-fn put_rated(out: &mut [u8], f: H263, rates: Rates) -> usize
-    ensures { Put (rated_text f rates) out.old 0 result out.new }
+fn put_rated(out: &mut [u8], f: H263) -> usize
+    ensures { Put (rated_text f) out.old 0 result out.new }
 {
     let a = put_plain(out, 117, 31, f);
     let b = put::header(out, a, 16, codes::BITR);
-    let c = pen::put_number(out, b, 4, rates.average);
-    pen::put_number(out, c, 4, rates.maximum)
+    let c = pen::put_number(out, b, 4, f.rates.average);
+    pen::put_number(out, c, 4, f.rates.maximum)
 }
 
 // Writes an `s263` entry.
 fn put_h263(out: &mut [u8], f: H263) -> usize
     ensures { Put (h263_text f) out.old 0 result out.new }
 {
-    match f.rates {
-        Some(rates) => put_rated(out, f, rates),
-        None => put_plain(out, 101, 15, f),
+    if f.rates.given == 1 {
+        put_rated(out, f)
+    } else {
+        put_plain(out, 101, 15, f)
     }
 }
 
 // Writes the entry of a record.
-pub fn put_record(out: &mut [u8], fields: Record) -> usize
+pub fn put_record(out: &mut [u8], fields: Option<Record>) -> usize
     ensures { Put (text_of fields) out.old 0 result out.new }
 {
     match fields {
-        Record::Speech(f) => put_amr(out, f),
-        Record::Picture(f) => put_h263(out, f),
+        Some(Record::Speech(f)) => put_amr(out, f),
+        Some(Record::Picture(f)) => put_h263(out, f),
+        None => 0,
     }
 }
 
@@ -76,18 +78,16 @@ pub fn put_record(out: &mut [u8], fields: Record) -> usize
 fn h263_length(f: H263) -> usize
     ensures { result ≡ length (h263_text f) }
 {
-    match f.rates {
-        Some(_) => 117,
-        None => 101,
-    }
+    if f.rates.given == 1 { 117 } else { 101 }
 }
 
 // The length of the entry of a record.
-pub fn text_length(fields: Record) -> usize
+pub fn text_length(fields: Option<Record>) -> usize
     ensures { result ≡ length (text_of fields) }
 {
     match fields {
-        Record::Speech(_) => 53,
-        Record::Picture(f) => h263_length(f),
+        Some(Record::Speech(_)) => 53,
+        Some(Record::Picture(f)) => h263_length(f),
+        None => 0,
     }
 }

@@ -101,4 +101,4 @@ module _ (m : ℕ) where
 
     -- it reads back as the record with these modes
     pub entry_reads : read_of Release6 (entry_text k m) ≡ Some (Speech (entry_by k m))
-    entry_reads = written_reads Release6 (Speech (entry_by k m)) (fields_rule k f)
+    entry_reads = written_reads Release6 (Some (Speech (entry_by k m))) (fields_rule k f)

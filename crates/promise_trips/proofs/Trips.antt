@@ -16,7 +16,7 @@ use Rattle.movie.specs.Named.{stsd_at}
 use Rattle.release.specs.declared.Release.{Release}
 use Rattle.release.specs.declared.Release.TheVariants.{Release4}
 use Rattle.entry_records.specs.declared.field.Record.{Record}
-use Rattle.std.specs.Prelude.{Some}
+use Rattle.std.specs.Prelude.{Option, None}
 use Rattle.entry_records.specs.Fields.{fields_rule}
 use Rattle.entry_records.specs.Texts.{text_of}
 use Rattle.entry_records.specs.Records.{read_of}
@@ -99,15 +99,16 @@ same_sheet xs ys e = ap sheet e
 -- ---- records
 
 -- a record that the writer takes reads back as itself
-pub record_back : (release : Release) (r : Record) → fields_rule release r ≡ true → read_of release (text_of r) ≡ Some r
+pub record_back : (release : Release) (r : Option Record) → fields_rule release r ≡ true → read_of release (text_of r) ≡ r
 record_back = written_reads
 
 -- a record that was read is one that the writer takes, and it writes the bytes that it was read from
-pub bytes_back : (release : Release) (xs : List ℕ) → Bytes xs → (r : Record) → read_of release xs ≡ Some r → (fields_rule release r ≡ true) × (text_of r ≡ xs)
-bytes_back release xs v r e = let a = read_writes release xs v r e in (a.rule, a.text)
+pub bytes_back : (release : Release) (xs : List ℕ) → Bytes xs → (r : Option Record) → read_of release xs ≡ r → (r ≡ None → ⊥)
+    → (fields_rule release r ≡ true) × (text_of r ≡ xs)
+bytes_back release xs v r e n = let a = read_writes release xs v r e n in (a.rule, a.text)
 
 -- a record that one release reads, Release 4 reads as the same
-pub record_wider : (release : Release) (xs : List ℕ) (r : Record) → read_of release xs ≡ Some r → read_of Release4 xs ≡ Some r
+pub record_wider : (release : Release) (xs : List ℕ) (r : Option Record) → read_of release xs ≡ r → (r ≡ None → ⊥) → read_of Release4 xs ≡ r
 record_wider = read_wider
 
 -- numbers that the writer took: the reader gives them back, of the same release

@@ -1,9 +1,12 @@
 -- `write` meets its contract. Assumes nothing.
-use Rattle.entry_fields.proofs.Answering.{write_some, write_none}
+use Rattle.entry_fields.proofs.Answering.{write_as}
 use Rattle.entry_fields.proofs.write.Goals as goal
 
-pub returns-in-Some : goal.returns-in-Some
-returns-in-Some c = write_some _ _ _ c.record_of.ensures _ c.in-Some.is c.write_record.ensures
+pub returns-in-Ok : goal.returns-in-Ok
+returns-in-Ok c = write_as _ _ _ c.record_of.ensures c.write.ensures c.in-Ok.is
 
-pub returns-in-None : goal.returns-in-None
-returns-in-None c = write_none _ _ _ c.record_of.ensures c.in-None.is
+pub returns-in-Err-BadFields : goal.returns-in-Err-BadFields
+returns-in-Err-BadFields c = write_as _ _ _ c.record_of.ensures c.write.ensures (rw c.in-Err-BadFields.field-0-is at c.in-Err-BadFields.is)
+
+pub returns-in-Err-TooShort : goal.returns-in-Err-TooShort
+returns-in-Err-TooShort c = write_as _ _ _ c.record_of.ensures c.write.ensures (rw c.in-Err-TooShort.field-0-is at c.in-Err-TooShort.is)
