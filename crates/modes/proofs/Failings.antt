@@ -49,7 +49,7 @@ pub none_fails : (out : List ℕ) → Exact (gives (failing_numbers None)) out (
 unfolding failing_numbers
 none_fails out = exact_wrote [] out (omega arith) (record { span = refl; is = refl })
 
-module _ (f : Failing) (out : List ℕ) where
+module _ (f : Failing Reason) (out : List ℕ) where
   pub fails_short : length out < 2 → Exact (gives (failing_numbers (Some f))) out (Refused 25 0) out
   unfolding failing_numbers
   fails_short h = exact_short _ out h

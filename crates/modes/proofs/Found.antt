@@ -15,6 +15,7 @@ use Rattle.rule.specs.Results.{Exact}
 use Rattle.rule.specs.Results.ToWrite.{gives}
 use Rattle.sample_walk.specs.Samples.{samples_at}
 use Rattle.std.specs.declared.option.Option.{Option}
+use Rattle.modes.specs.declared.reason.Reason.{Reason}
 use Rattle.modes.specs.declared.Failing.{Failing}
 use Rattle.modes.specs.Track.{speech_only, why_of, failing_from, failing_in, failing_numbers}
 use Rattle.rule.specs.Answers.{Answer}
@@ -29,7 +30,7 @@ module _ (b : List ℕ) {list : List ℕ} (e : list ≡ list_in b) where
   found_only o = rw e at o
 
   module _ (xs : List ℕ) {stsc stsz stco : List ℕ} (g : stsc ≡ sample_table STSC b) (h : stsz ≡ sample_table STSZ b) (i : stco ≡ sample_table STCO b) where
-    pub found_failing : {r : Option Failing} → r ≡ failing_from (why_of xs (boxes list)) 1 (samples_at stsc stsz stco)
+    pub found_failing : {r : Option (Failing Reason)} → r ≡ failing_from (why_of xs (boxes list)) 1 (samples_at stsc stsz stco)
         → {out left : List ℕ} {a : Answer} → Exact (gives (failing_numbers r)) out a left → Exact (gives (failing_numbers (failing_in xs b))) out a left
     unfolding failing_in
     found_failing o x = rw (o, g, h, i, e) at x

@@ -35,20 +35,20 @@ unfoldable pub why_of : List ℕ → List Box → Sample → ℕ → Option Reas
 why_of xs l s left = why (speech_of (entry_bytes l (s.description - 1))) left (sample_bytes xs s)
 
 -- the first that fails, counted from n, and why
-abbrev pub named : ℕ → Option Reason → Option Failing → Option Failing
+abbrev pub named : {R : Type 0} → ℕ → Option R → Option (Failing R) → Option (Failing R)
 named n None later = later
 named n (Some w) later = Some (record { number = n; why = w })
 
-unfoldable pub failing_from : (Sample → ℕ → Option Reason) → ℕ → List Sample → Option Failing
+unfoldable pub failing_from : {R : Type 0} → (Sample → ℕ → Option R) → ℕ → List Sample → Option (Failing R)
 failing_from f n [] = None
 failing_from f n (s ∷ l) = named n (f s (length l)) (failing_from f (n + 1) l)
 
 -- of the track with payload b
-unfoldable pub failing_in : List ℕ → List ℕ → Option Failing
+unfoldable pub failing_in : List ℕ → List ℕ → Option (Failing Reason)
 failing_in xs b = failing_from (why_of xs (boxes (list_in b))) 1 (track_samples b)
 
 -- nothing where none fails
-unfoldable pub failing_numbers : Option Failing → List ℕ
+unfoldable pub failing_numbers : Option (Failing Reason) → List ℕ
 failing_numbers None = []
 failing_numbers (Some f) = f.number ∷ reason_number f.why ∷ []
 

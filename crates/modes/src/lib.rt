@@ -24,11 +24,11 @@ use sample_tables::size;
 use sample_walk::walk::{Sample, SampleWalk};
 use wire::lend;
 
-// The first sample that fails, from 1, and why.
+// The first sample that fails, from 1, and why: for any kind of reason, as what is known of the first that fails.
 #[derive(Clone, Copy)]
-pub struct Failing {
+pub struct Failing<R> {
     pub number: usize,
-    pub why: Reason,
+    pub why: R,
 }
 
 // Why a sample fails that has so many after it, by the entries that describe the track's samples; nothing where it passes.
@@ -44,7 +44,7 @@ fn why_of(file: &[u8], list: &[u8], s: Sample, left: usize) -> Option<Reason>
 }
 
 // The samples in turn, up to the first that fails.
-fn first_failing(file: &[u8], list: &[u8], stsc: &[u8], stsz: &[u8], stco: &[u8]) -> Option<Failing>
+fn first_failing(file: &[u8], list: &[u8], stsc: &[u8], stsz: &[u8], stco: &[u8]) -> Option<Failing<Reason>>
     requires { Sampled stsc.now stsz.now stco.now }
     ensures { result ≡ failing_from (why_of file.now (boxes list.now)) 1 (samples_at stsc.now stsz.now stco.now) }
 {
@@ -63,7 +63,7 @@ fn first_failing(file: &[u8], list: &[u8], stsc: &[u8], stsz: &[u8], stco: &[u8]
 }
 
 // Nothing where none fails, else the two numbers.
-fn put(failing: Option<Failing>, out: &mut [u64]) -> Answer
+fn put(failing: Option<Failing<Reason>>, out: &mut [u64]) -> Answer
     ensures { Exact (gives (failing_numbers failing)) out.old result out.new }
 {
     let Some(f) = failing else {
