@@ -12,10 +12,12 @@ use Rattle.wire.proofs.Clauses.{is_eq_lem}
 use Rattle.boxes.specs.declared.walk.Walk.{Walk}
 use Rattle.boxes.specs.declared.walk.BoxAt.{BoxAt}
 use Rattle.boxes.specs.Box.{Box, is_open, head, size}
-use Rattle.boxes.specs.Boxes.{boxes, after, tiles}
+use Rattle.boxes.specs.Boxes.{boxes, total, after, tiles}
 use Rattle.boxes.specs.Seek.{count, nth, start_in, meant}
 use Rattle.boxes.specs.Walk.{box_at, Ran, Over}
 use Rattle.boxes.proofs.Meaning.{meant_yes, meant_no, count_hit, count_miss, nth_hit, nth_next, nth_miss, place_hit, place_next, place_miss}
+use Rattle.boxes.proofs.Placing.{total_is}
+use Rattle.boxes.proofs.Whole.{head_least}
 use Rattle.boxes.proofs.Seeking.{ran_next}
 use Rattle.layout.specs.declared.gather.Slot.{Slot}
 use Rattle.layout.specs.declared.gather.Want.{Want}
@@ -158,10 +160,26 @@ stands {xs} {ys} {w} y {u} {at} {s} k o =
 
 pub record Going (ys : List ℕ) (at : ℕ) (shut : Bool) : Type 0 where
   pub rest : after ys ≡ after (drop at ys)
+  pub inside : at ≤ length ys
   pub opened : shut ≡ true → opens (boxes ys) ≡ opens (boxes (drop at ys))
 
 pub going_none : (ys : List ℕ) → Going ys 0 true
-going_none ys = record { rest = refl; opened = λ z. refl }
+going_none ys = record { rest = refl; inside = omega arith; opened = λ z. refl }
+
+-- the open boxes are no more than their bytes, and so they are few in a slot of a file
+pub one_most : (t : Bool) → one_if t ≤ 1
+unfolding one_if
+one_most true = omega arith
+one_most false = omega arith
+
+pub opens_few : (l : List Box) → opens l ≤ total l
+unfolding opens total
+opens_few [] = omega arith
+opens_few (x ∷ l) = omega (arith, opens_few l, one_most (is_open x.form), head_least x.form)
+
+pub opens_fits : (xs ys : List ℕ) (o : Slot) → ys ≡ slot_in xs o → length xs < 2 ^ 63 → opens (boxes ys) < 2 ^ 63
+opens_fits xs ys o y h =
+    omega (arith, opens_few (boxes ys), total_is ys, ap length y ∙ length-take (o.to - o.from) (drop o.from xs), length-drop o.from xs)
 
 -- none was open, and this one isn't
 still : (s t : Bool) → pick s (not t) false ≡ true → (s ≡ true) × (one_if t ≡ 0)
@@ -176,6 +194,7 @@ module _ {ys : List ℕ} {at : ℕ} {shut : Bool} (g : Going ys at shut) where
   going_more {b} {v} r e =
       record {
         rest = g.rest ∙ r.rest;
+        inside = omega (arith, r.next, r.inside);
         opened = λ z. let q = still shut (is_open b.form) (sym e ∙ z) in omega (arith, g.opened q.0, ap opens r.list, q.1);
       }
 

@@ -44,7 +44,13 @@ fn why_of(file: &[u8], list: &[u8], s: Sample, left: usize) -> Option<Reason>
 }
 
 // The samples in turn, up to the first that fails.
-fn first_failing(file: &[u8], list: &[u8], stsc: &[u8], stsz: &[u8], stco: &[u8]) -> Option<Failing<Reason>>
+fn first_failing(
+    file: &[u8],
+    list: &[u8],
+    stsc: &[u8],
+    stsz: &[u8],
+    stco: &[u8],
+) -> Option<Failing<Reason>>
     requires { Sampled stsc.now stsz.now stco.now }
     ensures { result ≡ failing_from (why_of file.now (boxes list.now)) 1 (samples_at stsc.now stsz.now stco.now) }
 {

@@ -9,6 +9,7 @@ const SHOWN: usize = 16;
 
 // The longest room for samples, and for bytes.
 const MANY: usize = 131080;
+
 const LONGEST: usize = 1050000;
 
 // What stands in a room before.
