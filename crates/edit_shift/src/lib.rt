@@ -28,7 +28,7 @@ fn both(head: &[u8], zone: Zone) -> bool
     clocks::leaves(number::word32(head, 4), zone) && clocks::leaves(number::word32(head, 8), zone)
 }
 
-// Those of a track.
+// Those of a track: `mdia` is looked for only where the times of `tkhd` may be shifted.
 #[tactic(auto, unfolding(crate::specs::Shift::track_times, wire::specs::Clauses::every))]
 fn track_times(track: &[u8], zone: Zone) -> bool
     requires { Near zone }

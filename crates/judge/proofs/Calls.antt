@@ -28,7 +28,8 @@ module _ (xs : List ℕ) {j : Judgement} (e : j ≡ judged xs) where
   unfolding when_accepted
   when_accepted_lem refusal a f g = rw (← e, f, g)
 
-  pub when_refused : {A : Type 0} (refusal : ℕ → ℕ → A) (a : A) {f : Refusal} → j ≡ Err f → refusal f.number f.place ≡ when_accepted refusal (judged xs) a
+  pub when_refused : {A : Type 0} (refusal : ℕ → ℕ → A) (a : A) {f : Refusal} → j ≡ Err f
+      → refusal f.number f.place ≡ when_accepted refusal (judged xs) a
   unfolding when_accepted
   when_refused refusal a g = rw (← e, g) refl
 

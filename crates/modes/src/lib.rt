@@ -24,7 +24,7 @@ use sample_tables::size;
 use sample_walk::walk::{Sample, SampleWalk};
 use wire::lend;
 
-// The first sample that fails, from 1, and why: for any kind of reason, as what is known of the first that fails.
+// The first sample that fails, from 1, and why; its laws hold for any type of reasons.
 #[derive(Clone, Copy)]
 pub struct Failing<R> {
     pub number: usize,

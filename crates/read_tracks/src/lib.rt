@@ -69,7 +69,7 @@ pub fn movie_ticks(file: &[u8], track: usize) -> Result<MovieTicks, Refusal>
     Ok(said.movie)
 }
 
-// Of a file that is accepted.
+// Of a file that is accepted. The room is asked before the track is read, which goes over all of its `stts`.
 fn track_in(file: &[u8], e: Tracks, track: usize, out: &mut [u64]) -> Answer
     requires { Meets file.now × TracksAt file.now e }
     ensures { Exact (asked ((20, is_track file.now track) ∷ []) (gives (numbers_of (said_by (track_body file.now track))))) out.old result out.new }
